@@ -13,12 +13,12 @@ use Rattle.histories.specs.declared.operation.Outcome.{Outcome}
 use Rattle.histories.specs.declared.operation.Outcome.TheVariants.{Got, Refused}
 use Rattle.refutations.specs.declared.excess.Excess.{Excess}
 
--- a send that came to this may have sent its message. One whose deadline passed may have waited
+-- A send with this result may have sent its message. One whose deadline passed may have waited.
 abbrev pub may_have_sent : Outcome → Bool
 may_have_sent (Refused fault) = is_timeout fault
 may_have_sent _ = true
 
--- a send of this message, which was not refused
+-- a send of this message that may have succeeded
 abbrev pub sends : ℕ → List ℕ → Operation → Bool
 sends prio message o =
     is_send o.call && may_have_sent o.outcome && priority_given o.call == prio &&
@@ -32,7 +32,7 @@ has_got prio message _ = false
 abbrev pub receives : ℕ → List ℕ → Operation → Bool
 receives prio message o = has_got prio message o.outcome
 
--- the operations of a process that stand before the first that had not returned
+-- the operations of a process before the first that had not returned
 abbrev pub returned : List Operation → List Operation
 returned operations =
     take (unwrap_or (position (λ o. is_pending o.outcome) operations) (length operations)) operations
@@ -46,7 +46,7 @@ abbrev pub times_received : ℕ → List ℕ → Histories → ℕ
 times_received prio message histories =
     sum_by (λ (v : Vec Operation Global). count_by (receives prio message) (returned v.items)) histories
 
--- the message was received so often and sent so often, which is less
+-- the counts are right, and the message was received more often than it was sent
 pub record IsExcess (histories : Histories) (e : Excess) : Type 0 where
   pub received : e.received ≡ times_received e.prio e.message.items histories
   pub sent : e.sent ≡ times_sent e.prio e.message.items histories

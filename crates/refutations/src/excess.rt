@@ -12,11 +12,11 @@ use std::alloc::{AllocError, Global};
 pub struct Excess {
     pub prio: u32,
     pub message: Vec<u8>,
-    /// How many receives returned it. One that stands behind a call of its process that had not
-    /// returned does not count.
+    /// How many receives returned it. A receive after a call of its process that had not returned
+    /// does not count.
     pub received: u128,
-    /// How many calls may have sent it: sends that were not refused, and those whose deadline
-    /// passed, since they may have waited.
+    /// How many calls may have sent it: sends that did not fail, and those whose deadline passed,
+    /// since they may have waited.
     pub sent: u128,
 }
 
@@ -29,7 +29,8 @@ fn is_pending(outcome: &Outcome) -> bool
     }
 }
 
-/// A send that came to this may have sent its message. One whose deadline passed may have waited.
+/// Whether a send with this result may have sent its message. One whose deadline passed may have
+/// waited.
 pub fn may_have_sent(outcome: &Outcome) -> bool
     ensures { result ≡ may_have_sent outcome.now }
 {
@@ -70,7 +71,7 @@ fn first_pending(operations: &[Operation]) -> Option<usize>
         .position(|operation| is_pending(&operation.outcome))
 }
 
-// The operations of a process that stand before the first that had not returned.
+// The operations of a process before the first that had not returned.
 fn returned(operations: &[Operation]) -> &[Operation]
     ensures { result.now ≡ returned operations.now }
 {
@@ -127,7 +128,7 @@ fn times_received(prio: u32, message: &[u8], histories: &Vec<Vec<Operation>>) ->
 // A message that was sent or received, with its priority, and whether it was received.
 type Use<'h> = (u32, &'h [u8], bool);
 
-// The sends and the receives that count, those of one message side by side, its sends in front.
+// The sends and the receives that count, sorted by message, with the sends of each message first.
 fn uses_of(alloc: Global, histories: &Vec<Vec<Operation>>) -> Result<Vec<Use>, AllocError> {
     let mut uses: Vec<Use> = Vec::new(alloc);
     for operations in histories {
@@ -147,7 +148,7 @@ fn uses_of(alloc: Global, histories: &Vec<Vec<Operation>>) -> Result<Vec<Use>, A
     Ok(uses)
 }
 
-// The first of these receives for which no send is left.
+// The first of these receives for which there is no send.
 fn suspect<'u, 'h>(uses: &'u Vec<Use<'h>>) -> Option<&'u Use<'h>> {
     let mut left: u64 = 0;
     let mut last: (u32, &[u8]) = (0, &[]);
@@ -168,7 +169,7 @@ fn suspect<'u, 'h>(uses: &'u Vec<Use<'h>>) -> Option<&'u Use<'h>> {
     None
 }
 
-// The message with its counts, if it is one of those.
+// The message with its counts, if it was received more often than it was sent.
 fn excess_of(
     alloc: Global,
     prio: u32,

@@ -1,4 +1,4 @@
-//! Local contradictions of a concurrent history, found without a search.
+//! Local contradictions in a concurrent history, found without a search.
 #![tactic(auto)]
 
 pub mod excess;

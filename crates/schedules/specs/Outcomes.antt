@@ -1,4 +1,4 @@
--- What is told of the goals of a machine.
+-- The outcomes at the goals of a machine.
 use Rattle.std.specs.Prelude.{◌≡◌, ◌==◌, ℕ, Bool, true, false, ◌&&◌, not, if◌then◌else◌, List, [], ◌∷◌, Option}
 use Rattle.std.specs.List.{list_any}
 use Rattle.std.specs.Str.{bytes_eq}
@@ -7,29 +7,29 @@ use Rattle.schedules.specs.Schedules.{LeadsToGoal}
 use Rattle.schedules.specs.declared.outcomes.Outcome.{Outcome}
 use Rattle.schedules.specs.declared.outcomes.Witnessed.{Witnessed}
 
--- what an outcome tells
+-- what an outcome says
 abbrev pub told_by : Outcome → Told
 told_by o = record { stage = o.stage; stuck = o.stuck; text = o.text.items }
 
 abbrev pub are_same : Told → Told → Bool
 are_same a b = a.stage == b.stage && (if a.stuck then b.stuck else not b.stuck) && bytes_eq a.text b.text
 
--- one of those that were found tells this
+-- this outcome was found
 abbrev pub is_among : List Witnessed → Told → Bool
 is_among found told = list_any (λ w. are_same (told_by w.outcome) told) found
 
--- no two tell the same
+-- no two outcomes are the same
 abbrev pub AreDistinct : List Witnessed → Type 0
 AreDistinct [] = Unit {0}
 AreDistinct (w ∷ found) = AreDistinct found × (is_among found (told_by w.outcome) ≡ false)
 
--- its schedule leads to a goal of which its outcome is told
+-- its schedule leads to a goal with its outcome
 pub record IsWitness {S : Type 0} (next : S → ℕ → Option S) (is_goal : S → Bool) (outcome : S → Told) (from : S) (w : Witnessed) : Type 0 where
   pub to : S
   pub leads : LeadsToGoal next is_goal from w.schedule.items to
   pub tells : told_by w.outcome ≡ outcome to
 
--- what is told of each goal that a schedule leads to is among those found
+-- the outcome of each goal that a schedule leads to was found
 abbrev pub AreAll : {S : Type 0} → (S → ℕ → Option S) → (S → Bool) → (S → Told) → S → List Witnessed → Type 0
 AreAll {S} next is_goal outcome from found =
     (schedule : List ℕ) (to : S) → LeadsToGoal next is_goal from schedule to → is_among found (outcome to) ≡ true

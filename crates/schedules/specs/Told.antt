@@ -1,4 +1,4 @@
--- What is told of a state.
+-- The outcome of a state.
 use Rattle.std.specs.Prelude.{ℕ, Bool, List}
 
 pub record Told : Type 0 where

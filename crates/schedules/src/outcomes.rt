@@ -1,4 +1,4 @@
-//! What all schedules of a machine come to.
+//! The outcomes of all schedules of a machine.
 ghost use Rattle.std.specs.Prelude.{◌≡◌, ◌++◌, ◌∷◌, [], ℕ, All, IfOk, List, None, OnOk, Some, false, is_some, true};
 ghost use Rattle.schedules.specs.Choices.{IsFirstFrom};
 ghost use Rattle.schedules.specs.Schedules.{after};
@@ -14,7 +14,7 @@ use crate::search::run_again;
 use crate::seen::Seen;
 use std::alloc::{AllocError, Global};
 
-/// What is told of a goal: how far the machine has come there, whether it is stuck, and a text.
+/// The outcome at a goal: the stage that the machine has reached, whether it is stuck, and a text.
 #[derive(Debug, Drop)]
 pub struct Outcome {
     pub stage: u64,
@@ -22,49 +22,49 @@ pub struct Outcome {
     pub text: Vec<u8>,
 }
 
-/// A machine that tells something of each of its goals.
+/// A machine with an outcome at each of its goals.
 pub trait Telling: Machine {
-    /// What is told of a state.
+    /// The outcome of a state.
     ghost outcome: { Self → Told };
 
     fn outcome(&self, alloc: Global) -> Result<Outcome, AllocError>
         ensures { IfOk result (λ o. told_by o ≡ outcome self.now) };
 
-    /// A choice can be taken. It is not taken.
+    /// Whether a choice can be taken. It is not taken.
     fn can_step(&self, choice: u32) -> bool
         ensures { result ≡ is_some (Self.next self.now choice) };
 }
 
-/// A machine of whose goals that are alike the same is told.
+/// A machine whose equivalent states have the same outcome.
 pub trait TellsAlike: Telling + Keyed {
-    /// Of states that are alike the same is told. The method does nothing: its contract is the law.
+    /// Equivalent states have the same outcome. The method does nothing: its contract is the law.
     fn tells_alike(&self)
         ensures { (x y : Self) → Self.IsAlike x y → Self.outcome x ≡ Self.outcome y };
 }
 
-/// An outcome, and a schedule that has it.
+/// An outcome, and a schedule that leads to it.
 #[derive(Debug, Drop)]
 pub struct Witnessed {
     pub outcome: Outcome,
     pub schedule: Vec<u32>,
 }
 
-/// The outcomes that were found, in the order in which they were found.
+/// The outcomes that were found, in order.
 #[derive(Debug, Drop)]
 pub struct Collected {
     pub found: Vec<Witnessed>,
-    /// Every schedule was tried, so there are no others.
+    /// Whether every schedule was tried, so that there are no others.
     pub complete: bool,
 }
 
-// Both tell the same.
+// Whether two outcomes are equal.
 fn are_same(a: &Outcome, b: &Outcome) -> bool
     ensures { result ≡ are_same (told_by a.now) (told_by b.now) }
 {
     a.stage == b.stage && a.stuck == b.stuck && a.text.as_slice() == b.text.as_slice()
 }
 
-// One of those that were found tells this.
+// Whether this outcome was found.
 fn is_among(found: &[Witnessed], outcome: &Outcome) -> bool
     ensures { result ≡ is_among found.now (told_by outcome.now) }
 {
@@ -73,7 +73,8 @@ fn is_among(found: &[Witnessed], outcome: &Outcome) -> bool
         .any(|witnessed| are_same(&witnessed.outcome, outcome))
 }
 
-// Adds what is told of the machine's state, to which the path leads, if it is a goal and nothing else told the same.
+// Adds the outcome of the machine's state, to which the path leads, if it is a goal and its outcome
+// was not found before.
 fn note<M: Telling>(
     alloc: Global,
     machine: &M,
@@ -116,14 +117,16 @@ fn first_from<M: Telling>(machine: &M, from: u64) -> Option<u32>
     None
 }
 
-// What a search knows of a choice of its path: the one that is taken next in its place, and the key of the node to which it leads.
+// What a search knows about a choice on its path: the next one to take instead of it, and the key
+// of the node to which it leads.
 #[derive(Drop)]
 struct Level {
     other: Option<u32>,
     key: Option<Vec<u64>>,
 }
 
-// The first choice at a node that was entered, unless the search is done with a node of its key.
+// The first choice at a node that was just entered; none if the search is done with a node of the
+// same key.
 fn first_at<M: Telling>(machine: &M, seen: &Seen, key: &Option<Vec<u64>>) -> Option<u32>
     ensures new { is_done seen.now key.now ≡ false → IsFirstFrom M.next machine.now 0 result }
     ensures done { is_done seen.now key.now ≡ true → result ≡ None }
@@ -135,7 +138,7 @@ fn first_at<M: Telling>(machine: &M, seen: &Seen, key: &Option<Vec<u64>>) -> Opt
     }
 }
 
-// Takes off the last level, and notes the key of its node.
+// Removes the last level, and notes the key of its node.
 fn leave(levels: &mut Vec<Level>, seen: &mut Seen) -> Result<Option<u32>, AllocError>
     ensures { (front : List Level) (last : Level) → levels.old.items ≡ front ++ last ∷ [] →
         IfOk result (λ other. (other ≡ last.other) × (levels.new.items ≡ front) ×
@@ -148,9 +151,10 @@ fn leave(levels: &mut Vec<Level>, seen: &mut Seen) -> Result<Option<u32>, AllocE
     Ok(other)
 }
 
-/// Tries every schedule of a machine, in so many steps at most, and collects what is told of the goals that they lead to. A step takes a
-/// choice, or takes one back; the choices before it are taken again only where another one is left to be taken after them. From
-/// states with one key it goes on only once.
+/// Tries every schedule of a machine, in at most `budget` steps, and collects the outcomes of the
+/// goals that they lead to. A step takes a choice, or takes one back. After taking one back, the
+/// choices before it are run again only if another choice follows them. Equivalent states, which
+/// have the same key, are explored once. Fails if memory was refused.
 pub fn collect<M: TellsAlike>(
     alloc: Global,
     machine: &mut M,

@@ -1,4 +1,4 @@
--- What the lines of a script ask of their processes.
+-- What the lines of a script make their processes do.
 use Rattle.std.specs.Prelude.{ℕ, ◌+◌, ◌==◌, List, [], ◌∷◌, ◌++◌, filter, length, map, if◌then◌else◌, zero, suc}
 use Rattle.text_io.specs.Words.{Word}
 use Rattle.mq_model.specs.Name.{has_name_form, is_name}
@@ -13,7 +13,7 @@ use Rattle.script_orders.specs.declared.plan.Planned.{Planned}
 use Rattle.script_orders.specs.declared.plan.Step.{Step}
 use Rattle.script_orders.specs.declared.plan.Step.TheVariants.{Call as ACall, Refusal, Exit}
 
--- a line of a script in its phase: what it does, and the name or the message that its call is given
+-- a line of a script in its phase: what it does, and the name or the message of its call
 pub record Plan : Type 0 where
   pub phase : ℕ
   pub line : ℕ
@@ -23,11 +23,11 @@ pub record Plan : Type 0 where
 abbrev pub plan_of : Planned → Plan
 plan_of planned = record { phase = planned.phase; line = planned.line; step = planned.step; given = planned.given.items }
 
--- a call on a name. What is none is refused before it comes to the queues
+-- A call with a name. If the name is malformed, it fails before it reaches the queues.
 abbrev pub named_step : List ℕ → Call → Step
 named_step name call = if is_name name then ACall call else Refusal (if has_name_form name then NameTooLong else Invalid)
 
--- what a command does in a phase of that moment
+-- what a command does in a phase with this time
 abbrev pub step_by : Deadline → Command Word → Step
 step_by now (command.Open name flags attr) = named_step name (MqOpen flags attr)
 step_by now (command.Close d) = ACall (MqClose d)
@@ -58,12 +58,12 @@ plan phase call = record { phase = phase; line = call.line; step = step_by call.
 abbrev pub plans_of : ℕ → List WrittenCall → ℕ → List Plan
 plans_of phase calls p = map (plan phase) (filter (λ call. call.process == p) calls)
 
--- its lines in these phases, of which the first has this number
+-- its lines in these phases, of which the first has the number `phase`
 abbrev pub program_of : ℕ → List (List WrittenCall) → ℕ → List Plan
 program_of phase [] p = []
 program_of phase (calls ∷ phases) p = plans_of phase calls p ++ program_of (phase + 1) phases p
 
--- those of the first processes, n of them
+-- the lines of each of the first n processes
 abbrev pub programs_of : List (List WrittenCall) → ℕ → List (List Plan)
 programs_of phases zero = []
 programs_of phases (suc n) = programs_of phases n ++ program_of 0 phases (n + 1) ∷ []

@@ -1,4 +1,4 @@
--- What is printed of all that the calls of a script can come to.
+-- The report of the outcomes of a script.
 use Rattle.std.specs.Prelude.{ℕ, ◌+◌, ◌==◌, Bool, not, ◌&&◌, List, [], ◌∷◌, ◌++◌, codes, count_by, if◌then◌else◌, zero, suc}
 use Rattle.std.specs.Fmt.{decimal}
 use Rattle.schedules.specs.declared.outcomes.Witnessed.{Witnessed}
@@ -9,7 +9,7 @@ is_outcome_of phase found = found.outcome.stage == phase && not found.outcome.st
 abbrev pub is_deadlock_of : ℕ → Witnessed → Bool
 is_deadlock_of phase found = found.outcome.stage == phase && found.outcome.stuck
 
--- the line that begins a phase
+-- the first line about a phase
 abbrev pub head_text : List Witnessed → ℕ → List ℕ
 head_text found phase =
     codes "phase "
@@ -18,14 +18,14 @@ head_text found phase =
     ++ (decimal (count_by (is_outcome_of phase) found)
     ++ (codes ", deadlocks " ++ (decimal (count_by (is_deadlock_of phase) found) ++ 10 ∷ [])))))
 
--- the line before what was found
+-- the line before an outcome or a deadlock
 abbrev pub entry_head : Witnessed → ℕ → List ℕ
 entry_head found number = (if found.outcome.stuck then codes "deadlock " else codes "outcome ") ++ (decimal number ++ 10 ∷ [])
 
 abbrev pub entry_text : ℕ → ℕ → Witnessed → List ℕ
 entry_text phase number found = if found.outcome.stage == phase then entry_head found number ++ found.outcome.text.items else []
 
--- what was found in a phase, where so many were found before
+-- the outcomes and deadlocks of a phase; `before` is how many come before these
 abbrev pub entries_text : ℕ → ℕ → List Witnessed → List ℕ
 entries_text phase before [] = []
 entries_text phase before (one ∷ found) = entry_text phase (before + 1) one ++ entries_text phase (before + 1) found

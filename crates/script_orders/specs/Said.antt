@@ -1,4 +1,4 @@
--- What is printed of the replies in a journal, as in a run of a script.
+-- The text of the replies in a journal, as a run of the script prints it.
 use Rattle.std.specs.Prelude.{ℕ, Bool, List, [], if◌then◌else◌}
 use Rattle.std.specs.Option.{option_map, unwrap_or}
 use Rattle.std.specs.Prelude.{false}
@@ -10,19 +10,20 @@ use Rattle.script_text.specs.Replies.{reply_line}
 use Rattle.script_text.specs.declared.reply.Outcome.TheVariants as outcomes
 use Rattle.mq_state.specs.Buffers.{message_at, received_at}
 
--- of a receive: the message that was sent at a place
+-- for a receive, given the place of the message's send
 abbrev pub said_of_message : Past → Process → Place → List ℕ
 said_of_message past p place = reply_line p (outcomes.Got (received_at past place)) (message_at past place)
 
--- a send stands at the place
+-- the entry at this place is a send
 abbrev pub is_send_at : Past → Place → Bool
 is_send_at past place = unwrap_or (option_map (λ r. is_send r.entry.call) (record_at past place)) false
 
--- of a call that waited, by the place of the entry that answered it: a send hands its message over, and a receive admits one
+-- For a call that waited, given the entry that answered it. A send hands over its message, and a
+-- receive admits one.
 abbrev pub said_of_collect : Past → Process → Place → List ℕ
 said_of_collect past p by = if is_send_at past by then said_of_message past p by else reply_line p outcomes.Done []
 
--- of a reply to process p, the last in the journal: nothing where the call waits
+-- for a reply to process p, the last in the journal: nothing if the call waits
 abbrev pub said : Past → Process → Reply → List ℕ
 said past p (reply.Opened d created) = reply_line p (outcomes.Opened d) []
 said past p (reply.Queued notified) = reply_line p outcomes.Done []

@@ -1,4 +1,4 @@
--- What a process does, and what is printed of it.
+-- The steps of a process, and what they print.
 use Rattle.std.specs.Prelude.{ℕ, Bool, not, List, [], ◌∷◌, ◌++◌, Option, Some, if◌then◌else◌, zero, suc}
 use Rattle.std.specs.Option.{option_map}
 use Rattle.mq_model.specs.Legality.{is_refused, reply_to}
@@ -12,31 +12,32 @@ use Rattle.script_orders.specs.Said.{said}
 use Rattle.script_orders.specs.declared.plan.Step.{Step}
 use Rattle.script_orders.specs.declared.plan.Step.TheVariants as step
 
--- the journal so far, and what is printed of a process
+-- the journal so far, and the text of a process
 pub record Scene : Type 0 where
   pub past : Past
   pub text : List ℕ
 
--- after a call of process p that is given these bytes, if it may make it
+-- after a call of process p with these bytes, if it may make it
 abbrev pub after_call : Scene → Process → Call → List ℕ → Option Scene
 after_call scene p call given =
     option_map (λ (past : Past). record { past = past; text = scene.text ++ said past p (reply_to scene.past p call given) })
     (with_call scene.past p call given)
 
--- process p holds descriptor d: a close of it is not refused
+-- process p holds descriptor d: a close of it does not fail
 abbrev pub is_held : Past → Process → Descriptor → Bool
 is_held past p d = not (is_refused (reply_to past p (MqClose d) []))
 
--- process p closed descriptor d, if it held it
+-- process p has closed descriptor d, if it held it
 abbrev pub close_held : Past → Process → Descriptor → Past
 close_held past p d = if is_held past p d then record_of_call past p (MqClose d) [] ∷ past else past
 
--- the same of the first n descriptors, in rising order
+-- the same for the first n descriptors, in rising order
 abbrev pub close_first : Past → Process → ℕ → Past
 close_first past p zero = past
 close_first past p (suc n) = close_held (close_first past p n) p n
 
--- after a line of process p, if it can do what that says. At its exit it closes all 16 descriptors that it may hold, at once
+-- After a line of process p, if it can do what the line says. An exit closes all 16 descriptors
+-- that it may hold, in one step.
 abbrev pub after_step : Scene → Process → List ℕ → Step → Option Scene
 after_step scene p given (step.Call call) = after_call scene p call given
 after_step scene p given (step.Refusal fault) = Some (record { past = scene.past; text = scene.text ++ reply_line p (outcomes.Refused fault) [] })

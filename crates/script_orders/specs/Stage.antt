@@ -1,4 +1,4 @@
--- How far the processes of a script have come.
+-- The state of the processes of a script.
 use Rattle.std.specs.Prelude.{ℕ, ◌+◌, ◌==◌, Bool, true, false, not, ◌&&◌, ◌||◌, nat_lt, List, [], ◌∷◌, ◌++◌, codes, length, map, replicate, Option, Some, None, is_some, is_none, if◌then◌else◌, slice_get, slice_set, Vec, zero, suc}
 use Rattle.std.specs.Fmt.{decimal}
 use Rattle.std.specs.Option.{option_map, option_and_then, unwrap_or}
@@ -10,8 +10,8 @@ use Rattle.script_orders.specs.Progress.{Progress}
 use Rattle.script_orders.specs.Turns.{Turned, after_turn}
 use Rattle.script_orders.specs.declared.plan.Planned.{Planned}
 
--- the lines of each process, how many phases there are, and the journal before all of them; the phase that runs, the journal so far, and
--- how far each process has come. Process p is at p - 1
+-- The lines of each process, the number of phases, and the journal before the script; the current
+-- phase, the journal so far, and the state of each process. Process p is at p - 1.
 pub record Stage : Type 0 where
   pub programs : List (Vec Planned Global)
   pub phases : ℕ
@@ -27,7 +27,7 @@ fresh = record { begun = 0; text = [] }
 abbrev pub first_stage : Stage → Stage
 first_stage s = record { programs = s.programs; phases = s.phases; start = s.start; phase = 0; past = s.start; seats = replicate (length s.programs) fresh }
 
--- what the process at an index does next, if it can go on
+-- the next step of the process at an index, if it can take one
 abbrev pub turn_of : Stage → ℕ → Option Turned
 turn_of s index =
     option_and_then (λ (program : Vec Planned Global). option_and_then (λ (seat : Progress). after_turn s.past s.phase (index + 1) seat program) (slice_get s.seats index))
@@ -43,7 +43,7 @@ with_turn s index turned = record {
   seats = slice_set s.seats index turned.progress;
 }
 
--- none of the first n processes can go on
+-- none of the first n processes can take a step
 abbrev pub none_can_turn : Stage → ℕ → Bool
 none_can_turn s zero = true
 none_can_turn s (suc n) = none_can_turn s n && is_none (turn_of s n)
@@ -53,7 +53,7 @@ abbrev pub one_waits : Past → ℕ → Bool
 one_waits past zero = false
 one_waits past (suc n) = one_waits past n || is_some (open_wait past (n + 1))
 
--- no process can go on: the phase is over, or where one waits it is a deadlock
+-- No process can take a step: the phase is over, or if a process waits, it deadlocks.
 abbrev pub stands_still : Stage → Bool
 stands_still s = none_can_turn s (length s.programs)
 
@@ -67,26 +67,27 @@ seats_cleared seats = map (λ (seat : Progress). let next : Progress = record { 
 abbrev pub in_next_phase : Stage → Stage
 in_next_phase s = record { programs = s.programs; phases = s.phases; start = s.start; phase = s.phase + 1; past = s.past; seats = seats_cleared s.seats }
 
--- a phase ends where no process can go on and none waits, and there is a next one
+-- a phase ends when no process can take a step and none waits, if there is a next phase
 abbrev pub is_phase_over : Stage → Bool
 is_phase_over s = nat_lt (s.phase + 1) s.phases && (stands_still s && not (waits s))
 
 abbrev pub after_phase : Stage → Option Stage
 after_phase s = if is_phase_over s then Some (in_next_phase s) else None
 
--- the process at an index goes on, or, at the number of processes, the next phase begins
+-- A step of the process at an index. If the choice is the number of processes, the next phase
+-- begins.
 abbrev pub next_stage : Stage → ℕ → Option Stage
 next_stage s choice = if choice == length s.programs then after_phase s else option_map (with_turn s choice) (turn_of s choice)
 
 abbrev pub choice_count : Stage → ℕ
 choice_count s = length s.programs + 1
 
--- what is printed of the replies of all processes in a phase
+-- the text of the replies of all processes in a phase
 abbrev pub replies : List Progress → List ℕ
 replies [] = []
 replies (seat ∷ seats) = seat.text ++ replies seats
 
--- the line that the process at an index began last, and 0 where it has begun none
+-- the line that the process at an index began last, and 0 if it has begun none
 abbrev pub line_of : Vec Planned Global → ℕ → ℕ
 line_of program zero = 0
 line_of program (suc n) = unwrap_or (option_map (λ (planned : Planned). planned.line) (slice_get program.items n)) 0
@@ -98,15 +99,15 @@ wait_line_of s index =
 abbrev pub wait_text : ℕ → List ℕ
 wait_text line = codes "line " ++ (decimal line ++ (codes ": waits for ever" ++ 10 ∷ []))
 
--- what is printed of the process at an index: where it waits, the line of that call
+-- the text about the process at an index: if it waits, the line of that call
 abbrev pub wait_of : Stage → ℕ → List ℕ
 wait_of s index = if is_some (open_wait s.past (index + 1)) then wait_text (wait_line_of s index) else []
 
--- what is printed of the calls in which the first n processes wait
+-- the text about the calls in which the first n processes wait
 abbrev pub waiting_lines : Stage → ℕ → List ℕ
 waiting_lines s zero = []
 waiting_lines s (suc n) = waiting_lines s n ++ wait_of s n
 
--- what is told where no process can go on: the phase, whether it is a deadlock, and what is printed of it
+-- The outcome when no process can take a step: the phase, whether it deadlocks, and the text.
 abbrev pub told : Stage → Told
 told s = record { stage = s.phase; stuck = waits s; text = if waits s then waiting_lines s (length s.programs) else replies s.seats }

@@ -1,4 +1,4 @@
--- What holds of the stages of each play.
+-- What holds of the stages of every play.
 use Rattle.std.specs.Prelude.{◌≡◌, ℕ, ◌+◌, ◌≤◌, ◌==◌, Bool, true, false, nat_lt, not, ◌&&◌, length, Option, Some, None, if◌then◌else◌, slice_get, Vec}
 use Rattle.std.specs.Option.{option_map, option_and_then}
 use Rattle.std.specs.declared.alloc.Global.{Global}

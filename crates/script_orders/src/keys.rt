@@ -1,4 +1,4 @@
-//! The numbers by which equivalent stages are found.
+//! The part of a state key for the processes of a script.
 ghost use Rattle.std.specs.Prelude.{◌≡◌, ◌++◌, OnOk};
 ghost use Rattle.mq_equivalence.specs.Key.{codes};
 ghost use Rattle.script_orders.specs.Likeness.{seat_code};
@@ -7,7 +7,7 @@ use crate::turn::Seat;
 use mq_equivalence::parts::push_bytes;
 use std::alloc::AllocError;
 
-// How far a process has come, and what is printed of it.
+// Appends how many lines a process has begun, and the text of its replies.
 fn push_seat(key: &mut Vec<u64>, seat: &Seat) -> Result<(), AllocError>
     ensures { OnOk result (key.new.items ≡ key.old.items ++ seat_code seat.now) }
 {
@@ -17,7 +17,7 @@ fn push_seat(key: &mut Vec<u64>, seat: &Seat) -> Result<(), AllocError>
     push_bytes(key, text)
 }
 
-/// Adds the numbers of each process.
+/// Appends these numbers for each process.
 pub fn push_seats(key: &mut Vec<u64>, seats: &[Seat]) -> Result<(), AllocError>
     ensures { OnOk result (key.new.items ≡ key.old.items ++ codes seat_code seats.now) }
 {

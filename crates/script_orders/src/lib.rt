@@ -1,4 +1,4 @@
-//! Every order in which the calls of a script can come.
+//! Every interleaving of the calls of a script.
 #![tactic(auto)]
 
 pub mod keys;

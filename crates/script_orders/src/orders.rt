@@ -1,4 +1,4 @@
-//! Every order in which the calls of a script can come.
+//! Trying every interleaving of the calls of a script.
 ghost use Rattle.std.specs.Prelude.{◌≡◌, ◌≤◌, ◌+◌, ℕ, List, IfOk, OnOk, None, Some, false, true};
 ghost use Rattle.std.specs.List.{All};
 ghost use Rattle.mq_model.specs.Legality.{Legal};
@@ -17,7 +17,7 @@ use schedules::outcomes::{Collected, collect};
 use script_text::script::Script;
 use std::alloc::{AllocError, Global};
 
-/// The processes of a script, of which none has begun.
+/// The processes of a script, before their first lines.
 pub fn play_of(alloc: Global, script: &Script<'_>) -> Result<Play, AllocError>
     requires { script.now.processes ≤ 32 }
     ensures { IfOk result (Begins (said_script script.now)) }
@@ -35,9 +35,10 @@ pub fn play_after(alloc: Global, script: &Script<'_>, journal: Journal) -> Resul
     Play::new(alloc, programs, script.phases.len() as u64, journal)
 }
 
-/// Tries every order of the calls of a script, in so many steps at most, and collects what is told where no process can go on: of
-/// each phase its replies, or that it is a deadlock, with the lines whose calls wait for ever. Each is told once. The
-/// journal of each order is legal.
+/// Tries every interleaving of the calls of a script, in at most `budget` steps, and collects the
+/// outcomes: for each phase the replies, or that it deadlocks, with the lines whose calls wait for
+/// ever. Equal outcomes are collected once. The journal of each interleaving is legal. Fails if
+/// memory was refused.
 pub fn outcomes_of(alloc: Global, play: &mut Play, budget: u64) -> Result<Collected, AllocError>
     ensures witnessed { IfOk result (λ c.
         All (IsWitness next_stage stands_still told (first_stage play.old)) c.found.items) }
@@ -53,8 +54,9 @@ pub fn outcomes_of(alloc: Global, play: &mut Play, budget: u64) -> Result<Collec
     collect(alloc, play, budget)
 }
 
-/// Whoever neither waits nor can go on, after a schedule from where the processes of a script begin, has made all its lines up to those
-/// of the phase. The function does nothing: its contract is the law.
+/// If a process neither waits nor can take a step, after a schedule from the start of a script, it
+/// has made all its lines up to those of the phase. The function does nothing: its contract is the
+/// law.
 pub fn all_is_made()
     ensures { (script : Whole) (from s : Stage) (schedule : List ℕ) (index : ℕ) →
         script.processes ≤ 32 → Begins script from → after next_stage schedule from ≡ Some s →

@@ -1,4 +1,4 @@
-//! What the lines of a script ask of their processes.
+//! What the lines of a script make their processes do.
 ghost use Rattle.std.specs.Prelude.{◌≡◌, ◌++◌, ◌<◌, ◌^◌, IfOk, OnOk, List, map, vec_len};
 ghost use Rattle.script_text.specs.Grammar.{said};
 ghost use Rattle.script_text.specs.Script.{said_call, said_calls, said_phases};
@@ -18,13 +18,14 @@ use std::alloc::{AllocError, Global};
 pub enum Step {
     /// A call of the queues.
     Call(Call),
-    /// A call on what is no name: it is refused before it comes to the queues.
+    /// A call with a malformed name: it fails before it reaches the queues.
     Refusal(Fault),
-    /// Closes all descriptors at once.
+    /// Closes all descriptors in one step.
     Exit,
 }
 
-/// A line of a script, in its phase, counted from 0. `given` is the name or the message that its call is given.
+/// A line of a script, with its phase, counted from 0. `given` is the name or the message of its
+/// call.
 #[derive(Debug, Drop)]
 pub struct Planned {
     pub phase: u64,
@@ -33,7 +34,7 @@ pub struct Planned {
     pub given: Vec<u8>,
 }
 
-// A call on a name, which is refused where the bytes are none.
+// A call with a name. It fails if the name is malformed.
 fn named_step(name: &[u8], call: Call) -> Step
     ensures { result ≡ named_step name.now call }
 {
@@ -43,7 +44,7 @@ fn named_step(name: &[u8], call: Call) -> Step
     }
 }
 
-// What a command does in a phase of that moment.
+// What a command does in a phase with this time.
 fn step_by(command: &Command<&[u8]>, now: Deadline) -> Step
     ensures { result ≡ step_by now (said command.now) }
 {
@@ -125,7 +126,7 @@ fn planned_of(alloc: Global, phase: u64, call: &ScriptCall<&[u8]>) -> Result<Pla
     })
 }
 
-// Adds the lines of process p in a phase.
+// Appends the lines of process p in a phase.
 fn push_plans(
     alloc: Global,
     program: &mut Vec<Planned>,
@@ -144,7 +145,7 @@ fn push_plans(
     Ok(())
 }
 
-// The lines of process p, in their order.
+// The lines of process p, in order.
 fn program_of(
     alloc: Global,
     phases: &[Vec<ScriptCall<&[u8]>>],

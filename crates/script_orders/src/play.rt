@@ -1,4 +1,5 @@
-//! The processes of a script as a machine: a choice is the process that goes on, and the last one begins the next phase.
+//! The processes of a script as a machine. A choice is the process that takes the next step, and
+//! the last choice begins the next phase.
 ghost use Rattle.mq_model.specs.Legality.{Legal};
 ghost use Rattle.script_orders.specs.Orders.{AreLegal};
 ghost use Rattle.script_orders.specs.Stage.{first_stage, fresh, is_phase_over, next_stage, none_can_turn, one_waits, replies, seats_cleared, turn_of, wait_line_of, wait_of, waiting_lines, with_turn};
@@ -17,14 +18,15 @@ use schedules::outcomes::{Outcome, Telling, TellsAlike};
 use std::alloc::{AllocError, Global};
 use std::marker::Model;
 
-/// The processes of a script with their lines, how far each has come, and the journal so far. Each process makes its calls of a phase
-/// in their order; the next phase begins where none can go on and none waits.
+/// The processes of a script with their lines, how many each has begun, and the journal so far.
+/// Each process makes its calls of a phase in order. The next phase begins when no process can take
+/// a step and none waits.
 #[derive(Drop)]
 pub struct Play {
     alloc: Global,
     programs: Vec<Vec<Planned>>,
     phases: u64,
-    // The journal before all lines.
+    // The journal before the script.
     start: Journal,
     phase: u64,
     trail: Trail,
@@ -58,7 +60,7 @@ fn trail_after(alloc: Global, journal: &Journal) -> Result<Trail, AllocError>
     Ok(trail)
 }
 
-// Seats of processes that have begun nothing.
+// The states of processes that have begun nothing.
 fn fresh_seats(alloc: Global, count: usize) -> Result<Vec<Seat>, AllocError>
     ensures { IfOk result (λ seats. seats.items ≡ replicate count fresh) }
 {
@@ -69,7 +71,7 @@ fn fresh_seats(alloc: Global, count: usize) -> Result<Vec<Seat>, AllocError>
     Ok(seats)
 }
 
-// Seats at the beginning of the next phase.
+// The states of the processes at the beginning of the next phase.
 fn cleared_seats(alloc: Global, seats: &[Seat]) -> Result<Vec<Seat>, AllocError>
     ensures { IfOk result (λ cleared. cleared.items ≡ seats_cleared seats.now) }
 {
@@ -80,7 +82,7 @@ fn cleared_seats(alloc: Global, seats: &[Seat]) -> Result<Vec<Seat>, AllocError>
     Ok(cleared)
 }
 
-// What is printed of the replies of all processes in a phase.
+// The text of the replies of all processes in a phase.
 fn replies(alloc: Global, seats: &[Seat]) -> Result<Vec<u8>, AllocError>
     ensures { IfOk result (λ text. text.items ≡ replies seats.now) }
 {
@@ -92,7 +94,8 @@ fn replies(alloc: Global, seats: &[Seat]) -> Result<Vec<u8>, AllocError>
 }
 
 impl Play {
-    /// The processes 1, 2, .. of a script with their lines, of which none has begun one, after the calls of a journal.
+    /// The processes 1, 2, .. of a script with their lines, none of which is begun, after the calls
+    /// of a journal.
     pub fn new(
         alloc: Global,
         programs: Vec<Vec<Planned>>,
@@ -137,7 +140,7 @@ impl Play {
         let _processes = self.programs.len();
     }
 
-    // The process at an index can go on.
+    // Whether the process at an index can take a step.
     fn can_turn(&self, index: usize) -> bool
         requires { index < length self.now.programs }
         ensures { result ≡ is_some (turn_of self.now index) }
@@ -151,7 +154,7 @@ impl Play {
         )
     }
 
-    // The process at an index goes on, if it can.
+    // Takes a step of the process at an index, if it can take one.
     fn turn(&mut self, index: usize) -> Result<bool, AllocError>
         requires { index < length self.old.programs }
         ensures went { IfOk result (λ went. IsTrue went →
@@ -178,7 +181,7 @@ impl Play {
         )
     }
 
-    // No process can go on.
+    // Whether no process can take a step.
     fn none_can_turn(&self) -> bool
         ensures { result ≡ none_can_turn self.now (length self.now.programs) }
     {
@@ -190,7 +193,7 @@ impl Play {
         true
     }
 
-    // A process waits.
+    // Whether some process waits.
     fn one_waits(&self) -> bool
         ensures { result ≡ one_waits self.now.past (length self.now.programs) }
     {
@@ -203,7 +206,7 @@ impl Play {
         one_waits
     }
 
-    // This phase is over, and there is a next one.
+    // Whether this phase is over and there is a next one.
     fn is_phase_over(&self) -> bool
         ensures { result ≡ is_phase_over self.now }
     {
@@ -242,7 +245,7 @@ impl Play {
         program[begun - 1].line
     }
 
-    // Adds what is printed of the process at an index where it waits.
+    // Appends the text about the process at an index, if it waits.
     fn push_wait(&self, alloc: Global, text: &mut Vec<u8>, index: usize) -> Result<(), AllocError>
         requires { index < length self.now.programs }
         ensures { OnOk result (text.new.items ≡ text.old.items ++ wait_of self.now index) }
@@ -255,7 +258,7 @@ impl Play {
         Ok(())
     }
 
-    // What is printed of the calls that wait.
+    // The text about the calls that wait.
     fn waiting_lines(&self, alloc: Global) -> Result<Vec<u8>, AllocError>
         ensures { IfOk result (λ text.
             text.items ≡ waiting_lines self.now (length self.now.programs)) }
@@ -268,7 +271,7 @@ impl Play {
     }
 }
 
-// Where fewer lines are left, all their orders take less time than a key.
+// With fewer lines left, trying all their interleavings takes less time than a key.
 const WORTH_A_KEY: usize = 4;
 
 impl Play {

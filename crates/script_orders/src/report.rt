@@ -1,4 +1,4 @@
-//! What is printed of all that the calls of a script can come to.
+//! The report of the outcomes of a script.
 ghost use Rattle.std.specs.Prelude.{◌≡◌, ◌++◌, ◌+◌, ◌<◌, ◌^◌, IfOk, OnOk, count_by, length, string_bytes};
 ghost use Rattle.script_orders.specs.Report.{end_text, entry_head, entries_text, head_text, is_deadlock_of, is_outcome_of, phase_text, report_text};
 
@@ -17,21 +17,21 @@ fn is_deadlock_of(found: &Witnessed, phase: u64) -> bool
     found.outcome.stage == phase && found.outcome.stuck
 }
 
-// How many outcomes of a phase were found.
+// The number of outcomes of a phase.
 fn outcomes_of(found: &[Witnessed], phase: u64) -> usize
     ensures { result ≡ count_by (is_outcome_of phase) found.now }
 {
     found.iter().filter(|w| is_outcome_of(w, phase)).count()
 }
 
-// How many deadlocks in a phase were found.
+// The number of deadlocks in a phase.
 fn deadlocks_of(found: &[Witnessed], phase: u64) -> usize
     ensures { result ≡ count_by (is_deadlock_of phase) found.now }
 {
     found.iter().filter(|w| is_deadlock_of(w, phase)).count()
 }
 
-// The line that begins a phase.
+// The first line about a phase.
 fn head_text(alloc: Global, found: &[Witnessed], phase: u64) -> Result<String, AllocError>
     requires { phase + 1 < 2 ^ 64 }
     ensures { IfOk result (λ text. string_bytes text ≡ head_text found.now phase) }
@@ -42,7 +42,7 @@ fn head_text(alloc: Global, found: &[Witnessed], phase: u64) -> Result<String, A
     format!(in alloc; "phase {number}: outcomes {outcomes}, deadlocks {deadlocks}\n")
 }
 
-// The line before what was found.
+// The line before an outcome or a deadlock.
 fn entry_head(alloc: Global, found: &Witnessed, number: u64) -> Result<String, AllocError>
     ensures { IfOk result (λ text. string_bytes text ≡ entry_head found.now number) }
 {
@@ -53,7 +53,7 @@ fn entry_head(alloc: Global, found: &Witnessed, number: u64) -> Result<String, A
     }
 }
 
-// Adds what was found in a phase.
+// Appends the outcomes and deadlocks of a phase.
 fn push_entries(
     alloc: Global,
     text: &mut Vec<u8>,
@@ -73,7 +73,7 @@ fn push_entries(
     Ok(())
 }
 
-// Adds a phase.
+// Appends a phase.
 fn push_phase(
     alloc: Global,
     text: &mut Vec<u8>,
@@ -99,8 +99,10 @@ fn end_text(alloc: Global, complete: bool, budget: u64) -> Result<String, AllocE
     }
 }
 
-/// What is printed of the outcomes of a script of so many phases: phase by phase how many there are and the replies of each, how many
-/// deadlocks and the calls that wait in each, and whether every order was tried. The numbers are the places in the list, from 1.
+/// The report of the outcomes of a script with this number of phases. For each phase it has the
+/// number of outcomes and the replies of each, the number of deadlocks and the calls that wait in
+/// each. At the end it says whether every interleaving was tried. Outcomes and deadlocks are
+/// numbered by their positions in the list, from 1.
 pub fn report_text(
     alloc: Global,
     phases: u64,

@@ -1,4 +1,4 @@
-//! What is printed of the replies in a journal.
+//! The text of the replies in a journal.
 ghost use Rattle.std.specs.Prelude.{◌≡◌, ◌++◌, OnOk};
 ghost use Rattle.script_orders.specs.Said.{said, said_of_collect, said_of_message};
 
@@ -8,7 +8,7 @@ use mq_state::collected::received;
 use script_text::reply::{Outcome, push_reply};
 use std::alloc::{AllocError, Global};
 
-/// Adds what is printed of a reply to process p that stands last in the journal: nothing where the call waits.
+/// Appends the text of a reply to process p, the last in the journal: nothing if the call waits.
 pub fn push_said(
     alloc: Global,
     text: &mut Vec<u8>,
@@ -36,7 +36,7 @@ pub fn push_said(
     }
 }
 
-// Adds what is printed where the message that was sent at a place was received.
+// Appends the text for a receive of the message that was sent at a place.
 fn push_message(
     alloc: Global,
     text: &mut Vec<u8>,
@@ -60,7 +60,7 @@ fn push_message(
     )
 }
 
-// Adds what is printed where a wait was answered by the entry at a place.
+// Appends the text for a wait that the entry at a place answered.
 fn push_collected(
     alloc: Global,
     text: &mut Vec<u8>,

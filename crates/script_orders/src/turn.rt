@@ -1,4 +1,4 @@
-//! The next thing that a process of a script does.
+//! The next step of a process of a script.
 ghost use Rattle.std.specs.Prelude.{◌≡◌, ◌≤◌, [], None, Some, IfOk, IsFalse, IsTrue, OnOk, is_some};
 ghost use Rattle.mq_model.specs.Waits.{open_wait};
 ghost use Rattle.script_orders.specs.Progress.{Progress};
@@ -13,7 +13,8 @@ use script_text::reply::{Outcome, push_reply};
 use std::alloc::{AllocError, Global};
 use std::marker::Model;
 
-/// How far a process has come: how many of its lines it has begun, and what is printed of its replies in this phase.
+/// The state of a process: how many of its lines it has begun, and the text of its replies in this
+/// phase.
 #[derive(Drop)]
 pub struct Seat {
     begun: usize,
@@ -31,7 +32,7 @@ impl Model for Seat {
 }
 
 impl Seat {
-    /// A process that has begun so many lines, at the beginning of a phase.
+    /// A process that has begun this number of lines, at the beginning of a phase.
     pub fn new(alloc: Global, begun: usize) -> Seat
         ensures { result ≡ record { begun = begun; text = [] } }
     {
@@ -48,7 +49,7 @@ impl Seat {
         self.begun
     }
 
-    /// What is printed of its replies in this phase.
+    /// The text of its replies in this phase.
     pub fn text(&self) -> &[u8]
         ensures { result.now ≡ self.now.text }
     {
@@ -56,7 +57,7 @@ impl Seat {
     }
 }
 
-// Process p makes a call, if it may make it now, and adds what is printed of the reply.
+// Makes a call of process p and appends the text of the reply, if it may make the call now.
 fn make(
     alloc: Global,
     trail: &mut Trail,
@@ -81,7 +82,7 @@ fn make(
     Ok(true)
 }
 
-// Process p holds descriptor d.
+// Whether process p holds descriptor d.
 fn is_held(trail: &Trail, p: u32, d: u32) -> bool
     ensures { result ≡ is_held trail.now p d }
 {
@@ -91,7 +92,7 @@ fn is_held(trail: &Trail, p: u32, d: u32) -> bool
     }
 }
 
-// Process p closes descriptor d, if it holds it.
+// Closes descriptor d of process p, if it holds it.
 fn close_held(trail: &mut Trail, p: u32, d: u32) -> Result<(), AllocError>
     requires process { (1 ≤ p) × (p ≤ 32) }
     requires free { open_wait trail.old p ≡ None }
@@ -104,7 +105,7 @@ fn close_held(trail: &mut Trail, p: u32, d: u32) -> Result<(), AllocError>
     Ok(())
 }
 
-// Process p closes all its descriptors, in rising order.
+// Closes all descriptors of process p, in rising order.
 fn close_all(trail: &mut Trail, p: u32) -> Result<(), AllocError>
     requires process { (1 ≤ p) × (p ≤ 32) }
     requires free { open_wait trail.old p ≡ None }
@@ -116,7 +117,7 @@ fn close_all(trail: &mut Trail, p: u32) -> Result<(), AllocError>
     Ok(())
 }
 
-// Process p, which does not wait, does what its line says, if it can.
+// Does what the line of process p says, if it can. The process has no open wait.
 fn begin(
     alloc: Global,
     trail: &mut Trail,
@@ -150,7 +151,7 @@ fn begin(
     }
 }
 
-// Process p, which does not wait, can do what its line says.
+// Whether process p, which has no open wait, can do what its line says.
 fn can_begin(trail: &Trail, text: &[u8], p: u32, planned: &Planned) -> bool
     ensures { result ≡ is_some (after_step (record { past = trail.now; text = text.now }) p
         planned.now.given.items planned.now.step) }
@@ -163,8 +164,9 @@ fn can_begin(trail: &Trail, text: &[u8], p: u32, planned: &Planned) -> bool
     }
 }
 
-/// Process p goes on, if it can: where it waits it collects, and else it begins the next line of its program, if that is of this
-/// phase. Where memory was refused, nothing is said of what is left.
+/// Takes the next step of process p, if there is one. If it waits it collects; otherwise it begins
+/// the next line of its program, if that is in this phase. If memory was refused, there is no
+/// guarantee about the state that is left.
 pub fn turn(
     alloc: Global,
     trail: &mut Trail,
@@ -199,7 +201,7 @@ pub fn turn(
     Ok(went)
 }
 
-/// Process p can go on.
+/// Whether process p can take a step.
 pub fn can_turn(trail: &Trail, seat: &Seat, phase: u64, p: u32, program: &Vec<Planned>) -> bool
     ensures { result ≡ is_some (after_turn trail.now phase p seat.now program.now) }
 {
