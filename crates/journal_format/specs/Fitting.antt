@@ -1,4 +1,4 @@
--- The numbers of a record fit their types. Of a record that the program holds they always do.
+-- The numbers of a record fit their types. Those of a record in the program always do.
 use Rattle.std.specs.Prelude.{ℕ, ℤ, pos, negsuc, ◌<◌, ◌^◌, All, IfSome}
 use Rattle.std.specs.List.{AllByRecursion}
 use Rattle.mq_model.specs.Record.{Record, Past}
@@ -10,7 +10,7 @@ use Rattle.mq_model.specs.declared.entries.Call.TheVariants as call
 use Rattle.mq_model.specs.declared.entries.Reply.{Reply}
 use Rattle.mq_model.specs.declared.entries.Reply.TheVariants as reply
 
--- an integer of 64 bits
+-- a 64-bit integer
 abbrev pub IsLong : ℤ → Type 0
 IsLong (pos n) = n < 2 ^ 63
 IsLong (negsuc n) = n < 2 ^ 63
@@ -62,6 +62,6 @@ pub record Fits (r : Record) : Type 0 where
   pub reply : ReplyFits r.entry.reply
   pub payload : All (λ b. b < 256) r.payload
 
--- those of each record do
+-- those of each record fit
 abbrev pub AllFit : Past → Type 0
 AllFit past = AllByRecursion Fits past

@@ -14,12 +14,13 @@ journal_fault_text (BadLine line) = codes "line " ++ (decimal line ++ codes ": n
 journal_fault_text Input = codes "a read failed"
 journal_fault_text NoMemory = codes "no memory"
 
--- this line is no record's at this place
+-- this is not the line of a record at this place
 abbrev pub IsNoLine : ℕ → List ℕ → Type 0
 IsNoLine place line = (r : Record) → Fits r → line ≢ line_text place r
 
--- The text ends to be a journal's in this line: those before it are the text of a journal, there is something after them, and it
--- does not begin with the line of a record at the next place.
+-- The text stops being that of a journal in this line: the lines before it are the text of a
+-- journal, something follows them, and that does not start with the line of a record at the next
+-- place.
 pub record StopsAt (line : ℕ) (text : List ℕ) : Type 0 where
   pub past : Past
   pub rest : List ℕ
@@ -29,7 +30,8 @@ pub record StopsAt (line : ℕ) (text : List ℕ) : Type 0 where
   pub some : 0 < length rest
   pub none : (r : Record) (others : List ℕ) → Fits r → rest ≢ line_text (length past) r ++ others
 
--- The text has a line that is too long, and this one is the first: those before it are the text of a journal.
+-- The text has a line that is too long, and this is the first one: the lines before it are the text
+-- of a journal.
 pub record HasLongLine (line : ℕ) (text : List ℕ) : Type 0 where
   pub past : Past
   pub rest : List ℕ
@@ -38,6 +40,7 @@ pub record HasLongLine (line : ℕ) (text : List ℕ) : Type 0 where
   pub line_is : line ≡ length past + 1
   pub long : IsTooLong rest
 
--- this line of an input is the first that is not the line of an entry at its place, or it is too long for one
+-- this line of an input is the first that is not the line of an entry at its place, or is too long
+-- for one
 abbrev pub IsAtFault : ℕ → List ℕ → Type 0
 IsAtFault line text = StopsAt line text ⊎ HasLongLine line text

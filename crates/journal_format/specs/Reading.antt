@@ -1,4 +1,5 @@
--- What the words of a line read as. Words that no record writes may read as one too: the line that it writes is then another.
+-- What the words of a line mean. Words that no record has may be accepted, too; then the line of
+-- what was read differs.
 use Rattle.std.specs.Prelude.{ℕ, ℤ, ◌-◌, Bool, false, ◌==◌, List, [], ◌∷◌, length, take, map, find, Option, None, Some, if◌then◌else◌, codes}
 use Rattle.std.specs.Str.{bytes_eq}
 use denote.Ref.{Bor}
@@ -20,7 +21,7 @@ use Rattle.script_text.specs.declared.verb.Verb.TheVariants as verb
 use Rattle.journal_format.specs.declared.reply.Kind.{Kind}
 use Rattle.journal_format.specs.declared.reply.Kind.TheVariants as kind
 
--- words, seen without where they lie
+-- words, without their positions in the line
 abbrev pub words_at : List (Bor Word) → List Word
 words_at words = map (λ word. word.now) words
 
@@ -28,11 +29,11 @@ words_at words = map (λ word. word.now) words
 abbrev pub read_off : {X : Type 0} → X × Bor (List (Bor Word)) → X × List Word
 read_off read = (read.0, words_at read.1.now)
 
--- the same of a word
+-- the same for a word
 abbrev pub read_word : Bor Word × Bor (List (Bor Word)) → Word × List Word
 read_word read = (read.0.now, words_at read.1.now)
 
--- the same of an entry with what stands between its quotes
+-- the same for an entry with what is between its quotes
 abbrev pub read_entry : Entry × Bor Word → Entry × Word
 read_entry read = (read.0, read.1.now)
 
@@ -41,21 +42,21 @@ unfoldable pub word_at : List Word → Option (Word × List Word)
 word_at [] = None
 word_at (word ∷ words) = Some (word, words)
 
--- a number of k bits
+-- a k-bit number
 unfoldable pub number_at : ℕ → List Word → Option (ℕ × List Word)
 number_at k words = do
   word ← word_at words
   n ← number_written k word.0
   Some (n, word.1)
 
--- an integer of 64 bits
+-- a 64-bit integer
 unfoldable pub integer_at : List Word → Option (ℤ × List Word)
 integer_at words = do
   word ← word_at words
   n ← integer_written word.0
   Some (n, word.1)
 
--- a moment after its label
+-- a label, and then a time
 unfoldable pub moment_at : List Word → Option (Deadline × List Word)
 moment_at words = do
   label ← word_at words
@@ -63,7 +64,7 @@ moment_at words = do
   nsec ← integer_at sec.1
   Some (record { sec = sec.0; nsec = nsec.0 }, nsec.1)
 
--- the limits of a new queue, or none where the next word is no label of limits
+-- the limits of a new queue, or none if the next word is not the label of limits
 unfoldable pub limits_at : List Word → Option (Option Attr × List Word)
 limits_at [] = Some (None, [])
 limits_at (word ∷ words) = if bytes_eq word (codes "limits")
@@ -73,7 +74,7 @@ limits_at (word ∷ words) = if bytes_eq word (codes "limits")
       Some (Some (record { maxmsg = maxmsg.0; msgsize = msgsize.0 }), msgsize.1))
     else Some (None, word ∷ words)
 
--- a place after this label, or none where the next word is another
+-- this label, and then a place; or none if the next word is another
 unfoldable pub place_at : Word → List Word → Option (Option ℕ × List Word)
 place_at label [] = Some (None, [])
 place_at label (word ∷ words) = if bytes_eq word label
@@ -82,7 +83,7 @@ place_at label (word ∷ words) = if bytes_eq word label
       Some (Some place.0, place.1))
     else Some (None, word ∷ words)
 
--- a number, or none for this word
+-- a number, or none if the next word is `none`
 unfoldable pub number_or_at : Word → List Word → Option (Option ℕ × List Word)
 number_or_at none words = do
   word ← word_at words
@@ -90,13 +91,13 @@ number_or_at none words = do
     n ← number_written 64 word.0
     Some (Some n, word.1))
 
--- 1 for nonblock, any other word for none
+-- 1 for nonblocking; any other word means that it is not
 unfoldable pub flag_at : List Word → Option (Bool × List Word)
 flag_at words = do
   word ← word_at words
   Some (bytes_eq word.0 (codes "1"), word.1)
 
--- what the words after each verb read as
+-- what the words after each verb mean
 unfoldable pub open_at : List Word → Option (Call × List Word)
 open_at words = do
   word ← word_at words
@@ -177,14 +178,14 @@ call_behind verb.Collect words = Some (call.Collect, words)
 call_behind verb.Withdraw words = withdraw_at words
 call_behind verb.Exit words = None
 
--- a call, without a name or a message
+-- a call, without its name or message
 unfoldable pub call_at : List Word → Option (Call × List Word)
 call_at words = do
   word ← word_at words
   verb ← verb_written word.0
   call_behind verb word.1
 
--- the word of each reply that is no refusal
+-- the first word of each reply that is not an error
 abbrev pub kind_text : Kind → List ℕ
 kind_text kind.Opened = codes "fd"
 kind_text kind.Queued = codes "queued"
@@ -209,7 +210,7 @@ faults = fault.Again ∷ fault.BadDescriptor ∷ fault.Busy ∷ fault.Exists ∷
 unfoldable pub fault_written : Word → Option Fault
 fault_written word = find (λ fault. bytes_eq word (text_of fault)) faults
 
--- what the words after each kind of reply read as; what stands after them is left out
+-- what the words after each first word of a reply mean; further words are ignored
 abbrev pub is_created : List Word → Bool
 is_created [] = false
 is_created (word ∷ words) = bytes_eq word (codes "created")
@@ -283,7 +284,7 @@ reply_at words = do
   word ← word_at words
   reply_of (kind_written word.0) word.0 word.1
 
--- what stands between quotes, or nothing where the next word does not begin with one
+-- what is between quotes, or nothing if the next word does not begin with a quote
 abbrev pub quoted_or : Word → List Word → Word × List Word
 quoted_or [] words = ([], [] ∷ words)
 quoted_or (b ∷ bytes) words = if b == 34 then (take (length bytes - 1) bytes, words) else ([], (b ∷ bytes) ∷ words)
@@ -292,7 +293,7 @@ unfoldable pub quoted_at : List Word → Word × List Word
 quoted_at [] = ([], [])
 quoted_at (word ∷ words) = quoted_or word words
 
--- the entry that the words of a line read as, and what stands between its quotes
+-- the entry that the words of a line mean, and what is between its quotes
 unfoldable pub entry_at : List Word → Option (Entry × Word)
 entry_at words = do
   place ← word_at words

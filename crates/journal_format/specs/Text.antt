@@ -17,7 +17,7 @@ use Rattle.mq_model.specs.declared.entries.Reply.{Reply}
 use Rattle.mq_model.specs.declared.entries.Reply.TheVariants as reply
 use Rattle.journal_format.specs.declared.payload.TheConstants.{ESCAPED}
 
--- the letter of an access: r, w or b
+-- the letter of an access mode: r, w or b
 abbrev pub access_letter : Access → List ℕ
 access_letter Read = codes "r"
 access_letter Write = codes "w"
@@ -28,16 +28,17 @@ abbrev pub letter_if : Bool → List ℕ → List ℕ
 letter_if true letter = letter
 letter_if false letter = []
 
--- the flags of an open: the letter of its access, then c for create, x for exclusive, n for nonblocking
+-- the flags of an open: the letter of its access mode, then c for create, x for exclusive, n for
+-- nonblocking
 abbrev pub flags_word : OpenFlags → Word
 flags_word flags = access_letter flags.access ++ (letter_if flags.create (codes "c") ++ (letter_if flags.excl (codes "x") ++ letter_if flags.nonblock (codes "n")))
 
--- the limits of a new queue, where they were given
+-- the limits of a new queue, if they were given
 abbrev pub limits_words : Option Attr → List Word
 limits_words None = []
 limits_words (Some attr) = codes "limits" ∷ signed_decimal attr.maxmsg ∷ signed_decimal attr.msgsize ∷ []
 
--- 1 for nonblock, else 0
+-- 1 for nonblocking, else 0
 abbrev pub flag_word : Bool → Word
 flag_word true = codes "1"
 flag_word false = codes "0"
@@ -47,16 +48,16 @@ abbrev pub number_or : Word → Option ℕ → Word
 number_or none None = none
 number_or none (Some n) = decimal n
 
--- a moment after its label: seconds and nanoseconds
+-- a label, and then a time: seconds and nanoseconds
 abbrev pub moment_words : Word → Deadline → List Word
 moment_words label moment = label ∷ signed_decimal moment.sec ∷ signed_decimal moment.nsec ∷ []
 
--- a place after its label, where there is one
+-- a label and a place, if there is one
 abbrev pub place_words : Word → Option ℕ → List Word
 place_words label None = []
 place_words label (Some place) = label ∷ decimal place ∷ []
 
--- the words of a call, without a name or a message
+-- the words of a call, without its name or message
 abbrev pub call_words : Call → List Word
 call_words (call.MqOpen flags attr) = codes "open" ∷ flags_word flags ∷ limits_words attr
 call_words (call.MqClose d) = codes "close" ∷ decimal d ∷ []
@@ -87,16 +88,17 @@ reply_words (reply.Notice value) = codes "notice" ∷ number_or (codes "none") v
 reply_words reply.Done = codes "ok" ∷ []
 reply_words (reply.Refused fault) = text_of fault ∷ []
 
--- bytes with each that is not printable ASCII, each space and each `%` as `%` and two upper-case hexadecimal digits
+-- The bytes, with each byte that is not printable ASCII, each space and each `%` written as `%` and
+-- two upper-case hexadecimal digits.
 abbrev pub escaped : List ℕ → Word
 escaped bytes = percent_encode ESCAPED bytes
 
--- a name or a message in quotes, where it has bytes
+-- a name or a message in quotes, if it has bytes
 abbrev pub payload_words : List ℕ → List Word
 payload_words [] = []
 payload_words (b ∷ bytes) = (34 ∷ escaped (b ∷ bytes) ++ 34 ∷ []) ∷ []
 
--- the same after a space
+-- a space and the same
 abbrev pub payload_text : List ℕ → List ℕ
 payload_text [] = []
 payload_text (b ∷ bytes) = 32 ∷ 34 ∷ escaped (b ∷ bytes) ++ 34 ∷ []
@@ -105,7 +107,7 @@ payload_text (b ∷ bytes) = 32 ∷ 34 ∷ escaped (b ∷ bytes) ++ 34 ∷ []
 abbrev pub record_words : ℕ → Record → List Word
 record_words place r = decimal place ∷ decimal r.entry.process ∷ call_words r.entry.call ++ (payload_words r.payload ++ codes "->" ∷ reply_words r.entry.reply)
 
--- the line of a record: its words, with a space between two, and a feed
+-- the line of a record: its words, separated by spaces, and a line feed
 unfoldable pub line_text : ℕ → Record → List ℕ
 line_text place r = join_with_byte 32 (record_words place r) ++ 10 ∷ []
 
@@ -114,18 +116,18 @@ abbrev pub journal_text : Past → List ℕ
 journal_text [] = []
 journal_text (r ∷ past) = journal_text past ++ line_text (length past) r
 
--- a feed stands in these bytes
+-- there is a line feed among these bytes
 abbrev pub has_feed : List ℕ → Bool
 has_feed bytes = list_any (λ b. b == 10) bytes
 
--- a byte that can stand in a line before its feed: printable ASCII
+-- a byte that can be in a line before its line feed: printable ASCII
 abbrev pub is_line_byte : ℕ → Bool
 is_line_byte b = nat_le 32 b && nat_le b 126
 
--- a byte of lines
+-- a byte that can be in the text
 abbrev pub is_text_byte : ℕ → Bool
 is_text_byte b = is_line_byte b || b == 10
 
--- the bytes before the feed of a line that has not ended yet can only be such
+-- these bytes can be a line without its line feed
 abbrev pub can_go_on : List ℕ → Bool
 can_go_on bytes = list_all is_line_byte bytes

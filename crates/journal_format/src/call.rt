@@ -102,14 +102,14 @@ fn letter_if(set: bool, letter: &'static str) -> &'static str
     if set { letter } else { "" }
 }
 
-/// 1 for nonblock, else 0.
+/// 1 if nonblocking, else 0.
 pub(crate) fn flag_text(nonblock: bool) -> &'static str
     ensures { result.now ≡ flag_word nonblock }
 {
     if nonblock { "1" } else { "0" }
 }
 
-// The moments of a timed call.
+// The deadline and the time of a timed call.
 fn moments_text(alloc: Global, until: Deadline, now: Deadline) -> Result<String, AllocError>
     ensures { IfOk result (λ text. string_bytes text ≡
         join_with_byte 32 (moment_words (codes "until") until ++ moment_words (codes "at") now)) }
@@ -119,7 +119,7 @@ fn moments_text(alloc: Global, until: Deadline, now: Deadline) -> Result<String,
     format!(in alloc; "until {sec} {nsec} at {now_sec} {now_nsec}")
 }
 
-/// The call that the next words read as, without a name or a message.
+/// The call that the next words mean, without its name or message.
 #[tactic(auto, unfolding(crate::specs::Reading::call_at))]
 pub fn call_of<'w, 's>(words: &'w [&'s [u8]]) -> Option<(Call, &'w [&'s [u8]])>
     ensures { option_map read_off result ≡ call_at (words_at words.now) }
@@ -129,7 +129,7 @@ pub fn call_of<'w, 's>(words: &'w [&'s [u8]]) -> Option<(Call, &'w [&'s [u8]])>
     call_behind(verb, words)
 }
 
-// The call that the words after its verb read as.
+// The call that the words after its verb mean.
 fn call_behind<'w, 's>(verb: Verb, words: &'w [&'s [u8]]) -> Option<(Call, &'w [&'s [u8]])>
     ensures { option_map read_off result ≡ call_behind verb (words_at words.now) }
 {

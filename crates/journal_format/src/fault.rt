@@ -13,9 +13,9 @@ pub enum JournalFault {
     /// This line, counted from 1, is the first that is not the line of an entry at its place, or of
     /// a call of a history. A line of an input may also be too long for one.
     BadLine(u64),
-    /// A read failed, whatever its error: an interrupted one too, which is not tried again.
+    /// A read failed, with whatever error. An interrupted read is not tried again.
     Input,
-    /// An allocation was refused.
+    /// Memory was refused.
     NoMemory,
 }
 

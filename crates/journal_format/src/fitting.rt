@@ -1,4 +1,4 @@
-//! The numbers of a record fit their types. Nothing is done where the program runs.
+//! The numbers of a record fit their types. These functions do nothing at run time.
 ghost use Rattle.journal_format.specs.Fitting.{CallFits, Fits, ReplyFits};
 
 use mq_model::entries::{Attr, Call, Entry, Reply};

@@ -1,4 +1,4 @@
-//! A journal from its text on an input, which is read as it comes.
+//! Reading a journal as text from an input, line by line.
 ghost use Rattle.std.specs.Prelude.{◌≡◌, ◌<◌, ◌≤◌, ◌+◌, ◌^◌, ◌++◌, ℕ, List, false, IfOk, IsErrOf, OnOk, Some, length, take};
 ghost use Rattle.journal_format.specs.Fitting.{AllFit};
 ghost use Rattle.journal_format.specs.JournalFault.{IsAtFault, StopsAt};
@@ -13,11 +13,14 @@ use mq_model::journals::Journal;
 use std::alloc::Global;
 use std::io::Read;
 
-/// The journal whose text an input has: of a longer input the first 2^40 + 1 bytes. Each line is
-/// read as it comes, and no more of the text is kept than the line that lacks its feed yet.
-/// `JournalFault::BadLine`: this line, counted from 1, is the first that is not the line of an
-/// entry at its place, or it has no feed within `MOST_LINE` bytes; and no read was made after those
-/// that brought so much of it. `JournalFault::Input`: a read failed.
+/// The journal whose text the input has; of a longer input only the first 2^40 + 1 bytes are read.
+/// Each line is parsed as soon as it is read, and no text is kept except the last line until its
+/// line feed.
+///
+/// - `JournalFault::BadLine`: this line, counted from 1, is the first that is not the line of an
+///   entry at its place, or it has no line feed within `MOST_LINE` bytes. No read was made after
+///   those that returned it.
+/// - `JournalFault::Input`: a read failed.
 pub fn read_input<R: Read>(alloc: Global, input: &mut R) -> Result<Journal, JournalFault>
     ensures found { (all : List ℕ) → R.remaining input.old ≡ Some all →
         IfOk result (λ journal. AllFit journal.records ×
@@ -35,7 +38,8 @@ pub fn read_input<R: Read>(alloc: Global, input: &mut R) -> Result<Journal, Jour
     whole(journal, lines.rest.as_slice())
 }
 
-// Reads the lines that have come onto the journal. What stands after the last feed is the rest.
+// Parses the lines in `rest` and appends them to the journal. What follows the last line feed stays
+// in `rest`.
 fn take_in(alloc: Global, journal: &mut Journal, rest: &mut Vec<u8>) -> Result<(), JournalFault>
     requires fits { AllFit journal.old.records }
     ensures fits { OnOk result (AllFit journal.new.records) }

@@ -1,4 +1,4 @@
-//! The journal as text: one line an entry.
+//! The journal as text, with one line for each entry.
 #![tactic(auto)]
 
 pub mod call;

@@ -32,7 +32,7 @@ pub fn line_of(
     format!(in alloc; "{place} {process} {call}{quoted} -> {reply}\n")
 }
 
-// The entry that the words of a line read as, and what stands between its quotes.
+// The entry that the words of a line mean, and what is between its quotes.
 #[tactic(auto, unfolding(crate::specs::Reading::entry_at))]
 fn entry_of<'s>(words: &[&'s [u8]]) -> Option<(Entry, &'s [u8])>
     ensures { option_map read_entry result ≡ entry_at (words_at words.now) }
@@ -51,7 +51,8 @@ fn entry_of<'s>(words: &[&'s [u8]]) -> Option<(Entry, &'s [u8])>
     Some((entry, quoted))
 }
 
-/// The entry with its payload whose line this is at a place of a journal, if it is one. The line ends with its feed.
+/// The entry and its payload, if this is the line of one at this place of a journal. The line ends
+/// with its line feed.
 pub fn read_line(
     alloc: Global,
     place: u64,
@@ -66,7 +67,8 @@ pub fn read_line(
     };
     let mut payload = Vec::new(alloc);
     percent_decode(quoted).append_to(&mut payload)?;
-    // Words that no entry writes may have been read, as numbers with zeros in front: then the line of what was read is another.
+    // Words that no entry has may have been accepted, such as numbers with leading zeros. Then the
+    // line of what was read differs.
     let written = line_of(alloc, place, entry, payload.as_slice())?;
     if written.as_bytes() != line {
         return Ok(None);

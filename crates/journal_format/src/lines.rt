@@ -1,4 +1,4 @@
-//! The lines of an input, which are read as they come.
+//! The lines of an input, read one after the other.
 ghost use Rattle.std.specs.Prelude.{◌≡◌, ◌<◌, ◌≤◌, ◌+◌, ◌++◌, ℕ, List, [], Option, Ok, false, true, IfOk, IsErrOf, OnOk, length};
 ghost use Rattle.journal_format.specs.Lines.{HasEnded, HasNewLine, HasRead};
 ghost use Rattle.journal_format.specs.Text.{can_go_on, has_feed};
@@ -8,25 +8,25 @@ use crate::fault::JournalFault;
 use std::alloc::Global;
 use std::io::Read;
 
-/// The most bytes of a text.
+/// The maximum length of a text, in bytes.
 pub const MOST_BYTES: usize = 1 << 40;
 
-/// The most bytes of a line that is read: those of a name or a message stand in it with three bytes
-/// each at most.
+/// The maximum length of a line that is read, in bytes. Each byte of a name or a message takes at
+/// most three bytes in it.
 pub const MOST_LINE: usize = (1 << 20) + 3 * (1 << 16);
 
-/// The most bytes of a read.
+/// The maximum length of a read, in bytes.
 pub const CHUNK: usize = 4096;
 
-/// What was read of an input and not taken yet.
+/// What was read from an input and not taken yet.
 #[derive(Drop)]
 pub struct Lines {
     pub rest: Vec<u8>,
-    /// How many bytes may be read yet.
+    /// How many further bytes may be read.
     pub left: usize,
 }
 
-// A line that has not ended may go on with these bytes: each is printable ASCII.
+// Whether these bytes can be in a line before its line feed: each is printable ASCII.
 fn can_go_on(bytes: &[u8]) -> bool
     ensures { result ≡ can_go_on bytes.now }
 {
@@ -34,7 +34,7 @@ fn can_go_on(bytes: &[u8]) -> bool
 }
 
 impl Lines {
-    /// Nothing was read: of a longer input the first 2^40 + 1 bytes will be.
+    /// Nothing was read yet. Of a longer input only the first 2^40 + 1 bytes will be read.
     pub fn new(alloc: Global) -> Lines
         ensures rest { result.rest.items ≡ [] }
         ensures left { result.left ≡ MOST_BYTES + 1 }
@@ -45,9 +45,9 @@ impl Lines {
         }
     }
 
-    /// Reads until a line has come, with its feed. False: none will come, since all was read, or
-    /// the rest is longer than a line is at most, or has a byte that no line has.
-    /// `JournalFault::Input`: a read failed.
+    /// Reads until `rest` has a whole line. False if no line will come: everything was read, or
+    /// `rest` is longer than a line can be, or has a byte that no line has. `JournalFault::Input`:
+    /// a read failed.
     pub fn come<R: Read>(&mut self, input: &mut R) -> Result<bool, JournalFault>
         requires rest { has_feed self.old.rest.items ≡ false }
         requires short { length self.old.rest.items ≤ CHUNK }

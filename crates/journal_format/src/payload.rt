@@ -5,10 +5,10 @@ ghost use Rattle.journal_format.specs.Text.{payload_text};
 use percent_encoding::{AsciiSet, CONTROLS, ascii_set, percent_encode};
 use std::alloc::{AllocError, Global};
 
-/// The ASCII bytes that are escaped: the controls, a space and `%`.
+/// The ASCII bytes that are escaped: control characters, the space and `%`.
 pub const ESCAPED: AsciiSet = ascii_set!(CONTROLS.add(b' ').add(b'%'));
 
-/// A name or a message in quotes after a space, or nothing where it has no bytes.
+/// A space and a name or a message in quotes, or nothing if it has no bytes.
 pub fn payload_text(alloc: Global, payload: &[u8]) -> Result<String, AllocError>
     ensures { IfOk result (λ text. string_bytes text ≡ payload_text payload.now) }
 {

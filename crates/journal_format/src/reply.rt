@@ -12,7 +12,7 @@ use mq_model::entries::{Reply, Status};
 use mq_model::faults::Fault;
 use std::alloc::{AllocError, Global};
 
-/// The word that says which reply an entry has, where it is no refusal.
+/// The first word of a reply that is not an error.
 #[derive(Clone, Copy, Debug, PartialEq, Eq)]
 pub enum Kind {
     Opened,
@@ -138,7 +138,7 @@ const FAULTS: [Fault; 13] = [
     Fault::JournalFull,
 ];
 
-// The fault that a word names.
+// The error that a word names.
 #[tactic(auto, unfolding(crate::specs::Reading::fault_written))]
 fn fault_of(word: &[u8]) -> Option<Fault>
     ensures { result ≡ fault_written word.now }
@@ -149,7 +149,7 @@ fn fault_of(word: &[u8]) -> Option<Fault>
         .find(|fault| word == fault.name().as_bytes())
 }
 
-/// The reply that the next words read as. What stands after them is left out.
+/// The reply that the next words mean. Further words are ignored.
 #[tactic(auto, unfolding(crate::specs::Reading::reply_at))]
 pub fn reply_of(words: &[&[u8]]) -> Option<Reply>
     ensures { result ≡ reply_at (words_at words.now) }
@@ -161,7 +161,7 @@ pub fn reply_of(words: &[&[u8]]) -> Option<Reply>
     }
 }
 
-// The reply that the words after its kind read as.
+// The reply that the words after its first one mean.
 fn reply_behind(kind: Kind, words: &[&[u8]]) -> Option<Reply>
     ensures { result ≡ reply_behind kind (words_at words.now) }
 {

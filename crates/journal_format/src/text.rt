@@ -15,7 +15,8 @@ use mq_model::journals::Journal;
 use script_text::line::first_line;
 use std::alloc::{AllocError, Global};
 
-/// The text of a journal. Its numbers fit their types, so `read_journal` gives the journal back.
+/// The text of a journal. Its numbers fit their types, so `read_journal` returns the same journal.
+/// Fails if memory was refused.
 pub fn write_journal(alloc: Global, journal: &Journal) -> Result<Vec<u8>, AllocError>
     ensures text { IfOk result (λ text. text.items ≡ journal_text journal.now.records) }
     ensures fits { OnOk result (AllFit journal.now.records) }
@@ -28,7 +29,7 @@ pub fn write_journal(alloc: Global, journal: &Journal) -> Result<Vec<u8>, AllocE
     Ok(text)
 }
 
-// Adds the line of an entry with its payload.
+// Appends the line of an entry with its payload.
 fn push_line(
     alloc: Global,
     text: &mut Vec<u8>,
@@ -45,16 +46,16 @@ fn push_line(
     text.extend_from_slice(line.as_bytes())
 }
 
-/// The journal whose text this is. `JournalFault::BadLine`: this line, counted from 1, is the first that is not the line of an entry at
-/// its place; a last line that lacks its feed is none.
+/// The journal with this text. `JournalFault::BadLine`: this line, counted from 1, is the first
+/// that is not the line of an entry at its place. A last line without a line feed is not a line.
 pub fn read_journal(alloc: Global, text: &[u8]) -> Result<Journal, JournalFault>
-    // What is read is written as it was.
+    // The text of the journal that is read is this one.
     ensures found { IfOk result (λ journal. AllFit journal.records ×
         (text.now ≡ journal_text journal.records)) }
-    // What was written is read as it was, unless memory runs out.
+    // If this is the text of a journal, that journal is read, unless memory is refused.
     ensures only { (past : Past) → AllFit past → text.now ≡ journal_text past →
         MatchResult result (λ journal. journal.records ≡ past) (λ fault. fault ≡ NoMemory) }
-    // A line that is named is the first one.
+    // The line in the error is the first bad one.
     ensures bad_line { (line : ℕ) → IsErrOf result (BadLine line) → StopsAt line text.now }
     ensures no_input { IsErrOf result Input → ⊥ }
 {
@@ -65,8 +66,9 @@ pub fn read_journal(alloc: Global, text: &[u8]) -> Result<Journal, JournalFault>
     }
 }
 
-/// Reads the lines that a text begins with onto a journal, and gives what stands after the last feed. `JournalFault::BadLine`: this
-/// line of the journal's text and this one is the first that is not the line of an entry at its place, whatever comes after them.
+/// Parses the lines at the start of a text, appends them to a journal, and returns what follows the
+/// last line feed. `JournalFault::BadLine`: this line, counted from the start of the journal, is
+/// the first that is not the line of an entry at its place, whatever follows.
 pub fn read_lines<'t>(
     alloc: Global,
     journal: &mut Journal,
@@ -95,7 +97,8 @@ pub fn read_lines<'t>(
     Ok(rest)
 }
 
-/// A journal that was read, where nothing stands after its last line. `JournalFault::BadLine`: what stands there is no line.
+/// A journal that was read, if nothing follows its last line. `JournalFault::BadLine`: something
+/// does.
 pub fn whole(journal: Journal, rest: &[u8]) -> Result<Journal, JournalFault>
     requires fits { AllFit journal.records }
     requires rest { has_feed rest.now ≡ false }
@@ -116,20 +119,20 @@ pub fn whole(journal: Journal, rest: &[u8]) -> Result<Journal, JournalFault>
     }
 }
 
-/// Journals with one text are one. The function does nothing: its contract is the law.
+/// Journals with the same text are equal. The function does nothing: its contract is the law.
 pub fn one_text()
     ensures { (a b : Past) → AllFit a → AllFit b → length b < 2 ^ 64 →
         journal_text a ≡ journal_text b → a ≡ b }
 {}
 
-/// No entry whose name or message has up to 65,536 bytes has a longer line than is read. The
-/// function does nothing: its contract is the law.
+/// If the name or the message of an entry has at most 65,536 bytes, its line is not longer than
+/// what is read. The function does nothing: its contract is the law.
 pub fn lines_are_short()
     ensures { (place : ℕ) (r : Record) → place < 2 ^ 64 → Fits r → length r.payload ≤ 2 ^ 16 →
         length (line_text place r) ≤ MOST_LINE }
 {}
 
-// Adds an entry with its payload after all others.
+// Appends an entry with its payload.
 fn add_entry(journal: &mut Journal, entry: Entry, payload: &[u8]) -> Result<(), AllocError>
     ensures records { OnOk result (journal.new.records ≡
         record { entry = entry; payload = payload.now } ∷ journal.old.records) }

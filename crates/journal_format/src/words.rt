@@ -1,4 +1,5 @@
-//! The words of a line, one after the other. Each function gives what the next words read as, and the words after them.
+//! The words of a line, one after the other. Each function returns what the next words mean, and
+//! the words after them.
 ghost use Rattle.std.specs.Prelude.{◌≡◌};
 ghost use Rattle.std.specs.Option.{option_map};
 ghost use Rattle.journal_format.specs.Reading.{flag_at, integer_at, limits_at, moment_at, number_at, number_or_at, place_at, quoted_at, read_off, read_word, word_at, words_at};
@@ -17,7 +18,7 @@ pub fn word_of<'w, 's>(words: &'w [&'s [u8]]) -> Option<(&'s [u8], &'w [&'s [u8]
     }
 }
 
-/// A number of 64 bits.
+/// A 64-bit number.
 #[tactic(auto, unfolding(crate::specs::Reading::number_at))]
 pub fn number_of<'w, 's>(words: &'w [&'s [u8]]) -> Option<(u64, &'w [&'s [u8]])>
     ensures { option_map read_off result ≡ number_at 64 (words_at words.now) }
@@ -26,7 +27,7 @@ pub fn number_of<'w, 's>(words: &'w [&'s [u8]]) -> Option<(u64, &'w [&'s [u8]])>
     Some((number(word)?, words))
 }
 
-/// A number of 32 bits.
+/// A 32-bit number.
 #[tactic(auto, unfolding(crate::specs::Reading::number_at))]
 pub fn small_number_of<'w, 's>(words: &'w [&'s [u8]]) -> Option<(u32, &'w [&'s [u8]])>
     ensures { option_map read_off result ≡ number_at 32 (words_at words.now) }
@@ -35,7 +36,7 @@ pub fn small_number_of<'w, 's>(words: &'w [&'s [u8]]) -> Option<(u32, &'w [&'s [
     Some((small_number(word)?, words))
 }
 
-/// An integer of 64 bits.
+/// A 64-bit integer.
 #[tactic(auto, unfolding(crate::specs::Reading::integer_at))]
 pub fn integer_of<'w, 's>(words: &'w [&'s [u8]]) -> Option<(i64, &'w [&'s [u8]])>
     ensures { option_map read_off result ≡ integer_at (words_at words.now) }
@@ -44,7 +45,7 @@ pub fn integer_of<'w, 's>(words: &'w [&'s [u8]]) -> Option<(i64, &'w [&'s [u8]])
     Some((integer(word)?, words))
 }
 
-/// A moment after its label.
+/// A label, and then a time.
 #[tactic(auto, unfolding(crate::specs::Reading::moment_at))]
 pub fn moment_of<'w, 's>(words: &'w [&'s [u8]]) -> Option<(Deadline, &'w [&'s [u8]])>
     ensures { option_map read_off result ≡ moment_at (words_at words.now) }
@@ -55,7 +56,7 @@ pub fn moment_of<'w, 's>(words: &'w [&'s [u8]]) -> Option<(Deadline, &'w [&'s [u
     Some((Deadline { sec, nsec }, words))
 }
 
-/// The limits of a new queue, or none where the next word is no label of limits.
+/// The limits of a new queue, or none if the next word is not the label of limits.
 #[tactic(auto, unfolding(crate::specs::Reading::limits_at))]
 pub fn limits_of<'w, 's>(words: &'w [&'s [u8]]) -> Option<(Option<Attr>, &'w [&'s [u8]])>
     ensures { option_map read_off result ≡ limits_at (words_at words.now) }
@@ -70,7 +71,7 @@ pub fn limits_of<'w, 's>(words: &'w [&'s [u8]]) -> Option<(Option<Attr>, &'w [&'
     }
 }
 
-/// A place after this label, or none where the next word is another.
+/// This label, and then a place; or none if the next word is another.
 #[tactic(auto, unfolding(crate::specs::Reading::place_at))]
 pub fn place_of<'w, 's>(
     label: &'static [u8],
@@ -87,7 +88,7 @@ pub fn place_of<'w, 's>(
     }
 }
 
-/// A number, or none for this word.
+/// A number, or none if the next word is `none`.
 #[tactic(auto, unfolding(crate::specs::Reading::number_or_at))]
 pub fn number_or_of<'w, 's>(
     none: &'static [u8],
@@ -103,7 +104,7 @@ pub fn number_or_of<'w, 's>(
     }
 }
 
-/// 1 for nonblock; any other word reads as none.
+/// 1 for nonblocking. Any other word means that it is not.
 #[tactic(auto, unfolding(crate::specs::Reading::flag_at))]
 pub fn flag_of<'w, 's>(words: &'w [&'s [u8]]) -> Option<(bool, &'w [&'s [u8]])>
     ensures { option_map read_off result ≡ flag_at (words_at words.now) }
@@ -112,7 +113,7 @@ pub fn flag_of<'w, 's>(words: &'w [&'s [u8]]) -> Option<(bool, &'w [&'s [u8]])>
     Some((word == b"1".as_slice(), words))
 }
 
-/// What stands between quotes, or nothing where the next word does not begin with one.
+/// What is between quotes, or nothing if the next word does not begin with a quote.
 #[tactic(auto, unfolding(crate::specs::Reading::quoted_at))]
 pub fn quoted_of<'w, 's>(words: &'w [&'s [u8]]) -> (&'s [u8], &'w [&'s [u8]])
     ensures { read_word result ≡ quoted_at (words_at words.now) }

@@ -1,4 +1,4 @@
--- What is written of a journal that is viewed.
+-- What is written when a journal is viewed.
 use Rattle.std.specs.Prelude.{ℕ, ◌≡◌, ◌+◌, ◌-◌, ◌⊎◌, min, nat_lt, IsTrue, List, Option, codes, if◌then◌else◌, length}
 use Rattle.std.specs.Io.KnownBytes as known
 use Rattle.text_io.specs.Output.{AppendsTooLittle}
@@ -10,28 +10,29 @@ use Rattle.journal_state.specs.State.{state}
 use Rattle.journal_state.specs.declared.form.Form.TheVariants.{Json}
 use Rattle.journal_page.specs.Page.{page_text}
 
--- the place after the last one up to `to`, of so many entries
+-- the place after the last one up to `to`, in a journal of this length
 abbrev pub end_viewed : ℕ → ℕ → ℕ
 end_viewed to len = if nat_lt to len then to + 1 else len
 
--- the first place from `from` up to and with `to`
+-- the first place from `from` to `to`, both included
 abbrev pub first_viewed : ℕ → ℕ → ℕ → ℕ
 first_viewed from to len = min from (end_viewed to len)
 
--- how many entries there are from `from` up to and with `to`
+-- the number of entries from `from` to `to`, both included
 abbrev pub count_viewed : ℕ → ℕ → ℕ → ℕ
 count_viewed from to len = end_viewed to len - first_viewed from to len
 
--- the line of the state after these records, or of none where they are not legal
+-- the line of the state after these records, or the line `null` if they are not legal
 abbrev pub IsStateLine : Past → List ℕ → Type 0
 IsStateLine past line = (Legal past × (line ≡ state Json past)) ⊎ ((Legal past → ⊥) × (line ≡ codes "null\n"))
 
--- the page of these entries of a journal, with the line of the state before them, between the head and the tail of a template
+-- the page of these entries of a journal, with the line of the state before them, between the head
+-- and the tail of a template
 abbrev pub page_within : List ℕ → List ℕ → List ℕ → ℕ → ℕ → Past → List ℕ
 page_within head tail before from to past =
     page_text head tail before past (first_viewed from to (length past)) (count_viewed from to (length past))
 
--- bytes are the text of a journal; known bytes have grown by the page of these entries of it
+-- the page of these entries, of the journal with this text, was appended to known bytes
 pub record Views (bytes : List ℕ) (from to : ℕ) (head tail : List ℕ) (old new : Option (List ℕ)) : Type 0 where
   pub past : Past
   pub fits : AllFit past
@@ -40,7 +41,7 @@ pub record Views (bytes : List ℕ) (from to : ℕ) (head tail : List ℕ) (old 
   pub state : IsStateLine (first (first_viewed from to (length past)) past) before
   pub written : known.Appends old new (page_within head tail before from to past)
 
--- bytes are the text of a journal; known bytes have grown by a front part of such a page that lacks a byte or more
+-- a proper prefix of such a page was appended to known bytes
 pub record ViewsInPart (bytes : List ℕ) (from to : ℕ) (head tail : List ℕ) (old new : Option (List ℕ)) : Type 0 where
   pub past : Past
   pub fits : AllFit past
@@ -55,7 +56,7 @@ pub record HasLongPage (past : Past) (from to : ℕ) (head tail : List ℕ) : Ty
   pub state : IsStateLine (first (first_viewed from to (length past)) past) before
   pub long : IsTrue (nat_lt 25000000 (length (page_within head tail before from to past)))
 
--- bytes are the text of a journal, of which these are more than a million entries, or entries whose page is too long
+-- These are more than a million entries of the journal with this text, or their page is too long.
 pub record IsTooLong (bytes : List ℕ) (from to : ℕ) (head tail : List ℕ) : Type 0 where
   pub past : Past
   pub fits : AllFit past

@@ -1,4 +1,4 @@
-//! Pages of journals: what a browser shows, in one file.
+//! Pages of journals for a browser, each in one file.
 #![tactic(auto)]
 
 mod page;

@@ -8,9 +8,9 @@ use journal_format::line::line_of;
 use mq_model::journals::Journal;
 use std::alloc::{AllocError, Global};
 
-/// A page: between the head and the tail of a template the line of the state before, and the lines
-/// of so many entries from the place `from` on. No `<` of a line stands there as it is, so none of
-/// them ends the element that they stand in.
+/// A page: the head of a template, the line of the state before, the lines of `count` entries from
+/// the place `from` on, and the tail of the template. Each `<` in a line is escaped, so that no
+/// line ends the element that it is in.
 pub(crate) fn page_of(
     alloc: Global,
     before: &[u8],
@@ -32,8 +32,8 @@ pub(crate) fn page_of(
     Ok(text)
 }
 
-/// A page of a text: it stands between the head and the tail of a template, and no `<` of it stands
-/// there as it is.
+/// A page of a text: the head of a template, the text with each `<` escaped, and the tail of the
+/// template.
 pub fn page_of_text(
     alloc: Global,
     text: &[u8],
@@ -50,7 +50,7 @@ pub fn page_of_text(
     Ok(page)
 }
 
-// Adds the lines of so many entries.
+// Appends the lines of `count` entries.
 #[tactic(auto, using(crate::proofs::Steps::lines_steps))]
 fn push_lines(
     alloc: Global,
@@ -70,7 +70,7 @@ fn push_lines(
     Ok(())
 }
 
-// Adds the line of the entry at a place.
+// Appends the line of the entry at a place.
 #[tactic(auto, unfolding(crate::specs::Page::last_line), using(mq_model::proofs::Prefixes::prefixes))]
 fn push_line(
     alloc: Global,
@@ -87,7 +87,7 @@ fn push_line(
     push_shielded(text, line.as_bytes())
 }
 
-// Adds bytes as a page writes them.
+// Appends bytes, escaped as a page needs.
 #[tactic(auto, using(crate::proofs::Steps::shielded_steps))]
 fn push_shielded(text: &mut Vec<u8>, bytes: &[u8]) -> Result<(), AllocError>
     ensures { OnOk result (text.new.items ≡ text.old.items ++ flat_map shielded bytes.now) }

@@ -1,4 +1,4 @@
-//! A journal, from its bytes to a page of it.
+//! From the bytes of a journal to a page of it.
 ghost use Rattle.std.specs.Prelude.{◌≡◌, ◌≤◌, ◌+◌, ℕ, List, IfOk, IsErrOf, Ok, Some, length, take};
 ghost use Rattle.mq_model.specs.Record.{first};
 ghost use Rattle.journal_format.specs.JournalFault.{IsAtFault};
@@ -20,31 +20,31 @@ use std::alloc::{AllocError, Global};
 use std::io::{Read, Write};
 use text_io::output::write_all;
 
-/// The most entries of a page.
+/// The maximum number of entries in a page.
 const MOST_VIEWED: u64 = 1_000_000;
 
-/// The most bytes of a page.
+/// The maximum length of a page, in bytes.
 const MOST_PAGE: usize = 25_000_000;
 
 /// Whether a page was written.
 #[derive(Clone, Copy, Debug, PartialEq, Eq)]
 pub enum Viewed {
-    /// It was.
+    /// It was written.
     Written,
-    /// It would have too many entries or too many bytes, and nothing was written.
+    /// It would have too many entries or bytes, and nothing was written.
     TooLong,
 }
 
 /// Why no page was written.
 #[derive(Clone, Copy, Debug, PartialEq, Eq)]
 pub enum Unviewed {
-    /// The journal was not read.
+    /// The journal could not be read.
     Unread(JournalFault),
     /// A write failed.
     Output,
 }
 
-// The first place from `from` up to and with `to`, and how many entries there are.
+// The first place from `from` to `to`, both included, and the number of entries there.
 fn cut(from: u64, to: u64, journal: &Journal) -> (u64, u64)
     ensures first { result.0 ≡ first_viewed from to (length journal.now.records) }
     ensures count { result.1 ≡ count_viewed from to (length journal.now.records) }
@@ -56,7 +56,7 @@ fn cut(from: u64, to: u64, journal: &Journal) -> (u64, u64)
     (first, end - first)
 }
 
-// The line of the state after the first `k` entries, or of none where they are not legal.
+// The line of the state after the first `k` entries, or the line `null` if they are not legal.
 fn state_line(alloc: Global, journal: &Journal, k: u64) -> Result<Vec<u8>, AllocError>
     requires { k ≤ length journal.now.records }
     ensures { IfOk result (λ line. IsStateLine (first k journal.now.records) line.items) }
@@ -75,13 +75,15 @@ fn state_line(alloc: Global, journal: &Journal, k: u64) -> Result<Vec<u8>, Alloc
     }
 }
 
-/// Reads a journal line by line, which need not be legal, and writes a page of its entries at the
-/// places from `from` up to and with `to`, by a template of these two parts. The page has the state
-/// before these entries, if those before them are legal.
-/// `JournalFault::BadLine`: a line is not that of an entry, or is too long for one, and this is the
-/// first one; no read was made after those that brought it. `JournalFault::Input`: a read failed.
-/// `Unviewed::Output`: a write failed, and of the page a front part is written that lacks a byte or
-/// more. Of the others nothing is written.
+/// Reads a journal line by line, which need not be legal, and writes a page of its entries from
+/// `from` to `to`, both included, with these two parts of a template. The page has the state before
+/// these entries, if the entries before them are legal.
+///
+/// - `JournalFault::BadLine`: a line is not that of an entry, or is too long for one, and this is
+///   the first one. No read was made after those that returned it. Nothing is written.
+/// - `JournalFault::Input`: a read failed. Nothing is written.
+/// - `JournalFault::NoMemory`: memory was refused. Nothing is written.
+/// - `Unviewed::Output`: a write failed. A proper prefix of the page is written.
 pub fn view_journal<R: Read, W: Write>(
     alloc: Global,
     input: &mut R,

@@ -1,4 +1,4 @@
--- What is written of what stands in a queue and on it, kind by kind.
+-- The text about what a queue has, by kinds.
 use Rattle.std.specs.Prelude.{ℕ, ◌++◌, Bool, List, codes}
 use Rattle.std.specs.Fmt.{decimal, signed_decimal}
 use Rattle.mq_model.specs.Record.{Place, Queue, Record}
@@ -15,14 +15,14 @@ part Messages = message
 part Senders = sender
 part Receivers = receiver
 
--- what JSON has before the name of a queue, and behind it
+-- the JSON before the name of a queue, and after it
 abbrev pub json_front : Queue → List ℕ
 json_front q = codes "{\"queue\":" ++ (decimal q ++ codes ",\"name\":")
 
 abbrev pub json_rest : Bool → Attr → List ℕ
 json_rest named limits = codes ",\"named\":" ++ (true_or_false named ++ (codes ",\"maxmsg\":" ++ (signed_decimal limits.maxmsg ++ (codes ",\"msgsize\":" ++ signed_decimal limits.msgsize))))
 
--- what JSON has of a description behind its access, and behind its queue
+-- the JSON of a description after its access mode, and after its queue
 abbrev pub json_flag : Bool → List ℕ
 json_flag nonblock = codes "\",\"nonblock\":" ++ (true_or_false nonblock ++ codes "}")
 

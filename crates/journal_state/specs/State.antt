@@ -18,9 +18,10 @@ use Rattle.journal_format.specs.Text.{access_letter, escaped, letter_if, payload
 use Rattle.journal_state.specs.declared.form.Form.{Form}
 use Rattle.journal_state.specs.declared.form.Form.TheVariants.{Text, Json}
 
--- what there is, in the order in which it is written --------------------------------------------------------------------------
+-- what a state has, in the order in which it is written
+-- ----------------------------------------------
 
--- a message before those that are received after it
+-- a message inserted before those that are received after it
 abbrev pub with_message : Past → Message → List Message → List Message
 with_message past m [] = m ∷ []
 with_message past m (n ∷ ns) = if goes_first past m n then m ∷ (n ∷ ns) else n ∷ with_message past m ns
@@ -38,7 +39,8 @@ callers past = filter (λ p. list_any (λ r. r.entry.process == p) past) (number
 abbrev pub held_numbers : Past → Process → List Descriptor
 held_numbers past p = filter (λ d. is_some (held past p d)) (numbers_from 0 most_descriptors)
 
--- parts of JSON: the text has nothing in their place ----------------------------------------------------------------------------
+-- parts that only JSON has
+-- -------------------------------------------------------------------------
 
 abbrev pub in_json : Form → List ℕ → List ℕ
 in_json Text bytes = []
@@ -48,12 +50,12 @@ in_json Json bytes = bytes
 abbrev pub label : Form → List ℕ → List ℕ
 label form name = in_json form (codes ",\"" ++ (name ++ codes "\":"))
 
--- what stands before the part of a list at an index
+-- what separates the item of a list at this index from the one before
 abbrev pub between : Form → ℕ → List ℕ
 between form zero = []
 between form (suc index) = in_json form (codes ",")
 
--- the parts of a list: in JSON with commas and in brackets
+-- the items of a list; JSON has commas and brackets
 abbrev pub joined : Form → List (List ℕ) → List ℕ
 joined Text parts = flat_map (λ part. part) parts
 joined Json parts = join_with_byte 44 parts
@@ -61,11 +63,11 @@ joined Json parts = join_with_byte 44 parts
 abbrev pub listed : Form → List (List ℕ) → List ℕ
 listed form parts = in_json form (codes "[") ++ (joined form parts ++ in_json form (codes "]"))
 
--- a byte of a string of JSON: a quote or a backslash stands behind a backslash
+-- a byte of a JSON string: a quote or a backslash has a backslash before it
 abbrev pub string_byte : ℕ → List ℕ
 string_byte b = if b == 34 || b == 92 then 92 ∷ b ∷ [] else b ∷ []
 
--- a name as a string of JSON, escaped as in a journal
+-- a name as a JSON string, escaped as in a journal
 abbrev pub name_string : List ℕ → List ℕ
 name_string name = codes "\"" ++ (flat_map string_byte (escaped name) ++ codes "\"")
 
@@ -77,37 +79,39 @@ abbrev pub number_or_null : Option ℕ → List ℕ
 number_or_null None = codes "null"
 number_or_null (Some n) = decimal n
 
--- queues --------------------------------------------------------------------------------------------------------------------------
+-- queues ------------------------------------------------------------------------------------------
 
--- how many bytes of a message are shown
+-- the number of bytes of a message that are shown
 abbrev pub first_bytes : ℕ
 first_bytes = 24
 
--- the message of a send: its priority, its length, and its first bytes, which JSON has as hexadecimal digits
+-- The message of a send: its priority, its length, and its first bytes, as hexadecimal digits in
+-- JSON.
 abbrev pub sent : Form → Record → List ℕ
 sent Text r = codes " priority " ++ (decimal (priority_given r.entry.call) ++ (codes " length " ++ (decimal (length r.payload) ++ (payload_text (take first_bytes r.payload) ++ codes "\n"))))
 sent Json r = codes ",\"priority\":" ++ (decimal (priority_given r.entry.call) ++ (codes ",\"length\":" ++ (decimal (length r.payload) ++ (codes ",\"bytes\":\"" ++ (encode_lower (take first_bytes r.payload) ++ codes "\"}")))))
 
--- a message in a queue, by the record of its send
+-- a message in a queue, given the record of its send
 abbrev pub message : Form → Place → Record → List ℕ
 message Text m r = codes "  message " ++ (decimal m ++ sent Text r)
 message Json m r = codes "{\"place\":" ++ (decimal m ++ sent Json r)
 
--- a process that waits to send, by the record of its send
+-- a process that waits to send, given the record of its send
 abbrev pub sender : Form → Place → Record → List ℕ
 sender Text w r = codes "  sender " ++ (decimal w ++ (codes " process " ++ (decimal r.entry.process ++ sent Text r)))
 sender Json w r = codes "{\"place\":" ++ (decimal w ++ (codes ",\"process\":" ++ (decimal r.entry.process ++ sent Json r)))
 
--- a process that waits to receive, by the record of its receive
+-- a process that waits to receive, given the record of its receive
 abbrev pub receiver : Form → Place → Record → List ℕ
 receiver Text w r = codes "  receiver " ++ (decimal w ++ (codes " process " ++ (decimal r.entry.process ++ codes "\n")))
 receiver Json w r = codes "{\"place\":" ++ (decimal w ++ (codes ",\"process\":" ++ (decimal r.entry.process ++ codes "}")))
 
--- what is written of the record at a place
+-- the text about the record at a place
 abbrev pub at : (Place → Record → List ℕ) → Past → Place → List ℕ
 at written past m = unwrap_or (option_map (written m) (record_at past m)) []
 
--- the registration on a queue; JSON has its value, which may exceed what a program's numbers hold, as a string
+-- The registration on a queue. In JSON its value is a string, because it may exceed the numbers of
+-- a program.
 abbrev pub registration : Form → Option Registration → List ℕ
 registration Text None = []
 registration Text (Some n) = codes "  registration " ++ (decimal n.place ++ (codes " process " ++ (decimal n.process ++ (codes " descriptor " ++ (decimal n.d ++ (codes " value " ++ (decimal n.value ++ codes "\n")))))))
@@ -119,13 +123,13 @@ abbrev pub unless_named : Bool → List ℕ
 unless_named true = []
 unless_named false = codes " unlinked"
 
--- a queue: the entry that created it, its name, whether that is still bound to it, and its limits
+-- a queue: the entry that created it, its name, whether it is still bound to that, and its limits
 abbrev pub queue_head : Form → Queue → List ℕ → Bool → Attr → List ℕ
 queue_head Text q name named limits = codes "queue " ++ (decimal q ++ (payload_text name ++ (unless_named named ++ (codes " limits " ++ (signed_decimal limits.maxmsg ++ (codes " " ++ (signed_decimal limits.msgsize ++ codes "\n")))))))
 queue_head Json q name named limits = codes "{\"queue\":" ++ (decimal q ++ (codes ",\"name\":" ++ (name_string name ++ (codes ",\"named\":" ++ (true_or_false named ++ (codes ",\"maxmsg\":" ++ (signed_decimal limits.maxmsg ++ (codes ",\"msgsize\":" ++ signed_decimal limits.msgsize))))))))
 
--- a queue with its messages in the order in which they will be received, who waits in the order in which they will be served, and the
--- registration
+-- A queue with its messages in the order in which they will be received, its waits in the order in
+-- which they will be served, and its registration.
 abbrev pub queue : Form → Past → Queue → List ℕ
 queue form past q =
     queue_head form q (name_of past q) (is_named past q) (attributes past q)
@@ -135,9 +139,9 @@ queue form past q =
     ++ (label form (codes "registration") ++ (registration form (registered past q)
     ++ in_json form (codes "}")))))))))
 
--- processes -----------------------------------------------------------------------------------------------------------------------
+-- processes ---------------------------------------------------------------------------------------
 
--- a descriptor: its queue, its access, and whether it is nonblocking
+-- a descriptor: its queue, its access mode, and whether it is nonblocking
 abbrev pub descriptor : Form → Descriptor → Option Description → List ℕ
 descriptor form d None = []
 descriptor Text d (Some h) = codes "  descriptor " ++ (decimal d ++ (codes " queue " ++ (decimal h.queue ++ (codes " " ++ (access_letter h.access ++ (letter_if h.nonblock (codes "n") ++ codes "\n"))))))
@@ -167,13 +171,13 @@ process form past p =
     ++ (label form (codes "notices") ++ (listed form (map (notice form) (notices past p))
     ++ in_json form (codes "}"))))))
 
--- the state -----------------------------------------------------------------------------------------------------------------------
+-- the state ---------------------------------------------------------------------------------------
 
 abbrev pub state_head : Form → ℕ → List ℕ
 state_head Text len = codes "after " ++ (decimal len ++ codes " entries\n")
 state_head Json len = codes "{\"entries\":" ++ (decimal len ++ codes ",\"queues\":")
 
--- how many entries there are, the queues in the order in which they were created, and the processes
+-- the number of entries, the queues in the order in which they were created, and the processes
 abbrev pub state : Form → Past → List ℕ
 state form past =
     state_head form (length past) ++ (listed form (map (queue form past) (reverse (alive past)))

@@ -1,4 +1,4 @@
-//! Queues, registrations, notices and processes, read off a journal.
+//! Queues, registrations, notices and processes, worked out from a journal.
 #![tactic(auto, using(mq_model::proofs::Prefixes::prefixes))]
 
 ghost use Rattle.std.specs.Prelude.{◌≡◌, ◌≤◌, ◌==◌, ◌++◌, ◌∷◌, [], IfOk, OnOk, if◌then◌else◌, is_some, length, reverse};
@@ -60,7 +60,7 @@ fn value_of_notify(call: Call) -> Option<u64>
     }
 }
 
-// The value that process `p` gave with the registration at a place before place `k`.
+// The value that process `p` gave to its registration at a place before place `k`.
 fn value_notified(journal: &Journal, k: u64, p: u32, place: Option<u64>) -> Option<u64>
     requires { k ≤ length journal.now.records }
     ensures { result ≡ value_notified (first k journal.now.records) p place }
@@ -79,7 +79,7 @@ fn value_notified(journal: &Journal, k: u64, p: u32, place: Option<u64>) -> Opti
     }
 }
 
-// Adds a value, if there is one.
+// Appends a value, if there is one.
 fn add(values: &mut Vec<u64>, value: Option<u64>) -> Result<(), AllocError>
     ensures { OnOk result (values.new.items ≡ values.old.items ++ option_to_list value) }
 {
@@ -89,7 +89,7 @@ fn add(values: &mut Vec<u64>, value: Option<u64>) -> Result<(), AllocError>
     Ok(())
 }
 
-// The values of the registrations of process `p` that were notified, in their order.
+// The values of the registrations of process `p` that were notified, in order.
 fn values_notified(alloc: Global, journal: &Journal, p: u32) -> Result<Vec<u64>, AllocError>
     ensures { IfOk result (λ values. values.items ≡ values_notified journal.now.records p) }
 {
@@ -111,7 +111,7 @@ fn gives_notice(reply: Reply) -> bool
     }
 }
 
-// How many notices process `p` was given.
+// How many notices process `p` has taken.
 fn notices_given(journal: &Journal, p: u32) -> u64
     ensures { result ≡ notices_given journal.now.records p }
 {
@@ -125,7 +125,7 @@ fn notices_given(journal: &Journal, p: u32) -> u64
     count
 }
 
-/// The notices that process `p` was not yet given, the oldest first.
+/// The notices that process `p` has not yet taken, the oldest first.
 pub(crate) fn notices(alloc: Global, journal: &Journal, p: u32) -> Result<Vec<u64>, AllocError>
     ensures { IfOk result (λ values. values.items ≡ notices journal.now.records p) }
 {
@@ -146,7 +146,7 @@ fn has_entry(journal: &Journal, p: u32) -> bool
     found
 }
 
-// Adds a number, if that is so.
+// Appends a number if `is_so`.
 fn add_if(numbers: &mut Vec<u32>, number: u32, is_so: bool) -> Result<(), AllocError>
     ensures { OnOk result (numbers.new.items ≡ numbers.old.items ++
         (if is_so then number ∷ [] else [])) }

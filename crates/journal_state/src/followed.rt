@@ -1,5 +1,6 @@
-//! Tables that follow a journal entry by entry: what each process has, which queues are bound to their names, and on which queue each entry
-//! is made. Who reads a state off a journal has then no need to look back for the open of a descriptor.
+//! Tables that are updated for each entry of a journal: what each process has, which queues are
+//! bound to their names, and on which queue each entry is made. They save looking back for the open
+//! of a descriptor.
 ghost use Rattle.std.specs.Prelude.{◌≡◌, ◌+◌, ◌<◌, ◌≤◌, ℕ, Bool, IfOk, OnOk, [], ◌∷◌, length, not, get_or, None, replicate};
 ghost use Rattle.std.specs.List.{filter};
 ghost use Rattle.std.specs.Str.{bytes_eq};
@@ -20,14 +21,14 @@ use mq_model::limits::PROCESSES;
 use mq_model::owners::{self, Owner};
 use std::alloc::{AllocError, Global};
 
-/// What the entries of a journal came to.
+/// The tables after the entries of a journal.
 #[derive(Drop)]
 pub(crate) struct Followed {
-    // process p's line is at index p
+    // process p has the row at index p
     pub(crate) owners: Vec<Owner>,
     // the queues that are bound to their names, the latest first
     bound: Vec<u64>,
-    // the queue on which each entry is made, by the descriptor that its call names
+    // the queue on which each entry is made, through the descriptor that its call names
     on: Vec<Option<u64>>,
 }
 
@@ -141,7 +142,7 @@ fn entry_queue(
     }
 }
 
-// Notes which queues are bound to their names after an entry.
+// Updates which queues are bound to their names, for the entry at place `k`.
 fn note_bound(
     alloc: Global,
     journal: &Journal,
@@ -161,7 +162,7 @@ fn note_bound(
     Ok(())
 }
 
-// A table of processes that have nothing.
+// A table of processes without descriptors and waits.
 fn free_owners(alloc: Global) -> Result<Vec<Owner>, AllocError>
     ensures { IfOk result (λ v. v.items ≡ replicate (most_processes + 1) free_owner) }
 {
@@ -169,7 +170,7 @@ fn free_owners(alloc: Global) -> Result<Vec<Owner>, AllocError>
     Ok(owners)
 }
 
-// The tables of no entries.
+// The tables before the first entry.
 fn start(alloc: Global, journal: &Journal) -> Result<Followed, AllocError>
     ensures { IfOk result (Follows journal.now.records 0) }
 {
@@ -181,7 +182,7 @@ fn start(alloc: Global, journal: &Journal) -> Result<Followed, AllocError>
     })
 }
 
-// Notes an entry in the table of processes.
+// Updates the table of processes for an entry.
 fn note_owner(owners: &mut Vec<Owner>, here: u64, entry: Entry, queue: u64)
     requires process { entry.process < length owners.old.items }
     requires numbers { FitsSlots entry.call entry.reply }
@@ -191,7 +192,7 @@ fn note_owner(owners: &mut Vec<Owner>, here: u64, entry: Entry, queue: u64)
     owners::note(owners, here, entry, queue);
 }
 
-// Notes the entry at place `k`.
+// Updates the tables for the entry at place `k`.
 fn note(alloc: Global, journal: &Journal, k: u64, f: &mut Followed) -> Result<(), AllocError>
     requires place { k < length journal.now.records }
     requires legal { Legal (first (k + 1) journal.now.records) }

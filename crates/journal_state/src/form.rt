@@ -1,9 +1,9 @@
-//! The two forms in which a state is written, and what JSON has that the text has not.
+//! The two forms of a state, and the parts that only JSON has.
 ghost use Rattle.std.specs.Prelude.{◌≡◌, ◌++◌, OnOk, codes};
 
 use std::alloc::AllocError;
 
-/// In which form a state is written.
+/// The form of a state.
 #[derive(Clone, Copy, Debug, PartialEq, Eq)]
 pub enum Form {
     /// Lines for people.
@@ -15,7 +15,7 @@ pub enum Form {
 impl Form {
     ghost use Rattle.journal_state.specs.State.{between, in_json, label};
 
-    // Adds what JSON alone has.
+    // Appends what only JSON has.
     pub(crate) fn push(self, text: &mut Vec<u8>, bytes: &str) -> Result<(), AllocError>
         ensures { OnOk result (text.new.items ≡ text.old.items ++ in_json self bytes.now) }
     {
@@ -25,7 +25,7 @@ impl Form {
         }
     }
 
-    // Adds the name of a further member of an object.
+    // Appends the name of a further member of an object.
     pub(crate) fn push_label(self, text: &mut Vec<u8>, name: &str) -> Result<(), AllocError>
         ensures { OnOk result (text.new.items ≡ text.old.items ++ label self name.now) }
     {
@@ -34,7 +34,7 @@ impl Form {
         self.push(text, "\":")
     }
 
-    // Adds what stands before the part of a list at an index.
+    // Appends what separates the item of a list at this index from the one before.
     pub(crate) fn push_between(self, text: &mut Vec<u8>, index: usize) -> Result<(), AllocError>
         ensures { OnOk result (text.new.items ≡ text.old.items ++ between self index) }
     {

@@ -1,4 +1,4 @@
-//! The parts of a state: messages, those who wait, registrations, descriptors.
+//! The parts of a state: messages, waits, registrations, descriptors.
 ghost use Rattle.std.specs.Prelude.{◌≡◌, ◌++◌, IfOk, OnOk, Some, codes, string_bytes, take};
 ghost use Rattle.std.specs.List.{flat_map};
 ghost use Rattle.journal_format.specs.Text.{access_letter, letter_if};
@@ -13,7 +13,7 @@ use mq_model::entries::{Access, Attr, Description, Entry, Registration};
 use percent_encoding::percent_encode;
 use std::alloc::{AllocError, Global};
 
-/// How many bytes of a message are shown.
+/// The number of bytes of a message that are shown.
 const FIRST_BYTES: usize = 24;
 
 fn first_bytes(payload: &[u8]) -> &[u8]
@@ -97,7 +97,7 @@ fn receiver(
     }
 }
 
-/// What is written of the record at a place, of a kind.
+/// The text about the record at a place, by its kind.
 pub(crate) fn part(
     alloc: Global,
     kind: Kind,
@@ -178,7 +178,7 @@ fn push_string_byte(text: &mut Vec<u8>, b: u8) -> Result<(), AllocError>
     }
 }
 
-// Adds bytes as a string of JSON has them.
+// Appends bytes as in a JSON string.
 #[tactic(auto, using(crate::proofs::Lists::lists))]
 fn push_string_bytes(text: &mut Vec<u8>, bytes: &[u8]) -> Result<(), AllocError>
     ensures { OnOk result (text.new.items ≡ text.old.items ++ flat_map string_byte bytes.now) }
@@ -189,7 +189,7 @@ fn push_string_bytes(text: &mut Vec<u8>, bytes: &[u8]) -> Result<(), AllocError>
     Ok(())
 }
 
-// Adds a name as a string of JSON.
+// Appends a name as a JSON string.
 #[tactic(auto, using(crate::proofs::Lists::lists))]
 fn push_name(alloc: Global, text: &mut Vec<u8>, name: &[u8]) -> Result<(), AllocError>
     ensures { OnOk result (text.new.items ≡ text.old.items ++ name_string name.now) }
@@ -201,14 +201,14 @@ fn push_name(alloc: Global, text: &mut Vec<u8>, name: &[u8]) -> Result<(), Alloc
     text.extend_from_slice(b"\"")
 }
 
-// What JSON has before the name of a queue.
+// The JSON before the name of a queue.
 fn json_front(alloc: Global, q: u64) -> Result<String, AllocError>
     ensures { IfOk result (λ text. string_bytes text ≡ json_front q) }
 {
     format!(in alloc; "{{\"queue\":{q},\"name\":")
 }
 
-// What JSON has behind it.
+// The JSON after the name of a queue.
 fn json_rest(alloc: Global, named: bool, limits: Attr) -> Result<String, AllocError>
     ensures { IfOk result (λ text. string_bytes text ≡ json_rest named limits) }
 {
@@ -217,7 +217,7 @@ fn json_rest(alloc: Global, named: bool, limits: Attr) -> Result<String, AllocEr
     format!(in alloc; ",\"named\":{named},\"maxmsg\":{maxmsg},\"msgsize\":{msgsize}")
 }
 
-// What comes first of a queue, as JSON.
+// The start of a queue, as JSON.
 #[tactic(auto, using(crate::proofs::Lists::lists))]
 fn push_queue_json(
     alloc: Global,
@@ -238,7 +238,7 @@ fn push_queue_json(
     Ok(())
 }
 
-// What comes first of a queue, as text.
+// The start of a queue, as text.
 fn queue_text(
     alloc: Global,
     q: u64,
@@ -253,7 +253,8 @@ fn queue_text(
     format!(in alloc; "queue {q}{quoted}{unlinked} limits {maxmsg} {msgsize}\n")
 }
 
-/// Adds what comes first of a queue: the entry that created it, its name, whether that is bound to it, and its limits.
+/// Appends the start of a queue: the entry that created it, its name, whether it is still bound to
+/// that, and its limits.
 #[tactic(auto, using(crate::proofs::Lists::lists))]
 pub(crate) fn push_queue_head(
     alloc: Global,
@@ -292,7 +293,7 @@ fn n_if(nonblock: bool) -> &'static str
     if nonblock { "n" } else { "" }
 }
 
-// What JSON has of a description behind its access.
+// The JSON of a description after its access mode.
 fn json_flag(alloc: Global, nonblock: bool) -> Result<String, AllocError>
     ensures { IfOk result (λ text. string_bytes text ≡ json_flag nonblock) }
 {
@@ -300,7 +301,7 @@ fn json_flag(alloc: Global, nonblock: bool) -> Result<String, AllocError>
     format!(in alloc; "\",\"nonblock\":{value}}}")
 }
 
-// What JSON has of a description behind its queue.
+// The JSON of a description after its queue.
 fn json_access(alloc: Global, h: Description) -> Result<String, AllocError>
     ensures { IfOk result (λ text. string_bytes text ≡ json_access h) }
 {
@@ -309,7 +310,7 @@ fn json_access(alloc: Global, h: Description) -> Result<String, AllocError>
     format!(in alloc; ",\"access\":\"{access}{rest}")
 }
 
-// A descriptor of this description, as JSON.
+// A descriptor with this description, as JSON.
 fn descriptor_json(alloc: Global, d: u32, h: Description) -> Result<String, AllocError>
     ensures { IfOk result (λ text. string_bytes text ≡ descriptor Json d (Some h)) }
 {
@@ -384,7 +385,7 @@ pub(crate) fn wait(
     }
 }
 
-/// What comes first of a process.
+/// The start of a process.
 pub(crate) fn process_head(alloc: Global, form: Form, p: u32) -> Result<String, AllocError>
     ensures { IfOk result (λ text. string_bytes text ≡ process_head form p) }
 {
@@ -394,7 +395,7 @@ pub(crate) fn process_head(alloc: Global, form: Form, p: u32) -> Result<String, 
     }
 }
 
-/// What comes first of a state.
+/// The start of a state.
 pub(crate) fn state_head(alloc: Global, form: Form, len: u64) -> Result<String, AllocError>
     ensures { IfOk result (λ text. string_bytes text ≡ state_head form len) }
 {

@@ -1,4 +1,4 @@
-//! A state, part by part.
+//! The text of a state, part by part.
 #![tactic(auto, using(crate::proofs::Lists::lists))]
 
 ghost use Rattle.std.specs.Prelude.{◌≡◌, ◌++◌, IfOk, OnOk, length, map};
@@ -27,7 +27,7 @@ use mq_model::error_order::{DEFAULT_ATTRIBUTES, attributes_given};
 use mq_model::journals::Journal;
 use std::alloc::{AllocError, Global};
 
-// Adds what is written of a kind, of the record at a place.
+// Appends the text about the record at a place, by its kind.
 fn push_part(
     alloc: Global,
     text: &mut Vec<u8>,
@@ -47,7 +47,7 @@ fn push_part(
     text.extend_from_slice(part.as_bytes())
 }
 
-// The same of each of these places.
+// The same for each of these places.
 fn push_parts(
     alloc: Global,
     text: &mut Vec<u8>,
@@ -68,7 +68,7 @@ fn push_parts(
     Ok(())
 }
 
-// Adds all of a kind that stands in queue `q` or on it.
+// Appends everything of a kind that queue `q` has.
 fn push_kind(
     alloc: Global,
     text: &mut Vec<u8>,
@@ -97,7 +97,7 @@ fn attributes(journal: &Journal, q: u64) -> Attr
     }
 }
 
-// Adds what comes first of a queue.
+// Appends the start of a queue.
 fn push_head(
     alloc: Global,
     text: &mut Vec<u8>,
@@ -117,7 +117,7 @@ fn push_head(
     push_queue_head(alloc, text, form, q, name, named, limits)
 }
 
-// Adds the registration on a queue.
+// Appends the registration on a queue.
 fn push_registration(
     alloc: Global,
     text: &mut Vec<u8>,
@@ -134,7 +134,7 @@ fn push_registration(
     text.extend_from_slice(registration.as_bytes())
 }
 
-// Adds a queue.
+// Appends a queue.
 fn push_queue(
     alloc: Global,
     text: &mut Vec<u8>,
@@ -159,7 +159,7 @@ fn push_queue(
     Ok(())
 }
 
-// Adds these queues.
+// Appends these queues.
 fn push_queues(
     alloc: Global,
     text: &mut Vec<u8>,
@@ -181,7 +181,7 @@ fn push_queues(
     Ok(())
 }
 
-// Adds a descriptor of process `p`.
+// Appends a descriptor of process `p`.
 fn push_descriptor(
     alloc: Global,
     text: &mut Vec<u8>,
@@ -199,7 +199,7 @@ fn push_descriptor(
     text.extend_from_slice(descriptor.as_bytes())
 }
 
-// Adds these descriptors of process `p`.
+// Appends these descriptors of process `p`.
 fn push_descriptors(
     alloc: Global,
     text: &mut Vec<u8>,
@@ -222,7 +222,7 @@ fn push_descriptors(
     Ok(())
 }
 
-// Adds a notice.
+// Appends a notice.
 fn push_notice(alloc: Global, text: &mut Vec<u8>, form: Form, value: u64) -> Result<(), AllocError>
     ensures { OnOk result (text.new.items ≡ text.old.items ++ notice form value) }
 {
@@ -230,7 +230,7 @@ fn push_notice(alloc: Global, text: &mut Vec<u8>, form: Form, value: u64) -> Res
     text.extend_from_slice(notice.as_bytes())
 }
 
-// Adds these notices.
+// Appends these notices.
 fn push_notices(
     alloc: Global,
     text: &mut Vec<u8>,
@@ -249,7 +249,7 @@ fn push_notices(
     Ok(())
 }
 
-// Adds all descriptors of process `p`.
+// Appends all descriptors of process `p`.
 fn push_all_descriptors(
     alloc: Global,
     text: &mut Vec<u8>,
@@ -269,7 +269,7 @@ fn push_all_descriptors(
     form.push(text, "]")
 }
 
-// Adds all notices of process `p`.
+// Appends all notices of process `p`.
 fn push_all_notices(
     alloc: Global,
     text: &mut Vec<u8>,
@@ -286,7 +286,7 @@ fn push_all_notices(
     form.push(text, "]")
 }
 
-// Adds what comes first of process `p`.
+// Appends the start of process `p`.
 fn push_process_head(
     alloc: Global,
     text: &mut Vec<u8>,
@@ -299,7 +299,7 @@ fn push_process_head(
     text.extend_from_slice(head.as_bytes())
 }
 
-// Adds the open wait of process `p`.
+// Appends the open wait of process `p`.
 fn push_wait(
     alloc: Global,
     text: &mut Vec<u8>,
@@ -321,7 +321,7 @@ fn push_wait(
     text.extend_from_slice(wait.as_bytes())
 }
 
-// Adds a process.
+// Appends a process.
 fn push_process(
     alloc: Global,
     text: &mut Vec<u8>,
@@ -343,7 +343,7 @@ fn push_process(
     Ok(())
 }
 
-// Adds these processes.
+// Appends these processes.
 fn push_processes(
     alloc: Global,
     text: &mut Vec<u8>,
@@ -365,7 +365,8 @@ fn push_processes(
     Ok(())
 }
 
-/// The state after a journal, in a form. It reads the journal a few times for each queue and each process.
+/// The state after a journal, in this form. It reads the journal a few times for each queue and
+/// each process. Fails if memory was refused.
 pub fn state_of(alloc: Global, journal: &Journal, form: Form) -> Result<Vec<u8>, AllocError>
     requires { Legal journal.now.records }
     ensures { IfOk result (λ text. text.items ≡ state form journal.now.records) }
