@@ -15,19 +15,19 @@ count_below p ps = count_by (λ q. nat_lt q p) ps
 abbrev pub with_process : Process → List Process → List Process
 with_process p ps = if list_any (λ q. q == p) ps then ps else take 41 (insert ps (count_below p ps) p)
 
--- the processes that occur, in the order of their numbers: where there are more than 41, the lowest 41
+-- the processes that occur, by rising number: at most the lowest 41
 unfoldable pub processes : Past → List Process
 processes [] = []
 processes (r ∷ past) = with_process r.entry.process (processes past)
 
--- the first entry behind a wait that answers or withdraws it
+-- the first entry after a wait that serves or withdraws it
 unfoldable pub ending : Place → Past → Option Place
 ending wait [] = None
 ending wait (r ∷ past) =
     option_or (ending wait past)
     (if nat_lt wait (length past) && is_place wait (ended_wait r.entry.reply) then Some (length past) else None)
 
--- the last entry of a process, if that blocked
+-- the last entry of a process, if that waits
 unfoldable pub wait_begun : Past → Process → Option Place
 wait_begun past p = open_wait past p
 
@@ -37,7 +37,7 @@ descriptor_sent (MqSend d prio len) = Some d
 descriptor_sent (MqTimedSend d prio len until now) = Some d
 descriptor_sent call = None
 
--- the name that was given to the latest open of a process that gave it descriptor d
+-- the name in the latest open of a process that returned descriptor d
 unfoldable pub queue_named : Past → Process → Descriptor → List ℕ
 queue_named [] p d = []
 queue_named (r ∷ past) p d =
@@ -48,6 +48,6 @@ abbrev pub name_under : Past → Process → Option Descriptor → List ℕ
 name_under past p None = []
 name_under past p (Some d) = queue_named past p d
 
--- the name of the queue that process p sends to by this call
+-- the name of the queue to which process p sends by this call
 abbrev pub name_by : Past → Process → Call → List ℕ
 name_by past p call = name_under past p (descriptor_sent call)

@@ -1,4 +1,5 @@
--- What a picture shows of an entry: its mark, the bar of the wait that it begins, and the arrow of a message that it takes or hands over.
+-- The shapes that a picture shows for an entry: its mark, the bar of the wait that it begins, and
+-- the arrow of a message that it receives or hands over.
 use Rattle.std.specs.Prelude.{ℕ, ◌+◌, ◌-◌, ◌*◌, ◌%◌, ◌/◌, min, nat_lt, List, length, Option, None, Some, if◌then◌else◌}
 use Rattle.std.specs.Option.{option_map}
 use Rattle.text_io.specs.Words.{◌>>=◌}
@@ -13,34 +14,37 @@ use Rattle.journal_picture.specs.Found.{count_below, ending, wait_begun}
 use Rattle.journal_picture.specs.declared.shapes.Stroke.{Stroke}
 use Rattle.journal_picture.specs.declared.shapes.Flight.{Flight}
 
--- where the lane of a process lies. The last of 41 is that of all others
+-- The x coordinate of the lane of a process. The last of 41 is shared by all others.
 abbrev pub lane : List Process → Process → ℕ
 lane ps p = (min (count_below p ps) 40 + 1) * 60
 
--- where the entry lies that is the k-th shown: rows of 16 points, and one for the numbers of the lanes before each fiftieth
+-- The y coordinate of the k-th entry shown. Rows are 16 points high, and before each fiftieth is a
+-- row for the numbers of the lanes.
 abbrev pub depth : ℕ → ℕ
 depth k = (k + k / 50) * 16 + 60
 
--- the row of a place in a picture that begins at the place `from`: what stands before that is at the upper edge
+-- The y coordinate of a place in a picture that starts at the place `from`. Earlier places are at
+-- the upper edge.
 abbrev pub row : Place → Place → ℕ
 row from place = if nat_lt place from then 30 else depth (place - from)
 
--- the lower edge of a picture of so many entries
+-- the lower edge of a picture of `count` entries
 abbrev pub height : ℕ → ℕ
 height count = depth count + 20
 
--- an entry that stands before this place
+-- the entry at the place `other`, if that is before `place`
 unfoldable pub entry_before : Past → Place → Place → Option Entry
 entry_before past place other = if nat_lt other place then option_map (λ r. r.entry) (record_at past other) else None
 
--- the bar of a wait of process p that was ended at this place, or in no entry up to the last that is shown: to the lower edge
+-- The bar of a wait of process p that ended at this place. If it did not end by the last entry
+-- shown, the bar goes to the lower edge.
 abbrev pub bar_to : List Process → Place → ℕ → Process → Place → Option Place → Option Stroke
 bar_to ps from count p wait None = Some (record { x1 = lane ps p; y1 = row from wait; x2 = lane ps p; y2 = height count })
 bar_to ps from count p wait (Some end) =
     if nat_lt end from then None
     else Some (record { x1 = lane ps p; y1 = row from wait; x2 = lane ps p; y2 = row from end })
 
--- the bar of a wait of process p: in its lane, from its call to its end, as far as they are shown
+-- the bar of a wait of process p: in its lane, from its call to its end, as far as these are shown
 abbrev pub bar : Past → List Process → Place → ℕ → Process → Place → Option Stroke
 bar past ps from count p wait = bar_to ps from count p wait (ending wait (first (from + count) past))
 
@@ -48,7 +52,7 @@ bar past ps from count p wait = bar_to ps from count p wait (ending wait (first 
 abbrev pub bar_of : Past → List Process → Place → ℕ → Place → Entry → Option Stroke
 bar_of past ps from count place e = if is_wait e.reply then bar past ps from count e.process place else None
 
--- the bar of the wait that a process is in where the picture begins
+-- the bar of the wait that a process is in when the picture starts
 abbrev pub bar_before : Past → List Process → Place → ℕ → Process → Option Stroke
 bar_before past ps from count p = do
   wait ← wait_begun (first from past) p
@@ -68,7 +72,7 @@ arrow_got past ps from place e sent = do
     sent = sent;
   })
 
--- the arrow of a message that was handed to a receive that waits: to its lane
+-- the arrow of a message that was handed to a waiting receive: to its lane
 abbrev pub arrow_handed : Past → List Process → Place → Place → Entry → Place → Option Flight
 arrow_handed past ps from place e wait = do
   receiver ← entry_before past place wait
@@ -83,6 +87,6 @@ arrow_by past ps from place e (reply.Got sent admitted notified) = arrow_got pas
 arrow_by past ps from place e (reply.Handed wait) = arrow_handed past ps from place e wait
 arrow_by past ps from place e reply = None
 
--- the arrow of the message that an entry takes or hands over
+-- the arrow of the message that an entry receives or hands over
 abbrev pub arrow : Past → List Process → Place → Place → Entry → Option Flight
 arrow past ps from place e = arrow_by past ps from place e e.reply

@@ -1,8 +1,8 @@
--- The colours of a picture, and the tips of its arrows.
+-- The colours of a picture, and its arrowheads.
 use Rattle.std.specs.Prelude.{List, ℕ, [], ◌∷◌, ◌++◌, codes}
 use Rattle.std.specs.List.{flat_map}
 
--- a mark: of a refusal, of a call that waits, of a notice, and of any other
+-- the colours of a mark: of an error, of a call that waits, of a notice, and of any other
 abbrev pub red : List ℕ
 red = codes "#c0392b"
 
@@ -28,7 +28,7 @@ abbrev pub hues : List (List ℕ)
 hues =
     codes "0" ∷ codes "30" ∷ codes "60" ∷ codes "90" ∷ codes "120" ∷ codes "150" ∷ codes "180" ∷ codes "210" ∷ codes "240" ∷ codes "270" ∷ codes "300" ∷ codes "330" ∷ []
 
--- the tip of an arrow of a hue
+-- the arrowhead of a hue
 abbrev pub tip_text : List ℕ → List ℕ
 tip_text hue =
     codes "<marker id=\"tip" ++ (hue ++ (codes "\" viewBox=\"0 0 8 8\" refX=\"10\" refY=\"4\" markerWidth=\"7\" markerHeight=\"7\" orient=\"auto\"><path d=\"M0 0L8 4L0 8z\" fill=\"hsl(" ++

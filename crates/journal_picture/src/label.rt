@@ -5,13 +5,13 @@ ghost use Rattle.journal_picture.specs.Label.{label, named};
 
 use std::alloc::AllocError;
 
-/// The most bytes of a line that are shown, without its feed.
+/// The maximum number of bytes shown of a line, without its line feed.
 const MOST_BYTES: usize = 100;
 
-/// What stands for the bytes that are left out.
+/// What replaces the bytes that are left out.
 const CUT: &[u8] = b".. -> ";
 
-/// Adds the text of a line as a picture writes it. A line that is cut keeps its reply.
+/// Appends the text of a line, escaped as a picture needs. A line that is cut keeps its reply.
 #[tactic(auto, using(crate::proofs::Steps::named_steps))]
 pub fn push_label(text: &mut Vec<u8>, line: &[u8], reply: &[u8]) -> Result<(), AllocError>
     ensures { OnOk result (text.new.items ≡ text.old.items ++ label line.now reply.now) }
@@ -25,7 +25,7 @@ pub fn push_label(text: &mut Vec<u8>, line: &[u8], reply: &[u8]) -> Result<(), A
     push_named(text, reply)
 }
 
-/// Adds bytes as a picture writes them.
+/// Appends bytes, escaped as a picture needs.
 pub fn push_named(text: &mut Vec<u8>, bytes: &[u8]) -> Result<(), AllocError>
     ensures { OnOk result (text.new.items ≡ text.old.items ++ flat_map named bytes.now) }
 {

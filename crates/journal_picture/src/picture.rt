@@ -14,13 +14,13 @@ use mq_model::entries::{Entry, Reply};
 use mq_model::journals::Journal;
 use std::alloc::{AllocError, Global};
 
-/// The most entries of a picture.
+/// The maximum number of entries of a picture.
 pub const MOST_ENTRIES: u64 = 2000;
 
-/// What a picture of an empty journal says.
+/// The text in a picture of an empty journal.
 const EMPTY: &[u8] = b"<text class=\"queue\" x=\"60\" y=\"12\">the journal is empty</text>\n";
 
-/// Colours, and the tips of arrows: one for each hue.
+/// The colours, and the arrowheads: one for each hue.
 const STYLE: &str = "<style>\
 text{font:12px monospace}\
 text.lane{text-anchor:middle;font-weight:bold;paint-order:stroke;stroke:#fff;stroke-width:4}\
@@ -49,7 +49,7 @@ g.refused{fill:#c0392b}\
 </defs>
 ";
 
-/// A picture of a journal, in the language SVG, of so many entries from the place `from` on.
+/// A picture of a journal in SVG, with `count` entries from the place `from` on.
 pub fn picture_of(
     alloc: Global,
     journal: &Journal,
@@ -75,7 +75,7 @@ pub fn picture_of(
     Ok(text)
 }
 
-// The front of a picture: its size, its colours, and the tips of arrows.
+// The start of a picture: its size, its colours, and the arrowheads.
 #[tactic(auto, unfolding(crate::specs::Picture::front_text), using(crate::proofs::Styled::style_is))]
 fn front_text(alloc: Global, width: u64, height: u64) -> Result<String, AllocError>
     ensures { IfOk result (λ text. string_bytes text ≡ front_text width height) }
@@ -85,7 +85,7 @@ fn front_text(alloc: Global, width: u64, height: u64) -> Result<String, AllocErr
     )
 }
 
-// Adds what stands above the lanes: that the journal is empty, or how many entries are left out.
+// Appends what is above the lanes: that the journal is empty, or how many entries are left out.
 #[tactic(auto, unfolding(crate::specs::Picture::note_text))]
 fn push_note(
     alloc: Global,
@@ -104,7 +104,7 @@ fn push_note(
     push_left_out(alloc, text, from, journal.len() - (from + count))
 }
 
-// Adds how many entries are left out, before those that are shown and behind them.
+// Appends how many entries are left out, before those that are shown and after them.
 #[tactic(auto, unfolding(crate::specs::Picture::left_out_text))]
 fn push_left_out(
     alloc: Global,
@@ -124,7 +124,7 @@ fn push_left_out(
     text.extend_from_slice(line.as_bytes())
 }
 
-// Adds the lanes.
+// Appends the lanes.
 fn push_lanes(
     alloc: Global,
     text: &mut Vec<u8>,
@@ -142,7 +142,7 @@ fn push_lanes(
     Ok(())
 }
 
-// Adds the lane of a process.
+// Appends the lane of a process.
 #[tactic(auto, unfolding(crate::specs::Picture::lane_text))]
 fn push_lane(
     alloc: Global,
@@ -189,7 +189,7 @@ fn number_text(alloc: Global, processes: &[u32], p: u32) -> Result<String, Alloc
     }
 }
 
-// Adds the number of a process n times: before the first row, and before each fiftieth.
+// Appends the number of a process n times: before the first row, and before each fiftieth.
 #[tactic(auto, using(crate::proofs::Steps::heads_steps))]
 fn push_heads(
     alloc: Global,
@@ -208,7 +208,7 @@ fn push_heads(
     Ok(())
 }
 
-// A text in a lane, at this distance and height.
+// A text in a lane, at these coordinates.
 #[tactic(auto, unfolding(crate::specs::Picture::head_text))]
 fn head_text(alloc: Global, x: u64, y: u64, number: &str) -> Result<String, AllocError>
     ensures { IfOk result (λ text. string_bytes text ≡ head_text x y number.now) }
@@ -216,7 +216,7 @@ fn head_text(alloc: Global, x: u64, y: u64, number: &str) -> Result<String, Allo
     format!(in alloc; "<text class=\"lane\" x=\"{x}\" y=\"{y}\">{number}</text>\n")
 }
 
-// Adds what is shown of the entries.
+// Appends the entries.
 #[tactic(auto, using(crate::proofs::Steps::entries_steps))]
 fn push_entries(
     alloc: Global,
@@ -236,7 +236,7 @@ fn push_entries(
     Ok(())
 }
 
-// Adds what is shown of the entry at a place.
+// Appends the entry at a place.
 #[tactic(auto, unfolding(crate::specs::Picture::last_text), using(mq_model::proofs::Prefixes::prefixes))]
 fn push_entry(
     alloc: Global,
@@ -256,7 +256,7 @@ fn push_entry(
     push_record(alloc, text, journal, frame, place, entry, payload)
 }
 
-// Adds what is shown of an entry with its payload.
+// Appends an entry with its payload.
 #[tactic(auto, unfolding(crate::specs::Picture::record_text))]
 fn push_record(
     alloc: Global,
@@ -280,7 +280,7 @@ fn push_record(
     push_arrow(alloc, text, journal, arrow(journal, frame, place, entry))
 }
 
-// Adds the mark of an entry.
+// Appends the mark of an entry.
 #[tactic(auto, unfolding(crate::specs::Picture::mark_text))]
 fn push_mark(
     alloc: Global,
@@ -308,7 +308,7 @@ fn push_mark(
     text.extend_from_slice(b"</text></g>\n")
 }
 
-// Where the lines stand.
+// The x coordinate of the texts of the entries.
 fn column(processes: &[u32]) -> u64
     ensures column { result ≡ column processes.now }
     ensures bound { result < 2 ^ 40 }
@@ -316,7 +316,7 @@ fn column(processes: &[u32]) -> u64
     (processes.len().min(41) as u64 + 1) * 60
 }
 
-// The front of a mark at a point, whose line stands in the column of lines.
+// The start of a mark at a point, whose text begins at `column`.
 #[tactic(auto, unfolding(crate::specs::Picture::mark_front))]
 fn mark_front(
     alloc: Global,
@@ -347,7 +347,7 @@ fn kind(reply: Reply) -> &'static str
     }
 }
 
-// The ends of a line.
+// The end points of a line.
 #[tactic(auto, unfolding(crate::specs::Picture::ends_text))]
 fn ends_text(alloc: Global, stroke: Stroke) -> Result<String, AllocError>
     ensures { IfOk result (λ text. string_bytes text ≡ ends_text stroke) }
@@ -356,7 +356,7 @@ fn ends_text(alloc: Global, stroke: Stroke) -> Result<String, AllocError>
     format!(in alloc; "x1=\"{x1}\" y1=\"{y1}\" x2=\"{x2}\" y2=\"{y2}\"")
 }
 
-// Adds the bar of a wait, if there is one.
+// Appends the bar of a wait, if there is one.
 #[tactic(auto, unfolding(crate::specs::Picture::bar_text))]
 fn push_bar(alloc: Global, text: &mut Vec<u8>, bar: Option<Stroke>) -> Result<(), AllocError>
     ensures { OnOk result (text.new.items ≡ text.old.items ++ bar_text bar) }
@@ -371,7 +371,7 @@ fn push_bar(alloc: Global, text: &mut Vec<u8>, bar: Option<Stroke>) -> Result<()
     }
 }
 
-// Adds the arrow of a message, if there is one, and where it begins the name of its queue.
+// Appends the arrow of a message, if there is one, and at its start the name of its queue.
 #[tactic(auto, unfolding(crate::specs::Picture::arrow_text))]
 fn push_arrow(
     alloc: Global,
@@ -398,7 +398,7 @@ fn push_arrow(
     push_name(alloc, text, stroke.x1, stroke.y1, name)
 }
 
-// An arrow of a hue.
+// An arrow in a hue.
 #[tactic(auto, unfolding(crate::specs::Picture::flight_text))]
 fn flight_text(alloc: Global, stroke: Stroke, hue: u32) -> Result<String, AllocError>
     ensures { IfOk result (λ text. string_bytes text ≡ flight_text stroke hue) }
@@ -409,7 +409,7 @@ fn flight_text(alloc: Global, stroke: Stroke, hue: u32) -> Result<String, AllocE
     )
 }
 
-// The front of the name of a queue, beside this point.
+// The start of the name of a queue, beside this point.
 #[tactic(auto, unfolding(crate::specs::Picture::name_front))]
 fn name_front(alloc: Global, x: u64, y: u64) -> Result<String, AllocError>
     requires { x < 2 ^ 40 }
@@ -419,7 +419,7 @@ fn name_front(alloc: Global, x: u64, y: u64) -> Result<String, AllocError>
     format!(in alloc; "<text class=\"queue\" x=\"{right}\" y=\"{up}\">")
 }
 
-// Adds the name of a queue beside this point.
+// Appends the name of a queue beside this point.
 #[tactic(auto, unfolding(crate::specs::Picture::name_text))]
 fn push_name(
     alloc: Global,
@@ -438,7 +438,7 @@ fn push_name(
     text.extend_from_slice(b"</text>\n")
 }
 
-// At most so many of the first bytes.
+// The first bytes, at most `most`.
 fn first_bytes(bytes: &[u8], most: usize) -> &[u8]
     ensures { result.now ≡ take most bytes.now }
 {

@@ -1,4 +1,4 @@
-//! What a picture shows of an entry beside its mark.
+//! The shapes that a picture shows for an entry, besides its mark.
 ghost use Rattle.std.specs.Prelude.{◌≡◌, ◌≤◌, ◌<◌, ◌+◌, ◌-◌, ◌^◌, length, IfSome};
 ghost use Rattle.std.specs.Option.{OnSome};
 ghost use Rattle.journal_picture.specs.Shapes.{arrow, arrow_got, arrow_handed, bar, bar_before, bar_of, depth, entry_before, height, hue, lane, row};
@@ -24,7 +24,7 @@ pub struct Stroke {
     pub y2: u64,
 }
 
-/// The way of a message, from its send, which stands at the place `sent`.
+/// The arrow of a message, with the send at the place `sent`.
 #[derive(Clone, Copy, Debug, PartialEq, Eq)]
 pub struct Flight {
     pub stroke: Stroke,
@@ -32,7 +32,7 @@ pub struct Flight {
     pub sent: u64,
 }
 
-/// Where the lane of a process lies.
+/// The x coordinate of the lane of a process.
 pub fn lane(processes: &[u32], p: u32) -> u64
     ensures lane { result ≡ lane processes.now p }
     ensures bound { result < 2 ^ 40 }
@@ -40,7 +40,7 @@ pub fn lane(processes: &[u32], p: u32) -> u64
     (count_below(p, processes).min(40) as u64 + 1) * 60
 }
 
-/// Where the entry lies that is the k-th shown.
+/// The y coordinate of the k-th entry shown.
 pub fn depth(k: u64) -> u64
     requires { k < 2 ^ 32 }
     ensures depth { result ≡ depth k }
@@ -49,7 +49,7 @@ pub fn depth(k: u64) -> u64
     (k + k / 50) * 16 + 60
 }
 
-/// The row of a place in a picture that begins at the place `from`.
+/// The y coordinate of a place, in a picture that starts at the place `from`.
 pub fn row(from: u64, place: u64) -> u64
     requires { place - from < 2 ^ 32 }
     ensures row { result ≡ row from place }
@@ -62,7 +62,7 @@ pub fn row(from: u64, place: u64) -> u64
     }
 }
 
-/// The lower edge of a picture of so many entries.
+/// The lower edge of a picture of `count` entries.
 pub fn height(count: u64) -> u64
     requires { count < 2 ^ 32 }
     ensures { result ≡ height count }
@@ -70,7 +70,7 @@ pub fn height(count: u64) -> u64
     depth(count) + 20
 }
 
-// An entry that stands before this place.
+// The entry at the place `other`, if that is before `place`.
 #[tactic(auto, unfolding(crate::specs::Shapes::entry_before))]
 fn entry_before(journal: &Journal, place: u64, other: u64) -> Option<Entry>
     ensures entry { result ≡ entry_before journal.now.records place other }
@@ -125,7 +125,7 @@ pub fn bar_of(journal: &Journal, frame: &Frame, place: u64, entry: Entry) -> Opt
     }
 }
 
-/// The bar of the wait that a process is in where the picture begins.
+/// The bar of the wait that a process is in when the picture starts.
 pub fn bar_before(journal: &Journal, frame: &Frame, p: u32) -> Option<Stroke>
     requires shown { frame.now.from + frame.now.count ≤ length journal.now.records }
     requires few { frame.now.count ≤ 2000 }
@@ -144,7 +144,7 @@ pub fn hue(call: Call) -> u32
     call.priority() % 12 * 30
 }
 
-/// The arrow of the message that an entry takes or hands over.
+/// The arrow of the message that an entry receives or hands over.
 pub fn arrow(journal: &Journal, frame: &Frame, place: u64, entry: Entry) -> Option<Flight>
     requires { place - frame.now.from < 2 ^ 32 }
     ensures arrow { result ≡ arrow journal.now.records frame.now.processes.items frame.now.from
@@ -187,7 +187,7 @@ fn arrow_got(
     })
 }
 
-// The arrow of a message that was handed to a receive that waits: to its lane.
+// The arrow of a message that was handed to a waiting receive: to its lane.
 fn arrow_handed(
     journal: &Journal,
     frame: &Frame,

@@ -1,4 +1,4 @@
--- What the words of a script's lines write.
+-- What the words of a script's lines mean.
 use Rattle.std.specs.Prelude.{ℕ, Bool, true, false, ◌&&◌, ◌==◌, nat_le, List, [], ◌∷◌, count_by, Option, None, Some, if◌then◌else◌, codes}
 use Rattle.std.specs.List.{list_all, list_any}
 use Rattle.std.specs.Str.{bytes_eq}
@@ -15,14 +15,14 @@ use Rattle.script_text.specs.Verbs.{verb_written}
 use Rattle.script_text.specs.declared.verb.Verb.{Verb}
 use Rattle.script_text.specs.declared.verb.Verb.TheVariants as verb
 
--- the access that a letter gives: r, w or b
+-- the access mode of a letter: r, w or b
 abbrev pub access_written : ℕ → Option Access
 access_written letter = if letter == 114 then Some Read else (if letter == 119 then Some Write else (if letter == 98 then Some Both else None))
 
 abbrev pub is_at_most_once : List ℕ → ℕ → Bool
 is_at_most_once letters letter = nat_le (count_by (λ b. b == letter) letters) 1
 
--- the letters for create, excl and nonblock
+-- the letters for create, exclusive and nonblocking
 abbrev pub option_letters : List ℕ
 option_letters = codes "cxn"
 
@@ -33,7 +33,8 @@ is_option_letter b = list_any (λ letter. letter == b) option_letters
 abbrev pub are_options : List ℕ → Bool
 are_options letters = list_all is_option_letter letters && list_all (is_at_most_once letters) option_letters
 
--- the flags of an open: the letter of its access, then c for create, x for excl, n for nonblock
+-- the flags of an open: the letter of its access mode, then c for create, x for exclusive, n for
+-- nonblocking
 abbrev pub flags_written : Word → Option OpenFlags
 flags_written [] = None
 flags_written (letter ∷ letters) = do
@@ -51,7 +52,7 @@ flag_written word = do
   n ← number_written 64 word
   if n == 0 then Some false else (if n == 1 then Some true else None)
 
--- the length of a buffer, at most 65,536
+-- a buffer length, at most 65,536
 abbrev pub room_written : Word → Option ℕ
 room_written word = do
   n ← number_written 32 word
@@ -72,7 +73,7 @@ attr_written (maxmsg ∷ msgsize ∷ []) = do
   Some (Some (record { maxmsg = maxmsg; msgsize = msgsize }))
 attr_written words = None
 
--- what the words after each verb write
+-- what the words after each verb mean
 abbrev pub open_written : List Word → Option (Command Word)
 open_written (name ∷ flags ∷ limits) = do
   flags ← flags_written flags
@@ -90,7 +91,7 @@ abbrev pub unlink_written : List Word → Option (Command Word)
 unlink_written (name ∷ []) = Some (command.Unlink name)
 unlink_written words = None
 
--- without a text the message has 0 bytes
+-- without a text the message is empty
 abbrev pub send_written : List Word → Option (Command Word)
 send_written (d ∷ prio ∷ []) = do
   d ← number_written 32 d
@@ -109,14 +110,14 @@ receive_written (d ∷ room ∷ []) = do
   Some (command.Receive d room)
 receive_written words = None
 
--- the seconds and nanoseconds of a deadline, any integers of 64 bits
+-- the seconds and nanoseconds of a deadline, any 64-bit integers
 abbrev pub deadline_written : Word → Word → Option Deadline
 deadline_written sec nsec = do
   sec ← integer_written sec
   nsec ← integer_written nsec
   Some (record { sec = sec; nsec = nsec })
 
--- the message of a send, which may be left out: then it has 0 bytes
+-- the message of a send; if it is left out, the message is empty
 abbrev pub text_written : List Word → Option Word
 text_written [] = Some []
 text_written (text ∷ []) = Some text
@@ -171,7 +172,8 @@ abbrev pub exit_written : List Word → Option (Command Word)
 exit_written [] = Some command.Exit
 exit_written words = None
 
--- the call that a verb and the words after it write. Who waits collects by itself, so no line of a script does
+-- The call that a verb and the words after it mean. A call that waits collects by itself, so no
+-- line of a script does.
 abbrev pub call_written : Verb → List Word → Option (Command Word)
 call_written verb.Open = open_written
 call_written verb.Close = close_written
@@ -188,14 +190,14 @@ call_written verb.Exit = exit_written
 call_written verb.Collect = λ words. None
 call_written verb.Withdraw = λ words. None
 
--- the call that the words after the process write
+-- the call that the words after the process mean
 abbrev pub command_written : List Word → Option (Command Word)
 command_written [] = None
 command_written (word ∷ arguments) = do
   verb ← verb_written word
   call_written verb arguments
 
--- a command of the program, seen without where its bytes lie
+-- a command of the program, without the positions of its bytes
 abbrev pub said : Command (Bor Word) → Command Word
 said (command.Open name flags attr) = command.Open name.now flags attr
 said (command.Close d) = command.Close d

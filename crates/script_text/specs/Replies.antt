@@ -5,7 +5,7 @@ use Rattle.mq_model.specs.Fault.{text_of}
 use Rattle.script_text.specs.declared.reply.Outcome.{Outcome}
 use Rattle.script_text.specs.declared.reply.Outcome.TheVariants.{Opened, Done, Got, Attrs, Notice, Refused}
 
--- 1 for nonblock, else 0
+-- 1 if nonblocking, else 0
 abbrev pub flag_text : Bool → List ℕ
 flag_text nonblock = decimal (if nonblock then 1 else 0)
 
@@ -22,12 +22,12 @@ outcome_text (Notice (Some value)) = codes "notice " ++ decimal value
 outcome_text (Notice None) = codes "notice none"
 outcome_text (Refused fault) = text_of fault
 
--- a space and the message, where it has bytes
+-- a space and the message, if it has bytes
 abbrev pub message_text : List ℕ → List ℕ
 message_text [] = []
 message_text (b ∷ bytes) = codes " " ++ (b ∷ bytes)
 
--- the message that a receive put into the front of its buffer
+-- the message that a receive copied to the start of its buffer
 abbrev pub message_received : Outcome → List ℕ → List ℕ
 message_received (Got received) buffer = take received.len buffer
 message_received outcome buffer = []
@@ -37,7 +37,7 @@ abbrev pub message_len : Outcome → ℕ
 message_len (Got received) = received.len
 message_len outcome = 0
 
--- the message that was received lies in the buffer
+-- the message that was received is within the buffer
 abbrev pub HasMessage : Outcome → ℕ → Type 0
 HasMessage outcome room = message_len outcome ≤ room
 

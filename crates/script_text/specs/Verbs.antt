@@ -25,6 +25,6 @@ verb_text verb.Withdraw = codes "withdraw"
 abbrev pub verbs : List Verb
 verbs = verb.Open ∷ verb.Close ∷ verb.Unlink ∷ verb.Send ∷ verb.Receive ∷ verb.TimedSend ∷ verb.TimedReceive ∷ verb.Getattr ∷ verb.Setattr ∷ verb.Notify ∷ verb.Notice ∷ verb.Exit ∷ verb.Collect ∷ verb.Withdraw ∷ []
 
--- the verb that a word is
+-- the verb with this word
 unfoldable pub verb_written : Word → Option Verb
 verb_written word = find (λ verb. bytes_eq word (verb_text verb)) verbs

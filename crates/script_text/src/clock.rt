@@ -5,7 +5,7 @@ ghost use Rattle.mq_model.specs.Deadlines.{is_moment};
 use mq_model::clock::Clock;
 use mq_model::entries::Deadline;
 
-/// A clock that gives one moment.
+/// A clock that always returns the same time.
 #[derive(Clone, Copy, Debug, PartialEq, Eq)]
 pub struct FixedClock {
     pub moment: Deadline,

@@ -1,4 +1,4 @@
-//! The calls of a script, and the words that write them.
+//! The calls of a script, and the words for them.
 ghost use Rattle.std.specs.Prelude.{◌≡◌, map};
 ghost use Rattle.std.specs.List.{list_all};
 ghost use Rattle.std.specs.Option.{option_map};
@@ -9,7 +9,8 @@ use mq_model::entries::{Access, Attr, Deadline, OpenFlags};
 use mq_model::limits::MESSAGE_BYTES;
 use text_io::words::{integer, number, small_number};
 
-/// A call of a script. `T` holds the bytes of names and messages: in a program, a slice of the script.
+/// A call of a script. `T` holds the bytes of names and messages. In a program it is a slice of the
+/// script.
 #[derive(Clone, Copy)]
 pub enum Command<T> {
     Open {
@@ -58,7 +59,7 @@ pub enum Command<T> {
     Exit,
 }
 
-/// The access that a letter gives.
+/// The access mode of a letter.
 fn access_of(letter: u8) -> Option<Access>
     ensures { result ≡ access_written letter }
 {
@@ -70,10 +71,10 @@ fn access_of(letter: u8) -> Option<Access>
     }
 }
 
-/// The letters for create, excl and nonblock.
+/// The letters for create, exclusive and nonblocking.
 const OPTION_LETTERS: [u8; 3] = *b"cxn";
 
-// The letters of an open after its access: each at most once.
+// The letters of an open after its access mode: each at most once.
 fn are_options(letters: &[u8]) -> bool
     ensures { result ≡ are_options letters.now }
 {
@@ -106,7 +107,7 @@ fn is_at_most_once(letters: &[u8], letter: u8) -> bool
     letters.iter().filter(|b| **b == letter).count() <= 1
 }
 
-/// The flags of an open: a letter for the access, then letters for what is set.
+/// The flags of an open: a letter for the access mode, then letters for those that are set.
 pub fn flags_of(word: &[u8]) -> Option<OpenFlags>
     ensures { result ≡ flags_written word.now }
 {
@@ -123,7 +124,7 @@ pub fn flags_of(word: &[u8]) -> Option<OpenFlags>
     })
 }
 
-/// The new nonblock of a `setattr`.
+/// The new nonblocking flag of a `setattr`.
 fn flag_of(word: &[u8]) -> Option<bool>
     ensures { result ≡ flag_written word.now }
 {
@@ -134,7 +135,7 @@ fn flag_of(word: &[u8]) -> Option<bool>
     }
 }
 
-/// The length of the buffer of a `recv` or `trecv`, at most that of the longest message.
+/// The buffer length of a `recv` or `trecv`, at most that of the longest message.
 fn room_of(word: &[u8]) -> Option<usize>
     ensures { result ≡ room_written word.now }
 {
@@ -145,7 +146,7 @@ fn room_of(word: &[u8]) -> Option<usize>
     Some(room as usize)
 }
 
-/// The call that the words after the process write.
+/// The call that the words after the process mean.
 pub fn command_of<'s>(words: &[&'s [u8]]) -> Option<Command<&'s [u8]>>
     ensures { option_map said result ≡ command_written (map (λ word. word.now) words.now) }
 {
@@ -302,7 +303,7 @@ fn until_of(words: &[&[u8]]) -> Option<Deadline>
     }
 }
 
-/// The seconds and nanoseconds of a deadline, which may be any.
+/// The seconds and nanoseconds of a deadline. Their ranges are not checked.
 pub fn deadline_of(sec: &[u8], nsec: &[u8]) -> Option<Deadline>
     ensures { result ≡ deadline_written sec.now nsec.now }
 {

@@ -10,9 +10,9 @@ use std::fmt;
 /// Why a script was not read.
 #[derive(Clone, Copy, Debug, PartialEq, Eq)]
 pub enum ScriptFault {
-    /// The script is at fault in this line, counted from 1.
+    /// This line of the script, counted from 1, is wrong.
     BadCall(u64),
-    /// An allocation was refused.
+    /// Memory was refused.
     NoMemory,
 }
 

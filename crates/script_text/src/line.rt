@@ -1,4 +1,4 @@
-//! The lines of a script, and what they write.
+//! The lines of a script, and what they mean.
 ghost use Rattle.std.specs.Prelude.{◌≡◌, ◌≤◌, ◌<◌, ◌∷◌, IfSome, ◌==◌, true, length, map, position};
 ghost use Rattle.std.specs.Option.{option_map};
 ghost use Rattle.mq_model.specs.Deadlines.{is_moment};
@@ -10,7 +10,7 @@ use mq_model::entries::Deadline;
 use mq_model::limits::{NANOSECONDS, PROCESSES};
 use text_io::words::count_of;
 
-/// A call with its process, the line that it stands in, counted from 1, and the clock of its phase.
+/// A call with its process, its line, counted from 1, and the clock of its phase.
 #[derive(Clone, Copy)]
 pub struct ScriptCall<T> {
     pub process: u32,
@@ -22,13 +22,13 @@ pub struct ScriptCall<T> {
 /// The time of a phase that is being read.
 #[derive(Clone, Copy)]
 pub struct PhaseTime {
-    /// The moment that its clocks give.
+    /// The time that its clocks return.
     pub moment: Deadline,
-    /// Whether it has a call: then no clock line may follow.
+    /// Whether the phase has a call. Then no clock line may follow.
     pub begun: bool,
 }
 
-/// What a line writes. `C` is a call with its process.
+/// What a line means. `C` is a call with its process.
 #[derive(Clone, Copy)]
 pub enum Line<C> {
     /// Nothing: an empty line, or a comment.
@@ -37,7 +37,7 @@ pub enum Line<C> {
     Processes(u32),
     /// The end of a phase.
     PhaseEnd,
-    /// The moment that the clocks give from here on.
+    /// The time that the clocks return from here on.
     Clock(Deadline),
     Call(C),
 }
@@ -65,7 +65,7 @@ impl PhaseTime {
     }
 }
 
-/// The first line, with the feed that ends it, and the bytes after it.
+/// The first line, with its line feed, and the bytes after it.
 pub fn first_line(text: &[u8]) -> (&[u8], &[u8])
     requires { 0 < length text.now }
     ensures lines { lines_of text.now ≡ result.0.now ∷ lines_of result.1.now }
@@ -84,8 +84,8 @@ fn first_feed(text: &[u8]) -> Option<usize>
     text.iter().position(|b| *b == b'\n')
 }
 
-/// What the words of a line write, where the line has this number and its phase this time so far. The number of processes comes
-/// first.
+/// What the words of a line mean, if the line has this number and its phase has this time so far.
+/// The number of processes comes first.
 pub fn line_of<'s>(
     processes: Option<u32>,
     number: u64,
@@ -146,7 +146,7 @@ fn is_clock(words: &[&[u8]]) -> bool
     }
 }
 
-// The moment that a clock line sets.
+// The time that a clock line sets.
 fn clock_of(words: &[&[u8]]) -> Option<Deadline>
     ensures written { result ≡ clock_written (map (λ word. word.now) words.now) }
     ensures moment { IfSome result (λ moment. is_moment moment ≡ true) }

@@ -6,7 +6,7 @@ use mq_model::entries::{Received, Status};
 use mq_model::faults::Fault;
 use std::alloc::{AllocError, Global};
 
-/// What a call of a script came to.
+/// What a call of a script returned.
 #[derive(Clone, Copy, Debug, PartialEq, Eq)]
 pub enum Outcome {
     Opened(u32),
@@ -17,7 +17,7 @@ pub enum Outcome {
     Refused(Fault),
 }
 
-/// What a call came to. A message that was received lies in the front of the buffer.
+/// What a call returned, with its buffer. A received message is at the start of the buffer.
 #[derive(Drop)]
 pub struct Completion {
     pub outcome: Outcome,
@@ -25,7 +25,7 @@ pub struct Completion {
     ghost message: { HasMessage outcome (vec_len buffer) },
 }
 
-/// Adds the line of a reply. A receive's message lies in the front of its buffer.
+/// Appends the line of a reply. The message of a receive is at the start of its buffer.
 pub fn push_reply(
     alloc: Global,
     text: &mut Vec<u8>,
@@ -49,7 +49,7 @@ pub fn push_reply(
     Ok(())
 }
 
-// The words after the process without a received message.
+// The words after the process, without a received message.
 fn outcome_words(alloc: Global, outcome: &Outcome) -> Result<String, AllocError>
     ensures { IfOk result (λ words. string_bytes words ≡ outcome_text outcome.now) }
 {
@@ -71,7 +71,7 @@ fn outcome_words(alloc: Global, outcome: &Outcome) -> Result<String, AllocError>
     }
 }
 
-// The message that was received, which has no bytes where none was.
+// The message that was received, or no bytes if none was.
 fn message_of<'b>(outcome: &Outcome, buffer: &'b [u8]) -> &'b [u8]
     requires { HasMessage outcome.now (length buffer.now) }
     ensures { result.now ≡ message_received outcome.now buffer.now }

@@ -1,4 +1,4 @@
-//! A script, from its bytes to its calls.
+//! From the bytes of a script to its calls.
 ghost use Rattle.std.specs.Prelude.{◌≡◌, ◌≤◌, ◌<◌, ◌+◌, ◌^◌, ◌∷◌, ◌++◌, [], IfOk, IfSome, OnOk, if◌then◌else◌, length, true, Some, None};
 ghost use Rattle.script_text.specs.Phases.{whole_behind};
 ghost use Rattle.script_text.specs.ScriptFault.{Gives};
@@ -12,21 +12,21 @@ use std::alloc::{AllocError, Global};
 use std::mem;
 use text_io::words::words;
 
-/// The most bytes of a script.
+/// The maximum length of a script, in bytes.
 pub const MOST_BYTES: usize = 1_048_576;
-/// The most call lines of a script.
+/// The maximum number of call lines of a script.
 const MOST_CALLS: u64 = 1000;
 
-/// A script that was read and checked: how many processes there are, and the calls of its phases, in the order of their
-/// lines. Names and messages are pieces of the script's bytes.
+/// A script that was read and checked: the number of its processes, and the calls of its phases, in
+/// the order of their lines. Names and messages are slices of the script's bytes.
 #[derive(Drop)]
 pub struct Script<'s> {
     pub processes: u32,
     pub phases: Vec<Vec<ScriptCall<&'s [u8]>>>,
 }
 
-/// The script in its bytes. `ScriptFault::BadCall`: the first line at fault, which may be the one that passes a limit, or, where
-/// the number of processes is missing, the one after the last.
+/// The script in these bytes. `ScriptFault::BadCall`: the first wrong line. It may be the one that
+/// exceeds a limit, or if the number of processes is missing, the one after the last.
 pub fn read_script<'s>(alloc: Global, text: &'s [u8]) -> Result<Script<'s>, ScriptFault>
     ensures written { Gives said_script result (script_written text.now) }
     ensures count { IfOk result (λ script. (1 ≤ script.processes) × (script.processes ≤ 32)) }
@@ -67,7 +67,7 @@ pub struct Place {
 }
 
 impl Place {
-    // The place after a line, if it is within the limits of a script.
+    // The position after a line, if it is within the limits of a script.
     fn behind(self, bytes: &[u8], line: &Line<ScriptCall<&[u8]>>) -> Option<Place>
         requires { self.lines + 1 < 2 ^ 64 }
         ensures next { result ≡ (let next = place_behind self bytes.now (said_line line.now) in
@@ -95,7 +95,7 @@ impl Place {
     }
 }
 
-// What the bytes of the next line write, and the place after it.
+// What the bytes of the next line mean, and the position after it.
 fn next_line<'s>(
     alloc: Global,
     processes: Option<u32>,
@@ -123,7 +123,7 @@ fn next_line<'s>(
     Ok((line, place))
 }
 
-// The number of processes, as far as it is known after a line.
+// The number of processes after a line, if it is known by then.
 fn processes_behind(line: &Line<ScriptCall<&[u8]>>, before: Option<u32>) -> Option<u32>
     ensures { result ≡ processes_behind (said_line line.now) before }
 {
@@ -133,7 +133,7 @@ fn processes_behind(line: &Line<ScriptCall<&[u8]>>, before: Option<u32>) -> Opti
     }
 }
 
-/// The phases of a script as far as they were read: those that have ended, and the current one.
+/// The phases that were read so far: those that have ended, and the current one.
 #[derive(Drop)]
 pub struct Phases<'s> {
     alloc: Global,
@@ -153,7 +153,7 @@ impl<'s> Phases<'s> {
         }
     }
 
-    // Takes what the next line writes.
+    // Adds what the next line means.
     fn add(&mut self, line: Line<ScriptCall<&'s [u8]>>) -> Result<(), AllocError>
         ensures { OnOk result ((rest : Written) →
             whole_behind self.new rest ≡
@@ -178,7 +178,7 @@ impl<'s> Phases<'s> {
         Ok(())
     }
 
-    // The script, where nothing is left to read.
+    // The script, if nothing is left to read.
     fn finish(mut self, processes: u32) -> Result<Script<'s>, AllocError>
         ensures { IfOk result (λ script.
             said_script script ≡ whole_behind self.entry

@@ -5,7 +5,7 @@ ghost use Rattle.script_text.specs.ReplyLines.{reply_lines};
 use crate::reply::{Completion, push_reply};
 use std::alloc::{AllocError, Global};
 
-/// Adds the lines of the replies to a process.
+/// Appends the lines of the replies to a process.
 pub fn push_completions(
     alloc: Global,
     text: &mut Vec<u8>,

@@ -2,7 +2,8 @@
 ghost use Rattle.std.specs.Prelude.{◌≡◌};
 ghost use Rattle.script_text.specs.Verbs.{verb_written};
 
-/// The word that says which call it is. Scripts have no `collect` and no `withdraw`, and journals no `exit`.
+/// The word for a kind of call. Scripts have no `collect` and no `withdraw`, and journals no
+/// `exit`.
 #[derive(Clone, Copy, Debug, PartialEq, Eq)]
 pub enum Verb {
     Open,
@@ -65,7 +66,7 @@ impl Verb {
     }
 }
 
-/// The verb that a word is.
+/// The verb with this word.
 #[tactic(auto, unfolding(crate::specs::Verbs::verb_written))]
 pub fn verb_of(word: &[u8]) -> Option<Verb>
     ensures { result ≡ verb_written word.now }

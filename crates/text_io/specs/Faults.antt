@@ -1,4 +1,4 @@
--- The printed texts of faults.
+-- The printed texts of errors.
 use Rattle.std.specs.Prelude.{ℕ, List, codes}
 use Rattle.text_io.specs.declared.input.ReadFault.{ReadFault}
 use Rattle.text_io.specs.declared.input.ReadFault.TheVariants.{Failed, NoMemory}

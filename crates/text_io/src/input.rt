@@ -1,4 +1,4 @@
-//! All bytes of an input.
+//! Reading all bytes of an input.
 ghost use Rattle.std.specs.Prelude.{◌≡◌, ◌≤◌, ◌+◌, ℕ, List, IfOk, IfSome, IsErrOf, OnErr, Some, length, take, vec_len};
 ghost use Rattle.std.specs.Io.KnownBytes.{Consumes};
 ghost use Rattle.text_io.specs.Faults.{read_fault_text};
@@ -9,12 +9,12 @@ use std::error::Error;
 use std::fmt;
 use std::io::Read;
 
-/// Why not all bytes of an input were read.
+/// Why an input could not be read.
 #[derive(Clone, Copy, Debug, PartialEq, Eq)]
 pub enum ReadFault {
-    /// A read failed, whatever its error: an interrupted one too, which is not tried again.
+    /// A read failed, with whatever error. An interrupted read is not tried again.
     Failed,
-    /// An allocation was refused.
+    /// Memory was refused.
     NoMemory,
 }
 
@@ -39,11 +39,12 @@ impl From<AllocError> for ReadFault {
     }
 }
 
-/// The most bytes of a read.
+/// The maximum length of a read, in bytes.
 const CHUNK: usize = 4096;
 
-/// The bytes of the input, up to the first that is one too many. Each read but the last gives a byte, so there are at most
-/// `most + 1` reads. What was read before a fault is lost. No read fails once `most + 1` bytes are there.
+/// The bytes of the input, up to one more than `most`. Each read except the last returns at least
+/// one byte, so there are at most `most + 1` reads. What was read before an error is lost. Once
+/// `most + 1` bytes are there, nothing more is read.
 pub fn read_all<R: Read>(alloc: Global, input: &mut R, most: usize) -> Result<Vec<u8>, ReadFault>
     ensures size { IfOk result (λ bytes. vec_len bytes ≤ most + 1) }
     ensures bytes { IfOk result (λ bytes. IfSome (R.remaining input.old) (λ all. bytes.items ≡

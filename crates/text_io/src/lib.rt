@@ -1,4 +1,4 @@
-//! The bytes of an input, the words of its lines, and bytes to an output.
+//! Reading the bytes of an input, splitting lines into words, and writing bytes to an output.
 #![tactic(auto)]
 
 pub mod input;

@@ -1,4 +1,4 @@
-//! Bytes to an output.
+//! Writing bytes to an output.
 ghost use Rattle.std.specs.Prelude.{OnErr, OnOk, Some};
 ghost use Rattle.std.specs.Io.KnownBytes.{Appends};
 ghost use Rattle.text_io.specs.Faults.{write_failed_text};
@@ -8,7 +8,7 @@ use std::error::Error;
 use std::fmt;
 use std::io::Write;
 
-/// A write failed, whatever its error (an interrupted one too, which is not tried again), or took nothing.
+/// A write failed, with whatever error, or wrote nothing. An interrupted write is not tried again.
 #[derive(Clone, Copy, Debug, PartialEq, Eq)]
 pub struct WriteFailed;
 
@@ -22,7 +22,7 @@ impl fmt::Display for WriteFailed {
 
 impl Error for WriteFailed {}
 
-/// Writes all the bytes, in as many writes as it takes.
+/// Writes all the bytes, in as many writes as needed.
 pub fn write_all<W: Write>(output: &mut W, bytes: &[u8]) -> Result<(), WriteFailed>
     ensures whole { OnOk result (Appends (W.contents output.old)
         (W.contents output.new) bytes.now) }

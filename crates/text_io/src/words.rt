@@ -1,10 +1,10 @@
-//! The words of a line, and the numbers that they write.
+//! The words of a line, and the numbers that they mean.
 ghost use Rattle.std.specs.Prelude.{◌≡◌, ◌≤◌, IfOk, IfSome, map};
 ghost use Rattle.text_io.specs.Words.{count_written, integer_written, number_written, words_of};
 
 use std::alloc::{AllocError, Global};
 
-/// The words of a line: the pieces between spaces, and before the feed that ends the line, that are not empty.
+/// The words of a line: its pieces between spaces, and before the line feed, that are not empty.
 pub fn words<'s>(alloc: Global, line: &'s [u8]) -> Result<Vec<&'s [u8]>, AllocError>
     ensures { IfOk result (λ words. map (λ word. word.now) words.items ≡ words_of line.now) }
 {
@@ -13,7 +13,7 @@ pub fn words<'s>(alloc: Global, line: &'s [u8]) -> Result<Vec<&'s [u8]>, AllocEr
         .collect(alloc)
 }
 
-/// Decimal digits, leading zeros allowed, which fit a `u64`.
+/// The value of decimal digits that fits in a `u64`. Leading zeros are allowed.
 pub fn number(word: &[u8]) -> Option<u64>
     ensures { result ≡ number_written 64 word.now }
 {
@@ -30,7 +30,7 @@ pub fn number(word: &[u8]) -> Option<u64>
     Some(value)
 }
 
-/// Decimal digits, leading zeros allowed, which fit a `u32`.
+/// The value of decimal digits that fits in a `u32`. Leading zeros are allowed.
 pub fn small_number(word: &[u8]) -> Option<u32>
     ensures { result ≡ number_written 32 word.now }
 {
@@ -46,7 +46,7 @@ pub fn count_of(most: u32, word: &[u8]) -> Option<u32>
     if 1 <= n && n <= most { Some(n) } else { None }
 }
 
-/// Decimal digits, after a `-` or not, which fit an `i64`.
+/// The value of decimal digits, perhaps after a `-`, that fits in an `i64`.
 pub fn integer(word: &[u8]) -> Option<i64>
     ensures { result ≡ integer_written word.now }
 {
