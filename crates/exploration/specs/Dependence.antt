@@ -1,4 +1,4 @@
--- Which steps depend on one another.
+-- Which steps are dependent.
 use Rattle.std.specs.Prelude.{Bool, true, false, ◌&&◌, ◌||◌, ◌==◌, ◌+◌, not, nat_le, List, length}
 use Rattle.std.specs.List.{list_all}
 use Rattle.exploration.specs.declared.kind.Kind.{Kind}
@@ -25,7 +25,7 @@ abbrev pub is_receive : Kind → Bool
 is_receive kind.Receive = true
 is_receive _ = false
 
--- a half of a wait on a condition
+-- a half of a wait on a condition variable
 abbrev pub is_wait : Kind → Bool
 is_wait kind.Register = true
 is_wait kind.Wake = true
@@ -35,16 +35,16 @@ abbrev pub tells_time : Kind → Bool
 tells_time kind.Clock = true
 tells_time _ = false
 
--- a send, and a receive that takes an older message of that priority or a higher one, which frees
--- not the place that the send needs
+-- a send and a receive that are independent: the receive takes an older message of the same or a
+-- higher priority, and does not make the room that the send needs
 abbrev pub passes : Effect → Effect → Bool
 passes s r =
     is_send s.kind && is_receive r.kind && not (s.message == 0) && not (r.message == 0)
     && not (s.message == r.message) && nat_le s.priority r.priority
     && not (s.number == r.number + r.room)
 
--- two effects on one object that come to the same in either order: both only look, or they pass
--- each other, or both are halves of waits
+-- Two effects on the same object that commute: both only read it, or they are independent as above,
+-- or both are halves of waits.
 abbrev pub commute_on : Effect → Effect → Bool
 commute_on x y =
     x.looks && y.looks
@@ -60,11 +60,11 @@ is_apart x effects = list_all (λ y. commute x y) effects
 abbrev pub are_apart : List Effect → List Effect → Bool
 are_apart xs ys = list_all (λ x. is_apart x ys) xs
 
--- both create threads, which have their numbers in the order of their creation
+-- both create threads, which are numbered in the order of their creation
 abbrev pub both_create : Deed → Deed → Bool
 both_create a b = not (length a.created.items == 0) && not (length b.created.items == 0)
 
--- the one tells a time that the other ends
+-- one reads a time that the other ends
 abbrev pub share_time : Deed → Deed → Bool
 share_time a b = tells_time a.kind && b.is_late || tells_time b.kind && a.is_late
 
@@ -75,7 +75,7 @@ are_bound a b =
     a.stands_still || b.stands_still || is_exit a.kind || is_exit b.kind
     || is_on_names a.kind && is_on_names b.kind || both_create a b || share_time a b
 
--- steps of two threads that are not bound to each other, and each effect of the one commutes with
+-- steps of two threads that are not bound to each other, where each effect of one commutes with
 -- each of the other
 abbrev pub are_independent : Deed → Deed → Bool
 are_independent a b =

@@ -50,6 +50,6 @@ kinds =
     kind.Collect ∷ kind.Clock ∷ kind.ReadLock ∷ kind.WriteLock ∷ kind.RwUnlock ∷ kind.Barrier ∷
     kind.Once ∷ kind.FutexWait ∷ kind.FutexWake ∷ []
 
--- the kind that a word is
+-- the kind with this word
 unfoldable pub kind_written : Word → Option Kind
 kind_written word = find (λ kind. bytes_eq word (kind_text kind)) kinds

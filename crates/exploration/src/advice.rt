@@ -1,5 +1,5 @@
-//! Which of the choices of a node are worth a run. That they are total is all that is proved of the
-//! functions here.
+//! Which choices at a node are worth a run. Only termination and safety of these functions are
+//! proved.
 
 use crate::deed::Deed;
 use crate::dependence::are_independent;
@@ -8,28 +8,28 @@ use crate::operation::{Ability, Choice, Parked, parked_of};
 use crate::request::Sleeper;
 use std::alloc::{AllocError, Global};
 
-/// Who is to go on behind the choice of a thread: so the race that asked for it is soon had in its
-/// other order.
+/// The threads that go on after a choice of the thread `first`, so that the race that asked for it
+/// is soon run in its other order.
 #[derive(Debug, Drop)]
 pub struct Lead {
     pub first: u32,
     pub threads: Vec<u32>,
 }
 
-/// What the search knows of a node.
+/// What the search knows about a node.
 #[derive(Debug, Drop)]
 pub struct Advice {
-    /// The threads that are worth a choice here.
+    /// The backtrack set: the threads whose choices are worth a run here.
     pub wanted: Vec<u32>,
-    /// Steps of other threads that were tried before, and on which nothing that was made since
-    /// depends.
+    /// The sleep set: steps of other threads that were tried before, and are independent of all
+    /// steps made since.
     pub sleeping: Vec<Deed>,
     /// The steps that were made here, one for each run.
     pub made: Vec<Deed>,
     pub leads: Vec<Lead>,
-    /// What the choices before cost.
+    /// The total cost of the choices before this node.
     pub spent: u32,
-    /// The thread that went on last.
+    /// The thread that took the last step.
     pub last: u32,
 }
 
@@ -52,7 +52,7 @@ impl Advice {
         Ok(())
     }
 
-    /// Wants each thread that can go on.
+    /// Adds each thread that can go on to the backtrack set.
     pub fn want_all(&mut self, parked: &[Parked]) -> Result<(), AllocError> {
         for it in parked {
             if it.can_go_on() {
@@ -62,7 +62,7 @@ impl Advice {
         Ok(())
     }
 
-    /// Wants the first thread that can go on and does not sleep.
+    /// Adds the first thread that can go on and is not in the sleep set.
     pub fn want_awake(&mut self, parked: &[Parked]) -> Result<(), AllocError> {
         for it in parked {
             let choice = Choice {
@@ -80,12 +80,12 @@ impl Advice {
         self.wanted.contains(&thread)
     }
 
-    /// The step of this choice sleeps.
+    /// Whether the step of this choice is in the sleep set.
     pub fn sleeps(&self, choice: Choice) -> bool {
         self.sleeping.iter().any(|it| it.choice == choice)
     }
 
-    /// Who goes on behind a choice.
+    /// The threads that go on after a choice of this thread.
     pub fn lead(&self, alloc: Global, thread: u32) -> Result<Vec<u32>, AllocError> {
         match self.leads.iter().find(|it| it.first == thread) {
             Some(lead) => lead.threads.to_vec(alloc),
@@ -93,7 +93,7 @@ impl Advice {
         }
     }
 
-    /// What sleeps behind a choice that is made here.
+    /// The sleep set after this step.
     pub fn asleep_after(&self, alloc: Global, made: &Deed) -> Result<Vec<Deed>, AllocError> {
         let mut sleeping = Vec::new(alloc);
         for deed in &self.sleeping {
@@ -109,7 +109,7 @@ impl Advice {
         Ok(sleeping)
     }
 
-    /// What sleeps here but one thread, by the objects that it touches.
+    /// The sleep set, as threads and the objects that they access, without the thread `but`.
     pub fn sleepers(&self, alloc: Global, but: u32) -> Result<Vec<Sleeper>, AllocError> {
         let mut sleepers = Vec::new(alloc);
         for deed in &self.sleeping {
@@ -122,10 +122,10 @@ impl Advice {
     }
 }
 
-// The most sleepers of a request.
+// The maximum number of sleepers in a request.
 const MOST_SLEEPERS: usize = 400;
 
-// Adds what a step touches, if that is all on which it depends.
+// Adds what a step accesses, if the step depends on nothing else.
 fn add_sleepers(sleepers: &mut Vec<Sleeper>, deed: &Deed, but: u32) -> Result<(), AllocError> {
     let thread = deed.choice.thread;
     let is_rough = deed.stands_still
@@ -145,7 +145,7 @@ fn add_sleepers(sleepers: &mut Vec<Sleeper>, deed: &Deed, but: u32) -> Result<()
     Ok(())
 }
 
-// Operations that depend on more than their object, or that have several ways.
+// Operations that depend on more than their object, or that have several variants.
 fn depends_on_more(kind: Kind) -> bool {
     match kind {
         Kind::Exit | Kind::Open | Kind::Close | Kind::Unlink | Kind::Clock => true,
@@ -154,8 +154,8 @@ fn depends_on_more(kind: Kind) -> bool {
     }
 }
 
-/// What it costs to let a thread go on: it takes the turn from one that can go on, or its deadline
-/// passes early.
+/// The cost of letting a thread go on: 1 if it preempts a thread that can go on, or if its deadline
+/// passes although some thread can go on; else 0.
 pub fn cost(parked: &[Parked], last: u32, thread: u32) -> u32 {
     let can = |it: &Parked| matches!(it.ability, Ability::Can);
     let takes = thread != last

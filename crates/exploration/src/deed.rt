@@ -1,4 +1,4 @@
-//! What a step did, as far as other steps can depend on it.
+//! The effects of a step, as far as other steps can depend on them.
 ghost use Rattle.std.specs.Prelude.{◌≡◌};
 ghost use Rattle.exploration.specs.Dependence.{is_exit, is_on_names, is_receive, is_send, is_wait, tells_time};
 
@@ -6,40 +6,41 @@ use crate::kind::Kind;
 use crate::operation::Choice;
 use std::alloc::{AllocError, Global};
 
-/// What a step did to one object.
+/// The effect of a step on one object.
 #[derive(Clone, Copy, Debug)]
 pub struct Effect {
     pub kind: Kind,
     pub object: u32,
-    /// It changed nothing: it asked, or it was refused.
+    /// It changed nothing: the step only read the object, or failed.
     pub looks: bool,
-    /// It would have gone on without what let it go on here: a try, or a call with a deadline.
+    /// It could have gone on without the step that let it go on here: it is a try, or a call with a
+    /// deadline.
     pub is_free: bool,
-    /// The place of the send whose message it is, from 1 on. 0: it is not known.
+    /// The number of the send of its message, counted from 1; 0 if unknown.
     pub message: u32,
     /// The priority of that message.
     pub priority: u32,
-    /// Of a send or a receive, how many there were of its queue, with it. 0: it is not known.
+    /// For a send or a receive, how many of these the queue had, including this one; 0 if unknown.
     pub number: u32,
-    /// How many messages its queue holds.
+    /// The maximum number of messages in its queue.
     pub room: u32,
-    /// How many older messages a receive left.
+    /// The number of older messages that a receive left.
     pub older: u32,
 }
 
-/// A step, without who was parked.
+/// A step, without the threads that were parked.
 #[derive(Debug, Drop)]
 pub struct Deed {
     pub choice: Choice,
     pub kind: Kind,
     /// Its deadline passed.
     pub is_late: bool,
-    /// It can't be exchanged with anything.
+    /// Whether it can be exchanged with no other step.
     pub stands_still: bool,
     pub effects: Vec<Effect>,
     /// The threads that it created.
     pub created: Vec<u32>,
-    /// The place of the step that let it go on, if it had to wait for one.
+    /// The index of the step that let it go on, if it had to wait for one.
     pub cause: Option<usize>,
 }
 
@@ -58,7 +59,7 @@ impl Deed {
         })
     }
 
-    /// It is no choice: nothing depends on when it is made, but what its thread does after it.
+    /// Whether it is no choice: its time does not matter, only what its thread does after it.
     pub fn is_local(&self) -> bool {
         match self.kind {
             Kind::Start | Kind::Join => true,
@@ -68,14 +69,14 @@ impl Deed {
     }
 }
 
-/// The end of the program.
+/// Whether the operation ends the program.
 pub fn is_exit(kind: Kind) -> bool
     ensures { result ≡ is_exit kind }
 {
     matches!(kind, Kind::Exit)
 }
 
-/// A call that may bind a name, unbind it, or end a queue.
+/// Whether the call may bind a name, unbind it, or end a queue.
 pub fn is_on_names(kind: Kind) -> bool
     ensures { result ≡ is_on_names kind }
 {
@@ -94,7 +95,7 @@ pub fn is_receive(kind: Kind) -> bool
     matches!(kind, Kind::Receive)
 }
 
-/// A half of a wait on a condition.
+/// Whether the operation is a half of a wait on a condition variable.
 pub fn is_wait(kind: Kind) -> bool
     ensures { result ≡ is_wait kind }
 {

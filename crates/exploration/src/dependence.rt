@@ -1,13 +1,13 @@
-//! Which steps depend on one another: those that don't may be exchanged where they stand next to
-//! each other.
+//! Which steps are dependent. Independent steps may be exchanged if they are adjacent.
 ghost use Rattle.std.specs.Prelude.{◌≡◌};
 ghost use Rattle.exploration.specs.Dependence.{are_apart, are_bound, are_independent, both_create, commute, commute_on, is_apart, passes, share_time};
 
 use crate::deed::{Deed, Effect, is_exit, is_on_names, is_receive, is_send, is_wait, tells_time};
 use crate::kind::Kind;
 
-// A send and a receive of one queue that don't need one another: the receive takes an older message
-// of that priority or a higher one, and the send needs not the place that the receive frees.
+// Whether a send and a receive of the same queue are independent: the receive takes an older
+// message of the same or a higher priority, and the send does not need the room that the receive
+// makes.
 fn passes(send: &Effect, receive: &Effect) -> bool
     ensures { result ≡ passes send.now receive.now }
 {
@@ -20,7 +20,7 @@ fn passes(send: &Effect, receive: &Effect) -> bool
         && u64::from(send.number) != u64::from(receive.number) + u64::from(receive.room)
 }
 
-// Two effects on one object come to the same in either order.
+// Whether two effects on the same object commute.
 fn commute_on(x: &Effect, y: &Effect) -> bool
     ensures { result ≡ commute_on x.now y.now }
 {
@@ -29,43 +29,43 @@ fn commute_on(x: &Effect, y: &Effect) -> bool
         || is_wait(x.kind) && is_wait(y.kind)
 }
 
-// Two effects come to the same in either order.
+// Whether two effects commute.
 fn commute(x: &Effect, y: &Effect) -> bool
     ensures { result ≡ commute x.now y.now }
 {
     x.object != y.object || commute_on(x, y)
 }
 
-// An effect commutes with each of those.
+// Whether an effect commutes with each of the others.
 fn is_apart(x: &Effect, effects: &[Effect]) -> bool
     ensures { result ≡ is_apart x.now effects.now }
 {
     effects.iter().all(|y| commute(x, y))
 }
 
-// Each of those effects commutes with each of the others.
+// Whether each of the first effects commutes with each of the second.
 fn are_apart(xs: &[Effect], ys: &[Effect]) -> bool
     ensures { result ≡ are_apart xs.now ys.now }
 {
     xs.iter().all(|x| is_apart(x, ys))
 }
 
-// Both create threads, which have their numbers in the order of their creation.
+// Whether both create threads, which are numbered in the order of their creation.
 fn both_create(a: &Deed, b: &Deed) -> bool
     ensures { result ≡ both_create a.now b.now }
 {
     !a.created.is_empty() && !b.created.is_empty()
 }
 
-// The one tells a time that the other ends.
+// Whether one reads a time that the other ends.
 fn share_time(a: &Deed, b: &Deed) -> bool
     ensures { result ≡ share_time a.now b.now }
 {
     tells_time(a.kind) && b.is_late || tells_time(b.kind) && a.is_late
 }
 
-// One of the steps depends on all others, or both are about names, the creation of threads or the
-// time.
+// Whether one of the steps depends on all others, or both are about names, the creation of threads
+// or the time.
 fn are_bound(a: &Deed, b: &Deed) -> bool
     ensures { result ≡ are_bound a.now b.now }
 {
@@ -78,14 +78,14 @@ fn are_bound(a: &Deed, b: &Deed) -> bool
         || share_time(a, b)
 }
 
-/// Neither step depends on whether the other was made before it, so they may be exchanged.
+/// Whether the steps are independent: neither depends on whether the other was made before it.
 pub fn are_independent(a: &Deed, b: &Deed) -> bool
     ensures { result ≡ are_independent a.now b.now }
 {
     a.choice.thread != b.choice.thread && !are_bound(a, b) && are_apart(&a.effects, &b.effects)
 }
 
-// The first effect may be what lets the second happen at all.
+// Whether the first effect may be what enables the second.
 fn lets(x: &Effect, y: &Effect) -> bool {
     match (x.kind, y.kind) {
         (Kind::Unlock, Kind::Lock) => true,
@@ -110,12 +110,12 @@ fn lets(x: &Effect, y: &Effect) -> bool {
     }
 }
 
-// Some effects of the two may come in the other order, and that may matter.
+// Whether two effects of the steps may come in the other order, and that may matter.
 fn any_race(a: &Deed, b: &Deed) -> bool {
     a.effects.iter().any(|x| b.effects.iter().any(|y| !commute(x, y) && !lets(x, y)))
 }
 
-// The first effect is of a kind that only lets the second go on, which waits for it.
+// Whether the first effect can only enable the second, which waits for it.
 fn only_lets(x: &Effect, y: &Effect) -> bool {
     !x.looks
         && !y.is_free
@@ -123,7 +123,7 @@ fn only_lets(x: &Effect, y: &Effect) -> bool {
             || is_receive(x.kind) && is_send(y.kind))
 }
 
-// The same, where the second was not made, because it waits.
+// The same, if the second step was not made because it waits.
 fn any_race_if_made(a: &Deed, b: &Deed) -> bool {
     a.effects.iter().any(|x| {
         b.effects
@@ -132,20 +132,20 @@ fn any_race_if_made(a: &Deed, b: &Deed) -> bool {
     })
 }
 
-// They can't come in the other order: one thread makes both, or one stands still, and they are not
-// two deadlines that pass where nobody else can go on.
+// Whether the steps cannot come in the other order: one thread makes both, or one of them cannot be
+// exchanged, unless both are deadlines that pass when no thread can go on.
 fn are_in_order(a: &Deed, b: &Deed) -> bool {
     a.choice.thread == b.choice.thread
         || (a.stands_still || b.stands_still) && !(a.is_late && b.is_late)
 }
 
-/// The two steps depend on each other, and the later one may come before the other. `place` is that
-/// of the earlier step.
+/// Whether two steps race: they are dependent, and the later one may come before the other. `place`
+/// is the index of the earlier step.
 pub fn may_race(a: &Deed, place: usize, b: &Deed) -> bool {
     !are_in_order(a, b) && (are_bound(a, b) || b.cause != Some(place) && any_race(a, b))
 }
 
-/// The same, where the later one is not made yet.
+/// The same, if the later one is not made yet.
 pub fn may_race_if_made(a: &Deed, place: usize, b: &Deed) -> bool {
     !are_in_order(a, b) && (are_bound(a, b) || b.cause != Some(place) && any_race_if_made(a, b))
 }

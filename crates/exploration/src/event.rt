@@ -1,22 +1,22 @@
-//! The partial order of the steps of a run: which come before which, whatever schedule has them.
+//! The partial order of the steps of a run (happens-before), which does not depend on the schedule.
 
 use crate::deed::Deed;
 use crate::dependence::are_independent;
 use crate::kind::Kind;
 use std::alloc::{AllocError, Global};
 
-/// How many events of each thread come before one, itself among them: a vector clock.
+/// A vector clock: how many events of each thread come before an event, itself included.
 #[derive(Debug, Drop)]
 pub struct Clock {
     counts: Vec<u32>,
 }
 
-/// A step in its partial order.
+/// A step with its vector clock.
 #[derive(Debug, Drop)]
 pub struct Event {
     pub deed: Deed,
     pub clock: Clock,
-    /// Its number among the events of its thread, from 1 on.
+    /// Its number among the events of its thread, counted from 1.
     pub number: u32,
 }
 
@@ -44,7 +44,7 @@ impl Clock {
         self.counts.as_slice()
     }
 
-    /// What comes before the other comes before this one too.
+    /// Adds what comes before the other clock.
     pub fn join(&mut self, other: &Clock) -> Result<(), AllocError> {
         for (i, count) in other.counts.iter().enumerate() {
             if i < self.counts.len() {
@@ -58,7 +58,7 @@ impl Clock {
         Ok(())
     }
 
-    /// One more event of a thread. Gives its number.
+    /// Adds one event of a thread, and returns its number.
     pub fn tick(&mut self, thread: u32) -> Result<u32, AllocError> {
         let at = thread as usize;
         for _ in self.counts.len()..=at {
@@ -71,7 +71,7 @@ impl Clock {
         Ok(number)
     }
 
-    /// The event comes before what the clock is of.
+    /// Whether the event comes before this clock.
     pub fn has(&self, event: &Event) -> bool {
         self.count(event.deed.choice.thread) >= event.number
     }
@@ -87,7 +87,7 @@ pub fn clock_of(alloc: Global, events: &[Event], thread: u32) -> Result<Clock, A
     Ok(Clock::new(alloc))
 }
 
-// The event that made a thread.
+// The event that created a thread.
 fn creation(events: &[Event], thread: u32) -> Option<&Event> {
     events
         .iter()
@@ -102,7 +102,8 @@ fn last_of(events: &[Event], thread: u32) -> Option<&Event> {
         .find(|it| it.deed.choice.thread == thread)
 }
 
-// The event that must come before a step, as it let it go on or ended the thread that it joins.
+// The event that must come before a step: the one that let it go on, or the last one of the thread
+// that it joins.
 fn before<'e>(events: &'e [Event], deed: &Deed, joined: u32) -> Option<&'e Event> {
     match deed.kind {
         Kind::Join => last_of(events, joined),
@@ -110,7 +111,7 @@ fn before<'e>(events: &'e [Event], deed: &Deed, joined: u32) -> Option<&'e Event
     }
 }
 
-/// The event that a step is after these.
+/// The event of a step after these events.
 pub fn event_of(
     alloc: Global,
     events: &[Event],
@@ -157,8 +158,8 @@ fn event_key(event: &Event) -> u64 {
     hash
 }
 
-/// A number for the partial order of a run. Runs of one partial order have one; two orders may have
-/// one by chance.
+/// A hash of the partial order of a run. Runs with the same partial order have the same hash, and
+/// different orders may have the same by chance.
 pub fn order_key(events: &[Event]) -> u64 {
     let mut key = 0u64;
     for event in events {

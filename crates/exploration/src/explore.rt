@@ -1,4 +1,4 @@
-//! All schedules of a program that can matter.
+//! Exploring all schedules of a program that can matter.
 ghost use Rattle.std.specs.Prelude.{◌≡◌, Bool, true, List, [], IfOk};
 ghost use Rattle.exploration.specs.Shown.{Possible, Shows};
 ghost use Rattle.exploration.specs.declared.operation.Choice.{Choice};
@@ -13,55 +13,55 @@ use crate::trace::Room;
 use std::alloc::Global;
 use std::collections::HashSet;
 
-/// What runs a program by schedules.
+/// Runs a program under given schedules.
 pub trait Program {
-    /// A run showed that this choice could be made after those.
+    /// Some run showed that this choice is possible after those.
     ghost could: { Self → List Choice → Choice → Bool };
 
-    /// Runs the program by choices, each of which a run showed as possible.
+    /// Runs the program with these choices, each of which some run showed to be possible.
     fn run(&mut self, alloc: Global, request: &Request) -> Result<Trace, Fault>
         requires { Possible (could self.old) request.now.choices.items }
         ensures keeps { (before : List Choice) (choice : Choice) →
             could self.old before choice ≡ true → could self.new before choice ≡ true }
         ensures shows { IfOk result (λ trace. Shows (could self.new) [] trace.steps.items) };
 
-    /// Runs the program by choices that a seed gives.
+    /// Runs the program with pseudorandom choices from a seed.
     fn run_at_random(&mut self, alloc: Global, seed: u64) -> Result<Trace, Fault>
         ensures { (before : List Choice) (choice : Choice) →
             could self.old before choice ≡ true → could self.new before choice ≡ true };
 
-    /// Is told that the search within a bound begins, or the one without.
+    /// Called before the search within a bound begins, or the search without one.
     fn begin(&mut self, bound: Option<u32>) -> Result<(), Fault>
         ensures { (before : List Choice) (choice : Choice) →
             could self.old before choice ≡ true → could self.new before choice ≡ true };
 
-    /// The queues that runs showed.
+    /// The queues that the runs showed.
     fn rooms(&self) -> &[Room];
 }
 
-/// What is asked of an exploration.
+/// The options of an exploration.
 #[derive(Clone, Copy, Debug)]
 pub struct Options {
-    /// The searches within the bounds 0 to this one come first.
+    /// If given, the searches with the bounds from 0 to this one come first.
     pub bounds: Option<u32>,
     pub rules: Rules,
-    /// The most runs.
+    /// The maximum number of runs.
     pub budget: u64,
-    /// How many random runs follow.
+    /// The number of random runs at the end.
     pub check: u64,
     pub limits: Limits,
 }
 
-/// How an exploration ended.
+/// The result of an exploration.
 #[derive(Clone, Copy, Debug, PartialEq, Eq)]
 pub enum Ending {
     /// Every order that can matter was tried.
     All,
-    /// The runs were used up.
+    /// The budget of runs was used up.
     Budget,
 }
 
-// How a search ended.
+// The result of a search.
 #[derive(Clone, Copy, Debug, PartialEq, Eq)]
 enum Searched {
     Whole,
@@ -69,26 +69,26 @@ enum Searched {
     OutOfBudget,
 }
 
-/// What an exploration counts.
+/// The counts of an exploration.
 #[derive(Debug, Drop)]
 pub struct Tally {
     pub runs: u64,
-    /// The partial orders that were seen, by their numbers.
+    /// The partial orders that were seen, by their hashes.
     orders: HashSet<u64>,
 }
 
-/// How an exploration went.
+/// The summary of an exploration.
 #[derive(Debug, Drop)]
 pub struct Summary {
     pub ending: Ending,
     pub runs: u64,
-    /// How many partial orders the random runs had that no run before had.
+    /// The number of random runs with a partial order that no run before had.
     pub unseen: u64,
-    /// How many random runs there were.
+    /// The number of random runs.
     pub checked: u64,
 }
 
-// A run of this end shows all that the program does.
+// Whether a run with this end shows everything that the program does.
 fn is_whole(end: End) -> bool {
     matches!(end, End::Done | End::Deadlock)
 }
@@ -119,8 +119,8 @@ impl Tally {
     }
 }
 
-// Tries the schedules within a bound, or all. It ends by itself: its measure is how many runs are
-// left at most.
+// Tries the schedules within a bound, or all. It terminates: its measure is the maximum number of
+// runs that are left.
 fn search_within<P: Program>(
     alloc: Global,
     program: &mut P,
@@ -155,8 +155,8 @@ fn ending_of(is_cut: bool) -> Searched {
     }
 }
 
-// The searches within the bounds from 0 on, as long as more is beyond them, and then the one
-// without.
+// Searches with the bounds from 0 on, as long as there are schedules beyond the bound, and then
+// without a bound.
 fn search_all<P: Program>(
     alloc: Global,
     program: &mut P,
@@ -178,7 +178,7 @@ fn search_all<P: Program>(
     }
 }
 
-// How many random runs have a partial order that no run before had.
+// Makes the random runs, and counts those with a partial order that no run before had.
 fn unseen_orders<P: Program>(
     alloc: Global,
     program: &mut P,
@@ -197,9 +197,9 @@ fn unseen_orders<P: Program>(
     Ok(unseen)
 }
 
-/// Runs a program by each schedule that can matter, unless the budget is used up before, and then
-/// at random. Each schedule is of choices that a run before showed as possible: `Program::run`
-/// requires it.
+/// Runs a program under each schedule that can matter, unless the budget is used up first, and then
+/// under random ones. Each schedule has only choices that an earlier run showed to be possible, as
+/// `Program::run` requires.
 pub fn explore<P: Program>(
     alloc: Global,
     program: &mut P,

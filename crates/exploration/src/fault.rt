@@ -1,4 +1,4 @@
-//! Why an exploration ends early.
+//! Why an exploration ended early.
 ghost use Rattle.std.specs.Prelude.{◌≡◌};
 ghost use Rattle.exploration.specs.declared.fault.Fault.TheVariants.{NoMemory};
 
@@ -8,13 +8,13 @@ use std::fmt;
 
 #[derive(Clone, Copy, Debug, PartialEq, Eq)]
 pub enum Fault {
-    /// This line of the input is none of the protocol, or out of place. Lines are counted from 1.
+    /// This line of the input, counted from 1, is not one of the protocol, or is out of place.
     Malformed { line: u64 },
     /// The input ended within a trace.
     Ended,
-    /// A run did not take the choices that it was given, or shows a step that nobody could make.
+    /// A run did not take the given choices, or has a step that is not possible.
     Unfit,
-    /// A run has more steps, or a step more choices, than there may be.
+    /// A run has too many steps, or a step too many choices.
     TooLarge,
     Input,
     Output,

@@ -10,11 +10,11 @@ use std::alloc::{AllocError, Global};
 #[derive(Clone, Copy, Debug)]
 struct Held {
     priority: u32,
-    // The place of its send, from 1 on.
+    // The number of its send, counted from 1.
     message: u32,
 }
 
-// What was sent to a queue in a run, and received.
+// The messages of a queue in a run.
 #[derive(Debug, Drop)]
 struct Moved {
     object: u32,
@@ -24,16 +24,16 @@ struct Moved {
     receives: u32,
 }
 
-/// What the steps of a run moved so far.
+/// The state of the queues after the steps of a run so far.
 #[derive(Debug, Drop)]
 pub struct Follower {
     queues: Vec<Moved>,
 }
 
-/// How the operations of a program are told apart.
+/// When deadlines may pass.
 #[derive(Clone, Copy, Debug)]
 pub struct Rules {
-    /// A deadline may pass at any moment, and not only when nobody else can go on.
+    /// Whether a deadline may pass at any time, and not only when no other thread can go on.
     pub any_time: bool,
 }
 
@@ -52,7 +52,7 @@ fn next_message(held: &[Held]) -> Option<usize> {
     }
 }
 
-// Of a queue that is known: it was empty when it was first seen.
+// The capacity of a queue that is known, that is, was empty when it was first seen.
 fn known_room(rooms: &[Room], object: u32) -> Option<u32> {
     let room = rooms.iter().find(|it| it.object == object)?;
     if room.held == 0 {
@@ -153,7 +153,7 @@ impl Follower {
     }
 }
 
-// An operation that is refused changes nothing, and one that asks doesn't either.
+// Whether an operation changes nothing: it fails, or only reads.
 fn only_looks(kind: Kind, error: u32) -> bool {
     match kind {
         Kind::GetAttr | Kind::ReadLock => true,
@@ -177,7 +177,7 @@ fn effect_of(kind: Kind, object: u32, error: u32) -> Effect {
     }
 }
 
-// The effects of an operation: on its object, and of a half of a wait also on its mutex.
+// The effects of an operation: on its object, and for a half of a wait also on its mutex.
 fn effects_of(alloc: Global, operation: Operation, error: u32) -> Result<Vec<Effect>, AllocError> {
     let mut effects = Vec::new(alloc);
     if operation.object != 0 {
@@ -200,7 +200,7 @@ fn stands_still(rules: Rules, kind: Kind, is_late: bool) -> bool {
     matches!(kind, Kind::Yield) || is_late && !rules.any_time
 }
 
-/// What a thread would do if it could make its operation.
+/// The step that a thread would make if it could do its operation.
 pub fn likely_deed(alloc: Global, rules: Rules, parked: &Parked) -> Result<Deed, AllocError> {
     let effects = effects_of(alloc, parked.operation, 0)?;
     let created = Vec::new(alloc);
@@ -218,8 +218,8 @@ pub fn likely_deed(alloc: Global, rules: Rules, parked: &Parked) -> Result<Deed,
     })
 }
 
-/// A step that is no choice: it is made at once, and meanwhile nobody else is shown as able to go
-/// on.
+/// Whether a step is no choice: it is made at once, and meanwhile no other thread is shown as able
+/// to go on.
 pub fn is_local(step: &Step) -> bool {
     match parked_of(&step.parked, step.choice.thread) {
         Some(it) => match it.operation.kind {
@@ -231,8 +231,8 @@ pub fn is_local(step: &Step) -> bool {
     }
 }
 
-// The place of the step that let the step at a place go on: the last before which its thread was
-// parked and could not.
+// The index of the step that let the step at `place` go on: the last one before which its thread
+// was parked and could not go on.
 fn cause_of(steps: &[Step], place: usize, thread: u32) -> Option<usize> {
     for k in (0..place).rev() {
         let step = steps.get(k)?;
@@ -287,7 +287,7 @@ pub fn deed_of(
     }))
 }
 
-// The effects of a step, with their numbers, and the threads that it created.
+// The effects of a step, with the numbers of its messages, and the threads that it created.
 fn all_effects(
     alloc: Global,
     rooms: &[Room],

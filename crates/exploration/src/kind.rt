@@ -1,4 +1,4 @@
-//! The kinds of operations, and their words.
+//! The kinds of operations, and the words for them.
 ghost use Rattle.std.specs.Prelude.{◌≡◌};
 ghost use Rattle.exploration.specs.Kinds.{kind_written};
 
@@ -122,7 +122,7 @@ impl Kind {
     }
 }
 
-/// The kind that a word is.
+/// The kind with this word.
 #[tactic(auto, unfolding(crate::specs::Kinds::kind_written))]
 pub fn kind_of(word: &[u8]) -> Option<Kind>
     ensures { result ≡ kind_written word.now }

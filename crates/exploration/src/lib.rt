@@ -1,8 +1,9 @@
-//! Which schedules of a program are tried: chosen from the traces of its runs so far. It is proved
-//! that each run takes only choices that a run before showed as possible (`explore::Program::run`
-//! requires it), that the search ends (by the measure of `explore::search_within`), and which steps
-//! are independent (`dependence::are_independent`). That no order that matters is left out is
-//! tested against all interleavings of small programs.
+//! Choosing the schedules of a program to try, from the traces of its earlier runs. It is proved
+//! that each run takes only choices that an earlier run showed to be possible
+//! (`explore::Program::run` requires it), that the search ends (by the measure of
+//! `explore::search_within`), and which steps are independent (`dependence::are_independent`). That
+//! no order that matters is left out is not proved, but tested against all interleavings of small
+//! programs.
 #![tactic(auto)]
 
 pub mod advice;

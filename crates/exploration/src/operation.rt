@@ -5,18 +5,18 @@ ghost use Rattle.exploration.specs.Choices.{can_choose, can_go_on, takes};
 
 use crate::kind::Kind;
 
-/// The most threads of a program. They have the numbers 1 to `MOST_THREADS`.
+/// The maximum number of threads. They have the numbers 1 to `MOST_THREADS`.
 pub const MOST_THREADS: u32 = 64;
 
-/// The most ways that an operation has.
+/// The maximum number of variants of an operation.
 pub const MOST_VARIANTS: u32 = 64;
 
-/// Whether a thread can make its operation.
+/// Whether a thread can do its operation.
 #[derive(Clone, Copy, Debug, PartialEq, Eq)]
 pub enum Ability {
     Cannot,
     Can,
-    /// Only because its deadline may pass.
+    /// It can only because its deadline may pass.
     Late,
 }
 
@@ -24,26 +24,26 @@ pub enum Ability {
 #[derive(Clone, Copy, Debug)]
 pub struct Operation {
     pub kind: Kind,
-    /// What it touches: 0 is nothing.
+    /// The object that it accesses; 0 for none.
     pub object: u32,
     /// The priority of a send, the mutex of a register or a wake, the thread of a join.
     pub argument: u32,
     pub has_deadline: bool,
-    /// It is a try, or its descriptor has `O_NONBLOCK`.
+    /// Whether it is a try, or its descriptor has `O_NONBLOCK`.
     pub is_try: bool,
 }
 
-/// A thread that is parked in front of an operation.
+/// A thread that is parked before an operation.
 #[derive(Clone, Copy, Debug)]
 pub struct Parked {
     pub thread: u32,
     pub operation: Operation,
     pub ability: Ability,
-    /// How many ways this operation has.
+    /// The number of variants of this operation.
     pub variants: u32,
 }
 
-/// Who goes on, and by which way of its operation.
+/// The thread that goes on, and the variant of its operation.
 #[derive(Clone, Copy, Debug, PartialEq, Eq)]
 pub struct Choice {
     pub thread: u32,
@@ -54,18 +54,18 @@ pub struct Choice {
 #[derive(Clone, Copy, Debug)]
 pub struct Also {
     pub kind: Kind,
-    /// The thread of a creation.
+    /// For a creation, the thread.
     pub object: u32,
 }
 
 /// A step of a run.
 #[derive(Debug, Drop)]
 pub struct Step {
-    /// Who was parked before it.
+    /// The threads that were parked before it.
     pub parked: Vec<Parked>,
     pub choice: Choice,
     pub also: Vec<Also>,
-    /// 0 is well.
+    /// 0 for success.
     pub error: u32,
     pub value: u64,
 }
@@ -75,11 +75,11 @@ pub struct Step {
 pub enum End {
     Done,
     Deadlock,
-    /// The most steps of a run were made.
+    /// The maximum number of steps was reached.
     Steps,
-    /// The program did not take the choices.
+    /// The program did not take the given choices.
     Unfit,
-    /// All that could go on sleeps.
+    /// All threads that could go on are in the sleep set.
     Slept,
     Died,
     Hung,
@@ -89,7 +89,7 @@ pub enum End {
 #[derive(Debug, Drop)]
 pub struct Trace {
     pub steps: Vec<Step>,
-    /// Who is parked at the end.
+    /// The threads that are parked at the end.
     pub left: Vec<Parked>,
     pub end: End,
     pub fails: bool,
@@ -105,7 +105,7 @@ impl Parked {
         !matches!(self.ability, Ability::Cannot)
     }
 
-    /// The choice lets this thread go on, by a way that there is.
+    /// Whether the choice lets this thread go on, with a variant that exists.
     pub fn takes(&self, choice: Choice) -> bool
         ensures { result ≡ takes self.now choice }
     {
@@ -113,14 +113,14 @@ impl Parked {
     }
 }
 
-/// One of the parked threads can go on by this choice.
+/// Whether this choice lets one of the parked threads go on.
 pub fn can_choose(parked: &[Parked], choice: Choice) -> bool
     ensures { result ≡ can_choose parked.now choice }
 {
     parked.iter().any(|it| it.takes(choice))
 }
 
-/// The operation in front of which a thread is parked.
+/// The operation before which a thread is parked.
 pub fn parked_of(parked: &[Parked], thread: u32) -> Option<Parked> {
     parked.iter().copied().find(|it| it.thread == thread)
 }

@@ -1,5 +1,5 @@
-//! What a search takes from a trace, and what it picks next. Proved is only that what it picks is
-//! still open: that it leaves out nothing that matters is tested.
+//! What a search learns from a trace, and what it picks next. It is proved only that it picks a
+//! choice that is still open. That it leaves out nothing that matters is tested.
 ghost use Rattle.std.specs.Prelude.{◌≡◌, ◌<◌, ◌≤◌, IfOk, IfSome, length};
 
 use crate::advice::{Advice, cost};
@@ -13,15 +13,15 @@ use crate::request::Sleeper;
 use crate::trace::Room;
 use std::alloc::{AllocError, Global};
 
-/// What the search knows of the nodes of its path, and of the steps between them.
+/// What the search knows about the nodes of its path, and about the steps between them.
 #[derive(Debug, Drop)]
 pub struct Plan {
     rules: Rules,
-    /// The most that the choices of a run may cost. With no bound, steps that were tried sleep.
+    /// The maximum cost of the choices of a run. Only without a bound are there sleep sets.
     bound: Option<u32>,
     advices: Vec<Advice>,
     events: Vec<Event>,
-    /// Something was beyond the bound.
+    /// Whether something was beyond the bound.
     is_cut: bool,
 }
 
@@ -36,17 +36,17 @@ impl Plan {
         }
     }
 
-    /// Whether a choice was left out only for its cost.
+    /// Whether a choice was left out only because of its cost.
     pub fn is_cut(&self) -> bool {
         self.is_cut
     }
 
-    /// A number for the partial order of the steps of the last run.
+    /// A hash of the partial order of the steps of the last run.
     pub fn order_key(&self) -> u64 {
         order_key(&self.events)
     }
 
-    // What a choice costs, with those before it, at a node.
+    // The cost of a choice at a node, with those before it.
     fn price(&self, place: usize, parked: &[Parked], thread: u32) -> u32 {
         match self.advices.get(place) {
             Some(advice) => advice
@@ -63,7 +63,7 @@ impl Plan {
         }
     }
 
-    // The choice is worth a run, if its cost is within the bound.
+    // Whether the choice is worth a run, if its cost is within the bound.
     fn is_wanted(&self, place: usize, choice: Choice) -> bool {
         match self.advices.get(place) {
             Some(advice) => {
@@ -73,7 +73,7 @@ impl Plan {
         }
     }
 
-    /// The next choice at a node, of those that are still open there.
+    /// The next choice at a node, among those that are still open there.
     pub fn pick(&mut self, place: usize, parked: &[Parked], untried: &[Choice]) -> Option<usize>
         ensures { IfSome result (λ i. i < length untried.now) }
     {
@@ -88,13 +88,13 @@ impl Plan {
         None
     }
 
-    /// Goes back to a node.
+    /// Returns to a node.
     pub fn go_back(&mut self, place: usize) {
         self.events.truncate(place);
         self.advices.truncate(place.saturating_add(1));
     }
 
-    /// Who is to go on behind a choice at a node.
+    /// The threads that go on after a choice at a node.
     pub fn lead(&self, alloc: Global, place: usize, thread: u32) -> Result<Vec<u32>, AllocError> {
         match self.advices.get(place) {
             Some(advice) => advice.lead(alloc, thread),
@@ -102,7 +102,7 @@ impl Plan {
         }
     }
 
-    /// Who is not to go on behind a choice at a node.
+    /// The threads that must not go on after a choice at a node.
     pub fn sleepers(
         &self,
         alloc: Global,
@@ -115,7 +115,7 @@ impl Plan {
         }
     }
 
-    // What is known of the node at a place, where the events before it were made.
+    // What is known about the node at a place, given the events before it.
     fn advice_at(&self, alloc: Global, steps: &[Step], place: usize) -> Result<Advice, AllocError> {
         let before = place.checked_sub(1);
         let (Some(advice), Some(event), Some(step)) = (
@@ -141,7 +141,8 @@ impl Plan {
         Ok(new)
     }
 
-    // A deadline passes at a step, where nobody can go on: which one comes first may matter.
+    // Whether a deadline passes at this step when no thread can go on. Then it may matter which one
+    // passes first.
     fn passes_last(&self, step: &Step) -> bool {
         match parked_of(&step.parked, step.choice.thread) {
             Some(it) => !self.rules.any_time && matches!(it.ability, Ability::Late),
@@ -149,7 +150,8 @@ impl Plan {
         }
     }
 
-    // Adds the node of a step. False: the step sleeps there, so the search does not go on from it.
+    // Adds the node of a step. False if the step is in the sleep set, so that the search does not
+    // continue from it.
     fn add_node(
         &mut self,
         alloc: Global,
@@ -190,7 +192,7 @@ impl Plan {
         Ok(())
     }
 
-    // Wants what the races of the last event ask for.
+    // Adds the threads that the races of the last event ask for to the backtrack sets.
     fn find_races(&mut self, alloc: Global, trace: &Trace) -> Result<(), AllocError> {
         let races = Races {
             rules: self.rules,
@@ -203,7 +205,7 @@ impl Plan {
         races.find(alloc, &mut self.advices)
     }
 
-    // The run made at a place what the one before it made there.
+    // Whether the run made the same step at a place as the one before it.
     fn is_same(&self, place: usize, deed: &Deed) -> bool {
         match self.events.get(place) {
             Some(event) => event.deed.choice == deed.choice && event.deed.kind == deed.kind,
@@ -211,8 +213,8 @@ impl Plan {
         }
     }
 
-    /// Takes in the steps of a run by some choices. Gives at how many places the search may choose
-    /// another step.
+    /// Takes in the steps of a run whose first `asked` choices were given. Returns the number of
+    /// places at which the search may choose another step.
     pub fn learn(
         &mut self,
         alloc: Global,
@@ -246,7 +248,7 @@ impl Plan {
         Ok(trace.steps.len())
     }
 
-    /// Takes in a whole run that nothing was asked of.
+    /// Takes in a whole run without given choices.
     pub fn learn_order(
         &mut self,
         alloc: Global,

@@ -1,8 +1,9 @@
-//! Which choices are worth a run, by the races of a run: dynamic partial-order reduction by source
-//! sets.
+//! Which choices are worth a run, from the races of a run: dynamic partial-order reduction by
+//! source sets.
 //!
-//! None of this is proved but that it is total: a choice that no race asks for is not made, so a
-//! race that is overlooked is an order that is not tried. Tests compare it with all interleavings.
+//! Only termination and safety are proved. A choice that no race asks for is not made, so a race
+//! that is overlooked is an order that is not tried. Tests compare the result with all
+//! interleavings.
 
 use crate::advice::{Advice, Lead};
 use crate::deed::Deed;
@@ -13,29 +14,31 @@ use crate::kind::Kind;
 use crate::operation::{Ability, Choice, Parked, Step, parked_of};
 use std::alloc::{AllocError, Global};
 
-/// A run, as far as its races were looked for.
+/// A run, with the events whose races were searched for.
 #[derive(Clone, Copy, Debug)]
 pub struct Races<'r> {
     pub rules: Rules,
-    /// The search is within a bound: it asks for more, since what races may be beyond the bound.
+    /// Whether the search is within a bound. Then it asks for more choices, because those that
+    /// races ask for may be beyond the bound.
     pub is_bounded: bool,
-    /// The last is the one whose races are looked for.
+    /// The races of the last one are searched for.
     pub events: &'r [Event],
     /// All steps of the run.
     pub steps: &'r [Step],
-    /// Who is parked at the end.
+    /// The threads that are parked at the end.
     pub left: &'r [Parked],
-    /// The run ended by itself, and not because all that could go on slept.
+    /// Whether the run ended by itself, and not because all threads that could go on were in the
+    /// sleep set.
     pub is_whole: bool,
 }
 
-// Who comes in front of an event with which a step of its races.
+// The thread that is to come before an event with which its step races.
 #[derive(Clone, Copy, Debug)]
 struct Overtaking {
     thread: u32,
-    /// The places of the events between them end here.
+    /// The events between the two steps end before this place.
     end: usize,
-    /// The place of the step that races, if it was made.
+    /// The index of the step that races, if it was made.
     made: Option<usize>,
 }
 
@@ -44,7 +47,7 @@ fn is_same(a: &Parked, b: &Parked) -> bool {
 }
 
 impl Races<'_> {
-    // Who is parked after the step at a place and the local ones that follow it.
+    // The threads that are parked after the step at a place and the local steps that follow it.
     fn parked_after(&self, place: usize) -> &[Parked] {
         for i in place.saturating_add(1)..self.steps.len() {
             if !is_local(&self.steps[i]) {
@@ -54,7 +57,7 @@ impl Races<'_> {
         self.left
     }
 
-    // Whether a thread makes one of the local steps behind a place, of this kind if one is given.
+    // Whether a thread makes one of the local steps after a place, of this kind if one is given.
     fn goes_on_after(&self, place: usize, thread: u32, kind: Option<Kind>) -> bool {
         for i in place.saturating_add(1)..self.steps.len() {
             let step = &self.steps[i];
@@ -79,7 +82,7 @@ impl Races<'_> {
         }
     }
 
-    // Whether a thread can go on, also while others can.
+    // Whether a thread can go on even while others can.
     fn goes_on(&self, it: &Parked) -> bool {
         match it.ability {
             Ability::Cannot => false,
@@ -88,7 +91,7 @@ impl Races<'_> {
         }
     }
 
-    // An event comes before a clock.
+    // Whether an event comes before a clock.
     fn is_in(&self, clock: &Clock, place: usize) -> bool {
         match self.events.get(place) {
             Some(event) => clock.has(event),
@@ -96,7 +99,7 @@ impl Races<'_> {
         }
     }
 
-    /// Asks for what the races of the last event make worth a run.
+    /// Adds the choices that the races of the last event ask for.
     pub fn find(&self, alloc: Global, advices: &mut [Advice]) -> Result<(), AllocError> {
         let Some(event) = self.events.last() else {
             return Ok(());
@@ -137,7 +140,8 @@ impl Races<'_> {
         Ok(())
     }
 
-    // Whom a step disables, or keeps from going on, and whom it answers before the deadline.
+    // The threads that a step disables or keeps from going on, and those that it serves before
+    // their deadlines.
     fn find_kept(
         &self,
         alloc: Global,
@@ -196,7 +200,7 @@ impl Races<'_> {
         self.may_race_with(alloc, place, deed, &then)
     }
 
-    // An operation that is still to be made may race with a step.
+    // Whether an operation that is still to be made may race with a step.
     fn may_race_with(
         &self,
         alloc: Global,
@@ -208,8 +212,8 @@ impl Races<'_> {
         Ok(may_race_if_made(deed, place, &likely))
     }
 
-    // A thread that comes to an operation that it can't make, and at the end all that were not
-    // made.
+    // The thread of a step if it reaches an operation that it cannot do; and at the end, all
+    // operations that were not done.
     fn find_stopped(
         &self,
         alloc: Global,
@@ -232,8 +236,8 @@ impl Races<'_> {
         Ok(())
     }
 
-    // Asks for the steps, up to one, that race with an operation that is still to be made, or only
-    // for the last.
+    // Searches back for the steps that race with an operation that is still to be made, or only for
+    // the last of them.
     fn look_back(
         &self,
         alloc: Global,
@@ -265,7 +269,8 @@ impl Races<'_> {
         Ok(())
     }
 
-    // Lets a thread come in front of the event at a place: wants a choice there that leads to it.
+    // Asks for a run in which a thread comes before the event at a place: adds a choice there that
+    // leads to it.
     fn ask(
         &self,
         alloc: Global,
@@ -293,7 +298,7 @@ impl Races<'_> {
         advice.want(first)
     }
 
-    // Wants a thread at a place, or if it can't go on there, all that can.
+    // Adds a thread at a place, or if it cannot go on there, all that can.
     fn ask_at(&self, advices: &mut [Advice], i: usize, thread: u32) -> Result<(), AllocError> {
         let (Some(advice), Some(step)) = (advices.get_mut(i), self.steps.get(i)) else {
             return Ok(());
@@ -304,7 +309,7 @@ impl Races<'_> {
         }
     }
 
-    // The place at which the thread of an event got the turn.
+    // The place at which the thread of an event was last switched to.
     fn first_of_block(&self, i: usize) -> usize {
         let mut first = i;
         let Some(event) = self.events.get(i) else {
@@ -323,7 +328,7 @@ impl Races<'_> {
         first
     }
 
-    // The places behind one, up to an end, whose events don't come after its.
+    // The places after i and before `end` whose events do not come after the event i.
     fn apart(&self, alloc: Global, i: usize, end: usize) -> Result<Vec<usize>, AllocError> {
         let mut apart = Vec::new(alloc);
         if let Some(event) = self.events.get(i) {
@@ -338,8 +343,8 @@ impl Races<'_> {
         Ok(apart)
     }
 
-    // The threads whose event can be the first of these, with the one that overtakes, and that can
-    // go on at the place.
+    // The threads that can go on at the place and whose event can come first of all these, with the
+    // one that overtakes.
     fn firsts(
         &self,
         alloc: Global,
@@ -385,7 +390,7 @@ impl Races<'_> {
         }
     }
 
-    // None of the events at those places, as far as they are below one, comes before a clock.
+    // Whether none of the events at those places before `below` comes before a clock.
     fn is_first(&self, apart: &[usize], below: usize, clock: &Clock) -> bool {
         !apart.iter().any(|g| *g < below && self.is_in(clock, *g))
     }
@@ -400,7 +405,7 @@ impl Races<'_> {
         }
     }
 
-    // Who goes on behind the first choice, so that the race is had in its other order.
+    // The threads that go on after the first choice, so that the race is run in its other order.
     fn lead(
         &self,
         alloc: Global,
@@ -429,12 +434,12 @@ impl Races<'_> {
     }
 }
 
-// A choice of the thread was wanted before, or sleeps.
+// Whether a choice of the thread is in the backtrack set or in the sleep set.
 fn is_had(advice: &Advice, thread: u32) -> bool {
     advice.wants(thread) || advice.sleeps(Choice { thread, variant: 0 })
 }
 
-// The thread itself, if it is among them, else the first.
+// The thread itself if it is among these, else the first of them.
 fn best(firsts: &[u32], thread: u32) -> Option<u32> {
     if firsts.contains(&thread) {
         Some(thread)

@@ -11,15 +11,15 @@ use text_io::words::{count_of, number, small_number, words};
 /// What a line of a trace says.
 #[derive(Debug, Drop)]
 pub enum Record {
-    /// Who is parked before the next step.
+    /// The threads that are parked before the next step.
     At(Vec<Parked>),
     Chose(Choice),
     Also(Also),
-    /// What came of the step: an error, 0 if there is none, and a value.
+    /// The result of the step: an error, 0 if there is none, and a value.
     Gave(u32, u64),
-    /// A queue, how many messages it takes, and how many it held when it was first seen.
+    /// A queue, how many messages it can hold, and how many it held when it was first seen.
     Room(u32, u32, u32),
-    /// Who is parked at the end.
+    /// The threads that are parked at the end.
     Left(Vec<Parked>),
     /// How the run ended, and whether it fails.
     End(End, bool),
@@ -34,7 +34,7 @@ fn ability_of(word: &[u8]) -> Option<Ability> {
     }
 }
 
-// A sum of 1, 2 and 4, each once at most.
+// A sum of 1, 2 and 4, each at most once.
 fn flags_of(word: &[u8]) -> Option<u32>
     ensures { IfSome result (λ n. n ≤ 7) }
 {
@@ -146,7 +146,7 @@ fn end(how: &[u8], fails: &[u8]) -> Option<Record> {
     }
 }
 
-/// What a line says, unless it is none of the protocol.
+/// What a line says, or `None` if it is not one of the protocol.
 pub fn record_of(alloc: Global, line: &[u8]) -> Result<Option<Record>, AllocError> {
     let words = words(alloc, line)?;
     match words.as_slice() {

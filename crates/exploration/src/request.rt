@@ -1,4 +1,4 @@
-//! What is asked of a program.
+//! What a program is asked to do.
 
 use crate::fault::Fault;
 use crate::operation::Choice;
@@ -6,18 +6,18 @@ use std::alloc::{AllocError, Global};
 use std::io::Write;
 use text_io::output::write_all;
 
-/// A thread that is not to go on before a step touches the object.
+/// A thread that must not go on before a step accesses the object.
 #[derive(Clone, Copy, Debug)]
 pub struct Sleeper {
     pub thread: u32,
     pub object: u32,
 }
 
-/// A run: these choices from the first step on, and then by a rule.
+/// A run with these choices first, and then by the rule of the program.
 #[derive(Debug, Drop)]
 pub struct Request {
     pub choices: Vec<Choice>,
-    /// Threads to go on with behind the choices, in this order, as long as they can.
+    /// The threads that go on after the choices, in this order, as long as they can.
     pub lead: Vec<u32>,
     pub sleepers: Vec<Sleeper>,
 }
@@ -25,7 +25,7 @@ pub struct Request {
 impl Request {
     ghost use Rattle.std.specs.Prelude.{◌≡◌, []};
 
-    /// The run that takes the rule alone.
+    /// The run that only follows the rule.
     pub fn first(alloc: Global) -> Request
         ensures { result.choices.items ≡ [] }
     {

@@ -1,4 +1,4 @@
-//! A search through the schedules of a program, depth first.
+//! A depth-first search through the schedules of a program.
 ghost use Rattle.std.specs.Prelude.{◌≡◌, ◌+◌, ◌*◌, ◌-◌, ◌^◌, ◌<◌, ◌≤◌, suc, true, Bool, ℕ, List, [], ◌∷◌, ◌++◌, All, IfOk, IfSome, OnOk, length, take};
 ghost use Rattle.exploration.specs.Choices.{can_choose};
 ghost use Rattle.exploration.specs.Shown.{IsOpen, Possible, Shows, runs_left, runs_of};
@@ -20,19 +20,19 @@ pub struct Node {
     pub prefix: Vec<Choice>,
     /// The choices that no run took here.
     pub open: Vec<Choice>,
-    /// Who is parked.
+    /// The threads that are parked.
     pub parked: Vec<Parked>,
 }
 
-/// How large runs may be.
+/// The limits on the size of runs.
 #[derive(Clone, Copy, Debug)]
 pub struct Limits {
     pub steps: usize,
-    /// The choices of a step, but the one that was made.
+    /// The choices of a step, apart from the one that was made.
     pub choices: usize,
 }
 
-// The choices that can be made where these threads are parked, but the one that was made.
+// The choices that these parked threads allow, apart from the one that was made.
 fn other_choices(alloc: Global, parked: &[Parked], made: Choice) -> Result<Vec<Choice>, AllocError>
     ensures { IfOk result (λ found.
         All (λ choice. can_choose parked.now choice ≡ true) found.items) }
@@ -72,7 +72,7 @@ fn node_at(alloc: Global, limits: Limits, prefix: &[Choice], step: &Step) -> Res
     })
 }
 
-// Adds the node of a step that was made after these choices.
+// Appends the node of a step that was made after these choices.
 fn add_node(
     alloc: Global,
     limits: Limits,
@@ -109,7 +109,7 @@ fn push_choice(choices: &mut Vec<Choice>, choice: Choice) -> Result<(), AllocErr
     Ok(())
 }
 
-// Adds the nodes of the steps from a place on.
+// Appends the nodes of the steps from a place on.
 fn add_nodes(
     alloc: Global,
     limits: Limits,
@@ -159,17 +159,17 @@ impl Search {
         }
     }
 
-    /// Whether a choice was left out only for its cost.
+    /// Whether a choice was left out only because of its cost.
     pub fn is_cut(&self) -> bool {
         self.plan.is_cut()
     }
 
-    /// A number for the partial order of the last run.
+    /// A hash of the partial order of the last run.
     pub fn order_key(&self) -> u64 {
         self.plan.order_key()
     }
 
-    /// Takes in a run by these choices. Says whether the search goes on from all of it.
+    /// Takes in a run with these choices. Returns whether the search continues from all of it.
     pub fn learn(
         &mut self,
         alloc: Global,
@@ -204,7 +204,7 @@ impl Search {
         Ok(count == steps.len())
     }
 
-    /// The next run, unless there is none left.
+    /// The next run, if there is one left.
     pub fn next(&mut self, alloc: Global) -> Result<Option<Request>, AllocError>
         ensures possible { (could : List Choice → Choice → Bool) →
             All (IsOpen could) self.old.nodes.items →
@@ -226,7 +226,7 @@ impl Search {
         Ok(None)
     }
 
-    // The run that takes an open choice at a node, which is the last from then on.
+    // The run that takes an open choice at a node, which then becomes the last node.
     fn go_on(&mut self, alloc: Global, mut node: Node, at: usize) -> Result<Request, AllocError>
         requires { at < length node.open.items }
         ensures possible { (could : List Choice → Choice → Bool) →
@@ -256,7 +256,7 @@ impl Search {
     }
 }
 
-// Choices, and one more.
+// Choices, with one more at the end.
 fn extended(alloc: Global, prefix: &[Choice], choice: Choice) -> Result<Vec<Choice>, AllocError>
     ensures { IfOk result (λ choices. choices.items ≡ prefix.now ++ choice ∷ []) }
 {
@@ -265,7 +265,7 @@ fn extended(alloc: Global, prefix: &[Choice], choice: Choice) -> Result<Vec<Choi
     Ok(choices)
 }
 
-// The steps begin with these choices.
+// Whether the steps begin with these choices.
 fn takes(steps: &[Step], asked: &[Choice]) -> bool {
     asked.len() <= steps.len()
         && asked

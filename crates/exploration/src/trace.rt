@@ -1,4 +1,4 @@
-//! Traces, read line by line.
+//! Reading traces, line by line.
 
 use crate::fault::Fault;
 use crate::operation::{Also, Choice, End, Parked, Step, Trace, can_choose};
@@ -6,7 +6,7 @@ use crate::record::{Record, record_of};
 use std::alloc::{AllocError, Global};
 use std::io::BufRead;
 
-/// How many messages a queue takes, and how many it held when it was first seen.
+/// How many messages a queue can hold, and how many it held when it was first seen.
 #[derive(Clone, Copy, Debug)]
 pub struct Room {
     pub object: u32,
@@ -31,7 +31,7 @@ impl<R: BufRead + Drop> Lines<R> {
         }
     }
 
-    /// Reads a line. False: the input is at its end.
+    /// Reads a line. False at the end of the input.
     pub fn advance(&mut self) -> Result<bool, Fault> {
         self.line.clear();
         self.count = self.count.saturating_add(1);
@@ -46,13 +46,13 @@ impl<R: BufRead + Drop> Lines<R> {
         self.line.as_slice()
     }
 
-    /// This line is malformed.
+    /// The error that this line is malformed.
     pub fn malformed(&self) -> Fault {
         Fault::Malformed { line: self.count }
     }
 }
 
-// What was read of a trace.
+// The part of a trace that was read so far.
 #[derive(Drop)]
 struct Draft {
     steps: Vec<Step>,
@@ -69,7 +69,7 @@ impl Draft {
         }
     }
 
-    // Makes the step that was chosen where those threads are parked, if one of them can make it.
+    // Adds the chosen step, if one of the parked threads can make it.
     fn choose(&mut self, alloc: Global, choice: Choice) -> Result<bool, AllocError> {
         let Some(parked) = self.parked.take() else {
             return Ok(false);
@@ -98,7 +98,7 @@ impl Draft {
         }
     }
 
-    // Adds what a line says, if it is in place.
+    // Adds what a line says, if it is in its place.
     fn add(
         &mut self,
         alloc: Global,
@@ -154,7 +154,7 @@ impl Draft {
     }
 }
 
-/// Reads a trace, up to its last line. It has so many steps at most.
+/// Reads a trace, up to its last line. It has at most `most` steps.
 pub fn read_trace<R: BufRead + Drop>(
     alloc: Global,
     lines: &mut Lines<R>,

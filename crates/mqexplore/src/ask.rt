@@ -1,4 +1,4 @@
-//! What the launcher asks for.
+//! The options that the launcher sends.
 
 use exploration::explore::Options;
 use exploration::follow::Rules;
@@ -6,7 +6,7 @@ use exploration::search::Limits;
 use std::alloc::{AllocError, Global};
 use text_io::words::{number, small_number, words};
 
-// The most steps of a run, and the most choices of a step.
+// The maximum number of steps of a run, and of choices of a step.
 const LIMITS: Limits = Limits {
     steps: 1_000_000,
     choices: 4096,

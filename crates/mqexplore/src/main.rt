@@ -1,5 +1,5 @@
-//! Chooses the schedules by which a launcher runs a program: reads traces from the standard input
-//! and writes requests to the standard output.
+//! Chooses the schedules under which a launcher runs a program. It reads traces from standard input
+//! and writes requests to standard output.
 #![tactic(auto)]
 
 mod ask;
@@ -19,7 +19,7 @@ fn main(rt: HostRuntime) -> ExitCode {
     match run(&rt, rt.alloc()) {
         Ok(()) => ExitCode::SUCCESS,
         Err(fault) => {
-            // Nothing is left to do where this cannot be written.
+            // If this cannot be written, there is nothing left to do.
             let _ = eprintln!(rt; "{fault}");
             ExitCode::from(2)
         }

@@ -9,7 +9,7 @@ use exploration::trace::{Lines, Room, read_trace};
 use std::alloc::{AllocError, Global};
 use std::io::{BufRead, Write};
 
-/// A launcher that answers each request by a trace.
+/// A launcher that answers each request with a trace.
 #[derive(Drop)]
 pub struct Pipe<R: BufRead + Drop, W: Write + Drop> {
     lines: Lines<R>,
@@ -30,7 +30,7 @@ impl<R: BufRead + Drop, W: Write + Drop> Pipe<R, W> {
         }
     }
 
-    /// Writes a line, at once.
+    /// Writes a line, and flushes.
     pub fn say(&mut self, line: &str) -> Result<(), Fault> {
         write_line(&mut self.output, line)?;
         match self.output.flush() {
@@ -66,7 +66,7 @@ pub fn summary_text(alloc: Global, summary: &Summary) -> Result<String, AllocErr
 }
 
 impl<R: BufRead + Drop, W: Write + Drop> Program for Pipe<R, W> {
-    // What the other side showed is not known to a proof.
+    // A proof knows nothing about what the other side showed.
     ghost could = { λ _ _ _. true };
 
     fn run(&mut self, alloc: Global, request: &Request) -> Result<Trace, Fault> {
