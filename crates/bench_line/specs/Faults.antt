@@ -32,7 +32,7 @@ line_fault_text CrowdMessages = codes "line 1: P times N must be at most 1000000
 line_fault_text OddCrowd = codes "line 1: P must be even"
 line_fault_text NoJournal = codes "line 1: check and replay read a journal, and unstored stores none"
 
--- the line on the error stream
+-- the line on standard error
 abbrev pub fault_text : BenchFault → List ℕ
 fault_text (BadLine fault) = line_fault_text fault
 fault_text Input = codes "input fault"
@@ -46,29 +46,29 @@ exit_status Input = 3
 exit_status Output = 3
 exit_status (Failed fault) = 4
 
--- why a workload ends in which a call was refused
+-- why a workload ends if a call failed
 abbrev pub of_fault : Fault → WorkFault
 of_fault fault.NoMemory = NoMemory
 of_fault fault = Refused fault
 
--- why a run ends whose input was not read to its end
+-- why a run ends if its input was not read to its end
 abbrev pub of_read_fault : ReadFault → BenchFault
 of_read_fault read.Failed = Input
 of_read_fault read.NoMemory = Failed NoMemory
 
--- a run of a line that is at fault so: it says so, unless it could not read the line
+-- The run of a line with this error reports it, unless the line could not be read.
 abbrev pub IsRefusal : LineFault → Result (Unit {0}) BenchFault → Type 0
 IsRefusal fault (Err (BadLine why)) = why ≡ fault
 IsRefusal fault (Err Input) = Unit {0}
 IsRefusal fault (Err (Failed NoMemory)) = Unit {0}
 IsRefusal fault result = ⊥
 
--- the run does not call its line at fault
+-- the run does not report a wrong line
 abbrev pub IsOfGoodLine : Result (Unit {0}) BenchFault → Type 0
 IsOfGoodLine (Err (BadLine fault)) = ⊥
 IsOfGoodLine result = Unit {0}
 
--- what reading came to is what the line asks for, unless a read failed or memory ran out
+-- The result of reading is what the line asks for, unless a read failed or memory was refused.
 abbrev pub Reads : Result Request LineFault → Result Request BenchFault → Type 0
 Reads asked (Ok request) = asked ≡ Ok request
 Reads asked (Err (BadLine fault)) = asked ≡ Err fault
@@ -76,7 +76,7 @@ Reads asked (Err Input) = Unit {0}
 Reads asked (Err (Failed NoMemory)) = Unit {0}
 Reads asked (Err other) = ⊥
 
--- what a text that was read came to: no read can fail any more
+-- the result for a text that was read: no read can fail any more
 abbrev pub IsOfText : Result Request BenchFault → Type 0
 IsOfText (Ok request) = Unit {0}
 IsOfText (Err (BadLine fault)) = Unit {0}

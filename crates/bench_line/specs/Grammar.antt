@@ -17,12 +17,12 @@ use Rattle.bench_line.specs.declared.workload.Request.TheVariants as request
 use Rattle.bench_line.specs.declared.workload.Name.{Name}
 use Rattle.bench_line.specs.declared.workload.Name.TheVariants as name
 
--- the one word after the names that take one size
+-- the one word after a name that takes one size
 abbrev pub size_alone : Size → List Word → Result ℕ LineFault
 size_alone size (word ∷ []) = size_written size word
 size_alone size words = Err NoWorkload
 
--- what the words after each other name write: at most ten million messages in all rounds
+-- what the words after each other name mean: at most ten million messages in all rounds
 abbrev pub deep_written : List Word → Result Workload LineFault
 deep_written (depth ∷ rounds ∷ []) = do
   depth ← size_written sizes.Depth depth
@@ -30,7 +30,7 @@ deep_written (depth ∷ rounds ∷ []) = do
   if nat_le (depth * rounds) 10000000 then Ok (workload.Deep depth rounds) else Err DeepMessages
 deep_written words = Err NoWorkload
 
--- one process where none is named
+-- one process, if no number is given
 abbrev pub replay_written : List Word → Result Workload LineFault
 replay_written (entries ∷ []) = do
   entries ← size_written sizes.Entries entries
@@ -67,7 +67,7 @@ storm_written (seed ∷ calls ∷ []) = do
   Ok (workload.Storm seed calls)
 storm_written words = Err NoWorkload
 
--- the word of each workload
+-- the word for each workload
 abbrev pub name_text : Name → List ℕ
 name_text name.Pair = codes "pair"
 name_text name.Deep = codes "deep"
@@ -83,7 +83,7 @@ name_text name.Storm = codes "storm"
 abbrev pub names : List Name
 names = name.Pair ∷ name.Deep ∷ name.Wide ∷ name.PingPong ∷ name.Stream ∷ name.Check ∷ name.Replay ∷ name.Crowd ∷ name.Idle ∷ name.Storm ∷ []
 
--- the name that a word is
+-- the name with this word
 abbrev pub named : Word → Option Name
 named word = find (λ name. bytes_eq word (name_text name)) names
 
@@ -91,7 +91,7 @@ named word = find (λ name. bytes_eq word (name_text name)) names
 abbrev pub name_written : Word → Result Name LineFault
 name_written word = ok_or (named word) NoWorkload
 
--- the workload that a name and the words after it write
+-- the workload that a name and the words after it mean
 abbrev pub workload_written : Name → List Word → Result Workload LineFault
 workload_written name.Pair words = do
   rounds ← size_alone sizes.Rounds words
@@ -114,7 +114,7 @@ workload_written name.Crowd words = crowd_written words
 workload_written name.Idle words = idle_written words
 workload_written name.Storm words = storm_written words
 
--- a workload in a system with bounds: how many entries, how many payload bytes, and the workload
+-- a workload in a system with bounds: the numbers of entries and of payload bytes, and the workload
 abbrev pub bounded_written : ℕ → List Word → Result Request LineFault
 bounded_written busy (entries ∷ bytes ∷ word ∷ arguments) = do
   entries ← size_written sizes.MostEntries entries
@@ -150,14 +150,14 @@ unbounded_written busy word arguments = do
   workload ← workload_written name arguments
   Ok (request.Measure workload (record { storage = storage.Whole; busy = busy }))
 
--- a workload beside so many threads that count
+-- a workload beside `busy` threads that count
 abbrev pub measured_written : ℕ → List Word → Result Request LineFault
 measured_written busy [] = Err NoWorkload
 measured_written busy (word ∷ arguments) =
     if bytes_eq word (codes "bounded") then bounded_written busy arguments
     else (if bytes_eq word (codes "unstored") then unstored_written busy arguments else unbounded_written busy word arguments)
 
--- how many threads count, at most 32, and a workload beside them
+-- the number of threads that count, at most 32, and a workload beside them
 abbrev pub busy_written : List Word → Result Request LineFault
 busy_written [] = Err NoWorkload
 busy_written (busy ∷ words) = do
@@ -169,14 +169,14 @@ abbrev pub request_written : List Word → Result Request LineFault
 request_written [] = Ok request.Usage
 request_written (word ∷ arguments) = if bytes_eq word (codes "busy") then busy_written arguments else measured_written 0 (word ∷ arguments)
 
--- the bytes without the feed that ends them, if one does
+-- the bytes without a line feed at their end
 abbrev pub without_feed : List ℕ → List ℕ
 without_feed text = if nat_lt 0 (length text) && (slice_index text (length text - 1) == 10) then take (length text - 1) text else text
 
--- no feed stands before the last byte
+-- there is no line feed before the last byte
 abbrev pub is_one_line : List ℕ → Bool
 is_one_line text = not (list_any (λ b. b == 10) (without_feed text))
 
--- what an input asks for: one line of at most 256 bytes with its feed, which may be missing
+-- What an input asks for: one line of at most 256 bytes with its line feed, which may be missing.
 abbrev pub request_read : List ℕ → Result Request LineFault
 request_read text = if nat_le (length text) 256 && is_one_line text then request_written (words_of text) else Err NoWorkload

@@ -6,7 +6,7 @@ use Rattle.bench_line.specs.declared.fault.LineFault.TheVariants.{OutOfRange}
 use Rattle.bench_line.specs.declared.size.Size.{Size}
 use Rattle.bench_line.specs.declared.size.Size.TheVariants.{Rounds, Entries, Depth, Processes, Sharers, Milliseconds, Seed, MostEntries, MostBytes, Busy}
 
--- the letter by which the usage names a size
+-- the letter of a size in the usage
 abbrev pub letter_of : Size → List ℕ
 letter_of Rounds = codes "N"
 letter_of Entries = codes "K"
@@ -36,13 +36,13 @@ most_of MostEntries = 1000000000
 most_of MostBytes = 1000000000
 most_of Busy = 32
 
--- what f gives for the value, unless the line is at fault before
+-- f of the value, unless the line is already wrong
 infixl 10 ◌>>=◌
 abbrev pub ◌>>=◌ : {A B : Type 0} → Result A LineFault → (A → Result B LineFault) → Result B LineFault
 (Err fault) >>= f = Err fault
 (Ok x) >>= f = f x
 
--- the number that a word writes of a size
+-- the number that a word means for a size
 abbrev pub size_written : Size → Word → Result ℕ LineFault
 size_written size word = do
   n ← ok_or (count_written (most_of size) word) (OutOfRange size)

@@ -1,4 +1,4 @@
--- What is printed where the input is empty.
+-- What is printed if the input is empty.
 use Rattle.std.specs.Prelude.{ℕ, ◌++◌, ◌∷◌, [], List, codes}
 
 abbrev pub line : List ℕ → List ℕ

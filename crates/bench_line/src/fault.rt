@@ -21,31 +21,32 @@ pub enum WorkFault {
     NoThread,
     /// The clock could not be read.
     NoClock,
-    /// A call was refused, though memory was not.
+    /// A call failed, for another reason than memory.
     Refused(Fault),
 }
 
 /// What is wrong with a line.
 #[derive(Clone, Copy, Debug, PartialEq, Eq)]
 pub enum LineFault {
-    /// It names no workload, or has a word too many or too few.
+    /// It names no workload, or has too many or too few words.
     NoWorkload,
-    /// This size is no number, or out of its range.
+    /// This size is not a number, or is out of range.
     OutOfRange(Size),
     /// The rounds of this depth have too many messages.
     DeepMessages,
-    /// The rounds of so many processes have too many messages.
+    /// The rounds of this number of processes have too many messages.
     CrowdMessages,
-    /// The number of a crowd's processes is odd.
+    /// The number of processes of a crowd is odd.
     OddCrowd,
-    /// The workload reads a journal, and the system is to store none.
+    /// The workload reads a journal, but the system is not to store one.
     NoJournal,
 }
 
-/// Why a run ended without a result. Its text is the line that the program writes to the error stream.
+/// Why a run ended without a result. It prints as the line that the program writes to standard
+/// error.
 #[derive(Clone, Copy, Debug, PartialEq, Eq)]
 pub enum BenchFault {
-    /// The line asks for nothing that can be measured.
+    /// The line does not ask for anything that can be measured.
     BadLine(LineFault),
     /// The line could not be read.
     Input,

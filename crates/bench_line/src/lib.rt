@@ -1,4 +1,4 @@
-//! What a run of the benchmark is asked for by its line, what it prints where the line is empty, and why it ends without a result.
+//! The line that asks for a run of the benchmark, the usage, and the errors.
 #![tactic(auto)]
 
 pub mod fault;

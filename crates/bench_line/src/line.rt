@@ -1,4 +1,4 @@
-//! The line of a run, from the bytes of its input.
+//! Reading the line of a run from the bytes of an input.
 ghost use Rattle.std.specs.Prelude.{◌≡◌, ◌+◌, ℕ, List, OnErr, OnOk, Some, take};
 ghost use Rattle.std.specs.Io.KnownBytes.{Appends};
 ghost use Rattle.text_io.specs.Output.{AppendsTooLittle};
@@ -14,10 +14,10 @@ use text_io::input::read_all;
 use text_io::output::{WriteFailed, write_all};
 use text_io::words::words;
 
-/// The most bytes of an input.
+/// The maximum length of an input, in bytes.
 pub const MOST_BYTES: usize = 256;
 
-/// What the program prints where the input is empty.
+/// What the program prints if the input is empty.
 const USAGE: &[u8] = b"\
 usage: one line on the standard input, of a workload and its sizes
   pair N      one process: a send and a receive in turn, N times each
@@ -37,8 +37,8 @@ N, K and S from 1 to 10000000, D from 1 to 4096, D times N at most 10000000
 P from 2 to 32, from 1 for a replay, even for a crowd, P times N at most 10000000 there, T from 1 to 60000
 ";
 
-/// Reads what the line of an input asks for. `BenchFault::BadLine`: the line is at fault. `BenchFault::Input`: a read failed.
-/// `BenchFault::Failed`: memory was refused.
+/// What the line of an input asks for. Fails with `BenchFault::BadLine` if the line is wrong, with
+/// `BenchFault::Input` if a read failed, or with `BenchFault::Failed` if memory was refused.
 pub fn read_request<R: Read>(alloc: Global, input: &mut R) -> Result<Request, BenchFault>
     ensures { (all : List ℕ) → R.remaining input.old ≡ Some all →
         Reads (request_read (take (MOST_BYTES + 1) all)) result }
@@ -47,7 +47,7 @@ pub fn read_request<R: Read>(alloc: Global, input: &mut R) -> Result<Request, Be
     request_in(alloc, text.as_slice())
 }
 
-/// Writes the usage. `WriteFailed`: a write failed, which may have written a part.
+/// Writes the usage. If a write fails, a prefix may be written.
 pub fn write_usage<W: Write>(output: &mut W) -> Result<(), WriteFailed>
     ensures whole { OnOk result (Appends (W.contents output.old)
         (W.contents output.new) usage_text) }
@@ -76,14 +76,14 @@ fn request_in(alloc: Global, text: &[u8]) -> Result<Request, BenchFault>
     Ok(request_of(words.as_slice())?)
 }
 
-// No feed stands before the last byte.
+// Whether there is no line feed before the last byte.
 fn is_one_line(text: &[u8]) -> bool
     ensures { result ≡ is_one_line text.now }
 {
     !without_feed(text).contains(&b'\n')
 }
 
-// A line without the feed that ends it.
+// A line without its line feed.
 fn without_feed(text: &[u8]) -> &[u8]
     ensures { result.now ≡ without_feed text.now }
 {

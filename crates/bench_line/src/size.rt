@@ -6,10 +6,10 @@ use crate::fault::LineFault;
 use mq_model::limits;
 use text_io::words::count_of;
 
-/// A size of a workload. The usage names it by a letter.
+/// A size of a workload. The usage has a letter for each.
 #[derive(Clone, Copy, Debug, PartialEq, Eq)]
 pub enum Size {
-    /// How often a workload does its work.
+    /// How often a workload repeats its work.
     Rounds,
     /// The entries of a journal.
     Entries,
@@ -21,7 +21,7 @@ pub enum Size {
     Sharers,
     /// The time of a workload.
     Milliseconds,
-    /// From what a storm draws its calls.
+    /// The seed of a storm's pseudorandom calls.
     Seed,
     /// The entries of a bounded journal.
     MostEntries,
@@ -32,7 +32,7 @@ pub enum Size {
 }
 
 impl Size {
-    /// The letter by which the usage names it.
+    /// The letter of the size in the usage.
     pub fn letter(self) -> &'static str
         ensures { result.now ≡ letter_of self }
     {
@@ -49,7 +49,7 @@ impl Size {
         }
     }
 
-    /// The least number of it.
+    /// The least valid number.
     pub fn least(self) -> u32
         ensures { result ≡ least_of self }
     {
@@ -59,7 +59,7 @@ impl Size {
         }
     }
 
-    /// The greatest number of it.
+    /// The greatest valid number.
     pub fn most(self) -> u32
         ensures { result ≡ most_of self }
     {
@@ -73,7 +73,7 @@ impl Size {
         }
     }
 
-    /// The number that a word writes of it.
+    /// The number that a word means for this size.
     pub fn read(self, word: &[u8]) -> Result<u32, LineFault>
         ensures written { result ≡ size_written self word.now }
         ensures bound { IfOk result (λ n. n ≤ most_of self) }

@@ -1,4 +1,4 @@
-//! What a run is asked for, and the words that write it.
+//! What a line asks for, and the words for it.
 ghost use Rattle.std.specs.Prelude.{◌≡◌, ◌≤◌, ◌*◌, map};
 ghost use Rattle.bench_line.specs.Grammar.{request_written, busy_written, measured_written, bounded_written, unstored_written, reads_journal, is_stored, workload_written, size_alone, deep_written, replay_written, crowd_written, idle_written, storm_written, name_written, named};
 
@@ -15,19 +15,22 @@ pub enum Workload {
     Deep { depth: u32, rounds: u32 },
     /// One of 32 processes, which have 16 descriptors each on 64 queues, sends and receives in turn.
     Wide { rounds: u32 },
-    /// Two processes in two threads send a message to and fro.
+    /// Two processes in two threads send a message back and forth.
     PingPong { rounds: u32 },
-    /// A process sends, and another one receives in a thread of its own.
+    /// A process sends, and another one receives in another thread.
     Stream { rounds: u32 },
-    /// A journal of so many entries is checked.
+    /// A journal of this number of entries is checked.
     Check { entries: u32 },
-    /// A journal of so many entries of so many processes, each of which sends and receives in turn on two queues, is replayed.
+    /// A journal of this number of entries is replayed. Its processes send and receive in turn,
+    /// each on two queues.
     Replay { entries: u32, processes: u32 },
-    /// Half of the processes send so many messages each, and half receive them, each process in a thread of its own.
+    /// Half of the processes send `rounds` messages each, and half receive them, with one thread
+    /// for each process.
     Crowd { processes: u32, rounds: u32 },
-    /// One process works alone for so many milliseconds, while the others are blocked.
+    /// One process works for this number of milliseconds, while the others are blocked.
     Idle { processes: u32, milliseconds: u32 },
-    /// 32 processes, each in a thread of its own, make about so many calls of every kind, at random from a seed.
+    /// 32 processes make about this number of calls of every kind, pseudorandom from a seed, with
+    /// one thread for each process.
     Storm { seed: u32, calls: u32 },
 }
 
@@ -48,7 +51,7 @@ impl Workload {
 pub enum Storage {
     /// Every entry.
     Whole,
-    /// Every entry, as many as the bounds allow.
+    /// Every entry, within these bounds.
     Bounded(Bounds),
     /// Nothing: the journal is a history variable.
     Unstored,
@@ -66,12 +69,12 @@ impl Storage {
     }
 }
 
-/// In what a workload is carried out.
+/// The conditions under which a workload is carried out.
 #[derive(Clone, Copy)]
 pub struct Conditions {
     /// What the system stores of its journal.
     pub storage: Storage,
-    /// How many threads do nothing but count beside the workload.
+    /// The number of threads that only count beside the workload.
     pub busy: u32,
 }
 
@@ -97,7 +100,7 @@ pub enum Name {
     Storm,
 }
 
-/// The most messages of all rounds.
+/// The maximum number of messages in all rounds.
 const MOST_MESSAGES: u64 = 10_000_000;
 
 const NAMES: [Name; 10] = [
@@ -135,7 +138,7 @@ impl Name {
     }
 }
 
-/// What the words of a line ask for. No word asks for the usage.
+/// What the words of a line ask for. Without words it is the usage.
 pub fn request_of(words: &[&[u8]]) -> Result<Request, LineFault>
     ensures { result ≡ request_written (map (λ word. word.now) words.now) }
 {
@@ -159,7 +162,7 @@ fn busy_of(arguments: &[&[u8]]) -> Result<Request, LineFault>
     }
 }
 
-// A workload beside so many threads that count.
+// A workload beside `busy` threads that count.
 fn measured_of(busy: u32, words: &[&[u8]]) -> Result<Request, LineFault>
     ensures { result ≡ measured_written busy (map (λ word. word.now) words.now) }
 {
@@ -249,7 +252,7 @@ fn workload_of(name: Name, arguments: &[&[u8]]) -> Result<Workload, LineFault>
     }
 }
 
-// The one word after the names that take one size.
+// The one word after a name that takes one size.
 fn size_alone(size: Size, arguments: &[&[u8]]) -> Result<u32, LineFault>
     ensures { result ≡ size_alone size (map (λ word. word.now) arguments.now) }
 {

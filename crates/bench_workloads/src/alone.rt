@@ -13,22 +13,22 @@ use std::alloc::Global;
 use std::sync::Wait;
 use std::time::{Clock, Duration, Instant};
 
-/// What one process does with its queue.
+/// The work of one process on its queue.
 #[derive(Clone, Copy)]
 pub enum Task {
-    /// A send and a receive in turn, so many times each.
+    /// A send and a receive in turn, `rounds` times each.
     Pair { rounds: u32 },
-    /// Fills the queue to its depth and drains it, so many times.
+    /// Fills the queue to its depth and drains it, `rounds` times.
     Deep { depth: u32, rounds: u32 },
-    /// So many calls, a send and a receive in turn.
+    /// This number of calls, a send and a receive in turn.
     Calls { count: u32 },
 }
 
-/// The depth of a queue where the workload names none.
+/// The depth of a queue, if the workload does not name one.
 pub const DEPTH: u32 = 10;
 
-/// Does the task over a fresh system of one process. Gives the time that the task took, without the open before it, and the
-/// journal, if the system stores one.
+/// Does the task in a new system of one process. Returns the time of the task, without the open
+/// before it, and the journal if the system stores it.
 pub fn alone<L: Look<Guarded>, R: Wait + Clock>(
     rt: &R,
     alloc: Global,
@@ -44,7 +44,7 @@ pub fn alone<L: Look<Guarded>, R: Wait + Clock>(
     Ok((time, journal_left(mq, processes, storage)?))
 }
 
-// The time that the task takes on a queue that is opened for it.
+// The time of the task, on a queue that is opened for it.
 fn time_of<L: Look<Guarded>, R: Wait + Clock>(
     rt: &R,
     mq: &Mq<L>,
@@ -81,7 +81,7 @@ fn carry_out<L: Look<Guarded>, R: Wait + Clock>(
     }
 }
 
-/// Sends and receives in turn, so many times each.
+/// Sends and receives in turn, `rounds` times each.
 pub fn pairs<L: Look<Guarded>, R: Wait + Clock>(
     rt: &R,
     mq: &Mq<L>,
@@ -137,7 +137,7 @@ fn deep_rounds<L: Look<Guarded>, R: Wait + Clock>(
     Ok(())
 }
 
-// Sends messages of pseudo-random priorities.
+// Sends messages with pseudorandom priorities.
 fn fill<L: Look<Guarded>, R: Wait + Clock>(
     rt: &R,
     mq: &Mq<L>,
@@ -152,7 +152,7 @@ fn fill<L: Look<Guarded>, R: Wait + Clock>(
     let mut random = seed;
     for _ in 0..depth {
         random = random.wrapping_mul(1_664_525).wrapping_add(1_013_904_223);
-        // The upper 15 bits: a priority is below 32,768.
+        // the upper 15 bits, since a priority is below 32,768
         send(rt, mq, process, d, random >> 17)?;
     }
     Ok(())

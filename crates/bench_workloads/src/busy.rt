@@ -1,10 +1,11 @@
-//! Threads that do nothing but count.
+//! Threads that only count.
 use crate::course::Course;
 use bench_line::fault::WorkFault;
 use std::sync::Wait;
 use std::thread::Scope;
 
-/// Starts so many threads, each of which counts until the run has ended. An error: a thread was refused.
+/// Starts `count` threads, each of which counts until the run has ended. Fails if a thread was
+/// refused.
 pub fn start_counting<'s, E, R: Wait + Sync>(
     scope: &Scope<'s, E>,
     rt: &'s R,

@@ -1,4 +1,4 @@
-//! The calls that workloads are made of.
+//! The calls of which workloads consist.
 ghost use Rattle.std.specs.Prelude.{◌≡◌, ◌≤◌, IsSome, IfSome, OnOk, length};
 ghost use Rattle.mq_state.specs.Buffers.{waiting_room};
 ghost use Rattle.bench_workloads.specs.Ready.{IsReady};
@@ -13,13 +13,14 @@ use mq_model::names::Name;
 use std::sync::Wait;
 use std::time::Clock;
 
-/// How many bytes each message has.
+/// The length of each message in bytes.
 pub const MESSAGE_SIZE: usize = 16;
 
 /// A message.
 pub const MESSAGE: [u8; MESSAGE_SIZE] = *b"sixteen bytes ..";
 
-/// Opens a queue for sends and receives that may wait, which it creates with this depth where there is none.
+/// Opens a queue for sends and receives that may wait. If there is none, creates it with this
+/// depth.
 pub fn open<L: Look<Guarded>, R: Wait>(
     rt: &R,
     mq: &Mq<L>,
@@ -75,7 +76,7 @@ pub fn receive<L: Look<Guarded>, R: Wait + Clock>(
     Ok(())
 }
 
-/// Sends a message of 16 bytes, and waits as long as the run goes on.
+/// Sends a message of 16 bytes, and waits only while the run continues.
 pub fn send_in<L: Look<Guarded>, R: Wait + Clock>(
     rt: &R,
     mq: &Mq<L>,
@@ -92,7 +93,7 @@ pub fn send_in<L: Look<Guarded>, R: Wait + Clock>(
     wait_in(rt, mq, process, course, &mut [])
 }
 
-/// Receives a message, and waits as long as the run goes on.
+/// Receives a message, and waits only while the run continues.
 pub fn receive_in<L: Look<Guarded>, R: Wait + Clock>(
     rt: &R,
     mq: &Mq<L>,
@@ -110,7 +111,8 @@ pub fn receive_in<L: Look<Guarded>, R: Wait + Clock>(
     }
 }
 
-// Waits until the open wait is answered, and ends it. Where the run ends first, the process stays in its wait.
+// Waits until the open wait is answered, and ends it. If the run ends first, the process keeps its
+// open wait.
 fn wait_in<L: Look<Guarded>, R: Wait + Clock>(
     rt: &R,
     mq: &Mq<L>,

@@ -1,15 +1,16 @@
-//! Whether the threads of a run go on, and which refusal ended it.
+//! Whether a run continues, and the error that ended it.
 use bench_line::fault::WorkFault;
 use std::sync::OnceLock;
 
-/// The course of a run. A call that waits looks at it now and then: so it waits as long as the run goes on, and not much longer.
+/// The state of a run. A call that waits polls it now and then, so it does not wait much longer
+/// than the run.
 #[derive(Drop)]
 pub struct Course {
     ended: OnceLock<Result<(), WorkFault>>,
 }
 
 impl Course {
-    /// A run that goes on.
+    /// A run that continues.
     pub fn new() -> Course {
         Course {
             ended: OnceLock::new(),
@@ -21,7 +22,7 @@ impl Course {
         let _ = self.ended.try_set(Ok(()));
     }
 
-    /// Ends the run by a refusal. The first one counts.
+    /// Ends the run with an error. Only the first one counts.
     pub fn fail(&self, fault: WorkFault) {
         let _ = self.ended.try_set(Err(fault));
     }
@@ -31,7 +32,7 @@ impl Course {
         self.ended.get().is_some()
     }
 
-    /// The refusal that ended the run, if one did.
+    /// The error that ended the run, if there is one.
     pub fn outcome(&self) -> Result<(), WorkFault> {
         match self.ended.get() {
             Some(ended) => *ended,

@@ -1,4 +1,4 @@
-//! Workloads of processes that take two parts in turn, each process in a thread of its own.
+//! Workloads in which processes alternate between two parts, with one thread for each process.
 ghost use Rattle.std.specs.Prelude.{◌≡◌};
 ghost use Rattle.std.specs.List.{All};
 ghost use Rattle.bench_workloads.specs.Ready.{IsReady};
@@ -16,8 +16,9 @@ use std::thread;
 use std::thread::Threads;
 use std::time::{Clock, Duration, Instant};
 
-/// So many processes over a fresh system, which take the two parts in turn, each so many rounds and in a thread of its own. Gives
-/// the time from the start of the first thread until all had ended.
+/// `count` processes in a new system, which take the two parts alternately, each process with this
+/// number of rounds and in a thread of its own. Returns the time from the start of the first thread
+/// to the end of the last.
 pub fn crowd<L: Look<Guarded> + Sync, R: Wait + Threads + Clock + Sync>(
     rt: &R,
     alloc: Global,
@@ -39,7 +40,7 @@ where
     Ok(time)
 }
 
-// Starts the threads, which have all ended when it returns.
+// Starts the threads. They have all ended when it returns.
 fn in_threads<L: Look<Guarded> + Sync, R: Wait + Threads + Clock + Sync>(
     rt: &R,
     mq: &Mq<L>,

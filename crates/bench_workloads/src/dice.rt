@@ -1,4 +1,4 @@
-//! Numbers at random from a seed.
+//! Pseudorandom numbers from a seed.
 ghost use Rattle.std.specs.Prelude.{◌<◌};
 
 /// A linear congruential generator.
@@ -10,7 +10,7 @@ pub struct Dice {
 impl Dice {
     ghost use Rattle.std.specs.Prelude.{◌<◌};
 
-    /// The dice of one process of a run.
+    /// The generator of one process of a run.
     pub fn new(seed: u32, process: u32) -> Dice {
         Dice {
             state: seed
@@ -31,7 +31,7 @@ impl Dice {
         (self.state >> 8) % sides
     }
 
-    /// One time in so many.
+    /// True once in `sides` times on average.
     pub fn is_one_in(&mut self, sides: u32) -> bool
         requires { 0 < sides }
     {

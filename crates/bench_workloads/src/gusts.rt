@@ -1,4 +1,4 @@
-//! The calls of a storm: one at random, with arguments at random, of which some are refused.
+//! The calls of a storm: pseudorandom calls with pseudorandom arguments, of which some fail.
 ghost use Rattle.std.specs.Prelude.{◌≡◌};
 ghost use Rattle.bench_workloads.specs.Ready.{IsReady};
 
@@ -12,22 +12,23 @@ use std::sync::Wait;
 use std::thread;
 use std::time::{Clock, Duration};
 
-// The queues' names but for the last, which has a queue of its own that is never unlinked.
+// The names of the queues, except that of the hub, a queue that is never unlinked.
 const NAMES: [&[u8]; 7] = [b"/a", b"/b", b"/c", b"/d", b"/e", b"/f", b"/g"];
 
 const HUB: &[u8] = b"/hub";
 
-// The most bytes that are sent: more than a queue takes.
+// The longest message that is sent, longer than the queues allow.
 const MESSAGE: [u8; 20] = *b"a message of a storm";
 
 const MESSAGE_SIZE: usize = 16;
 
-// How often a wait is looked at before it is given up, and how many microseconds lie between two looks.
+// How often a wait is polled before it is given up, and the microseconds between two polls.
 const MOST_LOOKS: u32 = 500;
 
 const PAUSE: u64 = 100;
 
-/// One call at random, or a few that belong together. Where a wait is given up the process has an open wait.
+/// A random call, or a few that belong together. If a wait is given up, the process keeps its open
+/// wait.
 pub fn call<L: Look<Guarded>, R: Wait + Clock>(
     rt: &R,
     mq: &Mq<L>,
@@ -49,7 +50,7 @@ pub fn call<L: Look<Guarded>, R: Wait + Clock>(
     }
 }
 
-// One of the lowest descriptors, which are mostly open, or any, of which one never is.
+// One of the lowest descriptors, which are mostly open, or any, including one that never is.
 fn descriptor(dice: &mut Dice) -> u32 {
     if dice.is_one_in(8) {
         dice.roll(17)
@@ -58,7 +59,7 @@ fn descriptor(dice: &mut Dice) -> u32 {
     }
 }
 
-// A priority, or a number above all priorities.
+// A priority, or a number that is too high.
 fn priority(dice: &mut Dice) -> u32 {
     dice.roll(33_000)
 }
@@ -88,7 +89,7 @@ fn open<L: Look<Guarded>, R: Wait>(rt: &R, mq: &Mq<L>, process: &mut Process<L>,
     let _ = process.open(rt, mq, &name, flags, Some(attr));
 }
 
-// Ends what there is: a descriptor, a name, or all descriptors of the process.
+// Ends something: closes a descriptor, unlinks a name, or exits.
 fn end<L: Look<Guarded>, R: Wait>(rt: &R, mq: &Mq<L>, process: &mut Process<L>, dice: &mut Dice)
     requires ready { IsReady mq.now process.old }
     ensures ready { IsReady mq.now process.new }
@@ -108,7 +109,7 @@ fn end<L: Look<Guarded>, R: Wait>(rt: &R, mq: &Mq<L>, process: &mut Process<L>, 
     }
 }
 
-// Asks for attributes and notices, and sets the flag.
+// Gets attributes or a notice, or sets the nonblocking flag.
 fn ask<L: Look<Guarded>, R: Wait>(rt: &R, mq: &Mq<L>, process: &mut Process<L>, dice: &mut Dice)
     requires ready { IsReady mq.now process.old }
     ensures ready { IsReady mq.now process.new }
@@ -139,7 +140,8 @@ fn ask<L: Look<Guarded>, R: Wait>(rt: &R, mq: &Mq<L>, process: &mut Process<L>, 
     }
 }
 
-// A call of this descriptor would never wait: it has the flag, or is not open. Where the question is refused, it may.
+// Whether a call with this descriptor would never wait: the descriptor is nonblocking or not open.
+// If the request for that fails, it may wait.
 fn never_waits<L: Look<Guarded>, R: Wait>(
     rt: &R,
     mq: &Mq<L>,
@@ -155,7 +157,7 @@ fn never_waits<L: Look<Guarded>, R: Wait>(
     }
 }
 
-// A moment less than a fifth of a millisecond away, or none at all.
+// A deadline less than a fifth of a millisecond away, or an invalid one.
 fn deadline<R: Clock>(clock: &Monotonic<R>, dice: &mut Dice) -> Deadline {
     if dice.is_one_in(50) {
         return Deadline { sec: 0, nsec: -1 };
@@ -204,7 +206,7 @@ fn receive<L: Look<Guarded>, R: Wait + Clock>(
     }
 }
 
-// Opens the queue that is never unlinked.
+// Opens the hub.
 fn open_hub<L: Look<Guarded>, R: Wait>(
     rt: &R,
     mq: &Mq<L>,
@@ -249,7 +251,7 @@ fn serve<L: Look<Guarded>, R: Wait + Clock>(
     let _ = process.close(rt, mq, d);
 }
 
-// A send or a receive that may wait, and what it came to. It is given up where nobody answers its wait.
+// A send or a receive that may wait, and its end. It is given up if nobody answers its wait.
 fn start<L: Look<Guarded>, R: Wait + Clock>(
     rt: &R,
     mq: &Mq<L>,
@@ -273,7 +275,7 @@ fn start<L: Look<Guarded>, R: Wait + Clock>(
     }
 }
 
-// Looks until the open wait is answered, so often at most, and collects what it came to.
+// Polls until the open wait is answered, at most `MOST_LOOKS` times, and collects it.
 fn wait_a_while<L: Look<Guarded>, R: Wait + Clock>(rt: &R, mq: &Mq<L>, process: &mut Process<L>)
     requires made { process.old.lock ≡ mq.now }
     ensures made { process.new.lock ≡ mq.now }

@@ -1,4 +1,4 @@
-//! The workload of one process that works alone, while the others are blocked.
+//! The workload of one process that works while the others are blocked.
 ghost use Rattle.std.specs.Prelude.{◌≡◌};
 ghost use Rattle.std.specs.List.{All};
 ghost use Rattle.bench_workloads.specs.Ready.{IsReady};
@@ -19,20 +19,21 @@ use std::thread;
 use std::thread::Threads;
 use std::time::{Clock, CpuClock, Duration, Instant};
 
-/// What the process that works did.
+/// The work of the process that works.
 #[derive(Clone, Copy)]
 pub struct Worked {
     pub operations: u64,
     pub time: Duration,
-    /// The processor time of the whole program in that time.
+    /// The processor time of the whole program during that time.
     pub processor: Duration,
 }
 
-// How many pairs of a send and a receive lie between two looks at the clock.
+// The number of pairs of a send and a receive between two readings of the clock.
 const PAIRS: u32 = 64;
 
-/// So many processes over a fresh system: all but one are blocked in a receive on one queue, each in a thread of its own, while
-/// one works alone on another queue for so long. Its end ends the others' calls.
+/// `count` processes in a new system. All but one are blocked in a receive on one queue, each in a
+/// thread of its own, while one works on another queue for the given time. Its end ends the calls
+/// of the others.
 pub fn idle<L: Look<Guarded> + Sync, R: Wait + Threads + Clock + CpuClock + Sync>(
     rt: &R,
     alloc: Global,
@@ -55,7 +56,7 @@ where
     Ok(worked)
 }
 
-// One process works on its queue, while the others are blocked.
+// One process works on its queue while the others are blocked.
 fn beside_blocked<L: Look<Guarded> + Sync, R: Wait + Threads + Clock + CpuClock + Sync>(
     rt: &R,
     mq: &Mq<L>,
@@ -86,7 +87,8 @@ where
     )
 }
 
-// Works for so long, and for 64 pairs of calls at least. It ends early where memory or the clock is refused.
+// Works for the given time, and for at least 64 pairs of calls. It ends early if memory or the
+// clock is refused.
 fn work<L: Look<Guarded>, R: Wait + Clock + CpuClock>(
     rt: &R,
     mq: &Mq<L>,

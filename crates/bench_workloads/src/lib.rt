@@ -1,4 +1,4 @@
-//! Workloads of message queue calls, carried out and measured.
+//! Carrying out and measuring workloads of message queue calls.
 #![tactic(auto)]
 
 mod alone;

@@ -1,4 +1,4 @@
-//! Systems to be measured, and the journals that they leave.
+//! The systems that are measured, and their journals.
 ghost use Rattle.std.specs.Prelude.{◌≡◌, IfOk, IfSome};
 ghost use Rattle.std.specs.List.{All};
 ghost use Rattle.bench_line.specs.Grammar.{is_stored};
@@ -15,7 +15,7 @@ use mq_model::faults::Fault;
 use mq_model::journals::Journal;
 use std::alloc::Global;
 
-/// A system of so many processes, which stores this of its journal.
+/// A system of n processes that stores this much of its journal.
 pub fn make<L: Look<Guarded>>(
     alloc: Global,
     n: u32,
@@ -34,7 +34,8 @@ pub fn make<L: Look<Guarded>>(
     }
 }
 
-/// The journal of a system that is not used any more, if it stores one. `Busy`: a process is missing.
+/// Ends a system and returns its journal, if it stores one. Fails with `Busy` if a process is
+/// missing.
 pub fn journal_left<L: Look<Guarded>>(
     mq: Mq<L>,
     processes: Vec<Process<L>>,

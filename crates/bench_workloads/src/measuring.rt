@@ -1,4 +1,4 @@
-//! A workload, carried out and measured.
+//! Carrying out and measuring a workload.
 use crate::alone::{Task, alone};
 use crate::busy::start_counting;
 use crate::course::Course;
@@ -24,8 +24,9 @@ use std::time::{Clock, CpuClock, Duration, Instant};
 // The lock of the benchmark.
 type Lamport = FastMutex<Guarded>;
 
-/// Carries out a workload over Lamport's lock, a process in a thread of its own where there are two, in these conditions. An error:
-/// memory, a thread, the clock or a call was refused.
+/// Carries out a workload over Lamport's lock under these conditions. If it has several processes,
+/// each runs in a thread of its own. Fails if memory, a thread or the clock was refused, or if a
+/// call failed.
 pub fn measure<S: Wait + Threads + Clock + CpuClock + Sync>(
     rt: &S,
     alloc: Global,
@@ -37,7 +38,7 @@ pub fn measure<S: Wait + Threads + Clock + CpuClock + Sync>(
     beside_busy(rt, alloc, &course, workload, storage, busy)
 }
 
-// Carries out a workload beside so many threads that count, which have all ended when it returns.
+// Carries out a workload beside threads that count. They have all ended when it returns.
 fn beside_busy<S: Wait + Threads + Clock + CpuClock + Sync>(
     rt: &S,
     alloc: Global,
@@ -60,7 +61,7 @@ fn beside_busy<S: Wait + Threads + Clock + CpuClock + Sync>(
     )
 }
 
-// Carries out a workload in a system that stores this of its journal.
+// Carries out a workload in a system that stores this much of its journal.
 fn carry_out<S: Wait + Threads + Clock + CpuClock + Sync>(
     rt: &S,
     alloc: Global,
@@ -102,7 +103,7 @@ fn carry_out<S: Wait + Threads + Clock + CpuClock + Sync>(
     }
 }
 
-// A task of one process, which has so many operations.
+// A task of one process, with this number of operations.
 fn of_one<S: Wait + Clock>(
     rt: &S,
     alloc: Global,
@@ -127,7 +128,7 @@ fn of_wide<S: Wait + Clock>(
     Ok(timed(2 * u64::from(rounds), time))
 }
 
-// So many processes in threads, which have so many operations in all.
+// Processes in threads, with this number of operations in all.
 fn of_crowd<S: Wait + Threads + Clock + Sync>(
     rt: &S,
     alloc: Global,

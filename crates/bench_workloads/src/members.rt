@@ -1,4 +1,4 @@
-//! Processes on the same queues, each in a thread of its own.
+//! Processes on the same queues, with one thread for each process.
 ghost use Rattle.std.specs.Prelude.{◌≡◌, OnOk};
 ghost use Rattle.std.specs.List.{All};
 ghost use Rattle.bench_workloads.specs.Ready.{IsReady};
@@ -16,19 +16,19 @@ use std::time::Clock;
 /// The queue that the members share.
 pub const QUEUE: &[u8] = b"/members";
 
-// The queue by which replies come back.
+// The queue for replies.
 const BACK: &[u8] = b"/back";
 
-/// What a member does in each round.
+/// The work of a member in each round.
 #[derive(Clone, Copy)]
 pub enum Part {
-    /// Sends on the queue.
+    /// Sends to the queue.
     Sends,
     /// Receives from the queue.
     Receives,
-    /// Sends on the queue, and receives from the one by which replies come back.
+    /// Sends to the queue, and receives from the queue for replies.
     Asks,
-    /// Receives from the queue, and sends on the one by which replies come back.
+    /// Receives from the queue, and sends to the queue for replies.
     Replies,
 }
 
@@ -39,8 +39,9 @@ struct Queues {
     back: u32,
 }
 
-/// Starts a thread for each process, which takes the two parts in turn, so many rounds each. A call or a thread that is refused ends the
-/// run, and is the error where not all threads were started.
+/// Starts a thread for each process. The processes take the two parts alternately, with this number
+/// of rounds each. If a call fails or a thread is refused, the run ends. The result is the error if
+/// not all threads were started.
 pub fn start_members<'s, E, L: Look<Guarded> + Sync, R: Wait + Clock + Sync>(
     scope: &Scope<'s, E>,
     rt: &'s R,
@@ -91,7 +92,7 @@ fn queues_of<L: Look<Guarded>, R: Wait>(
     Ok(Queues { to, back })
 }
 
-// Takes a part. A refusal ends the run.
+// Takes a part. An error ends the run.
 fn take_part<L: Look<Guarded>, R: Wait + Clock>(
     rt: &R,
     mq: &Mq<L>,

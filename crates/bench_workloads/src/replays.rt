@@ -28,15 +28,16 @@ const LIMITS: Attr = Attr {
     msgsize: MESSAGE_SIZE as i64,
 };
 
-/// Whether a journal is legal, by a replay.
+/// Whether a journal is legal, by a replay. Fails if memory was refused.
 pub fn is_legal(alloc: Global, journal: &Journal) -> Result<bool, AllocError>
     ensures { IfOk result (λ legal. IsTrue legal ↔ Legal journal.now.records) }
 {
     Ok(replay(alloc, journal)?.is_none())
 }
 
-/// A journal of so many entries: each process opens two queues, and then the processes call in turn, each of which sends to a queue of
-/// its own, receives from it, and goes on with the other one. `Invalid`: a journal that is not stored can't be made.
+/// A journal of `entries` entries. Each process opens two queues, and then the processes take
+/// turns: each sends to one of its queues, receives from it, and then does the same with the other.
+/// Fails with `Invalid` if the journal is not to be stored.
 pub fn journal_of(
     alloc: Global,
     storage: Storage,
@@ -61,7 +62,7 @@ pub fn journal_of(
     Ok(books.into_journal())
 }
 
-// The call that process p makes in a round.
+// The call of process p in a round.
 fn call(books: &mut Books, p: u32, round: u32) -> Result<(), WorkFault>
     requires process { (1 ≤ p) × (p ≤ books.old.n) }
     requires few { p ≤ 32 }

@@ -1,4 +1,4 @@
-//! The line of a result.
+//! The line with the result.
 use crate::tally::{Tally, tally_of, text_of};
 use bench_line::workload::Workload;
 use mq_model::entries::Call;
@@ -6,7 +6,7 @@ use mq_model::journals::Journal;
 use std::alloc::{AllocError, Global};
 use std::time::Duration;
 
-/// What a run took.
+/// The result of a run.
 #[derive(Clone, Copy)]
 pub struct Measured {
     pub operations: u64,
@@ -18,7 +18,8 @@ pub struct Measured {
 #[derive(Clone, Copy)]
 pub enum Besides {
     Nothing,
-    /// The entries of the journal, the bytes of their payloads, and the bytes that the journal takes with both.
+    /// The entries of the journal, the bytes of their payloads, and the bytes that the journal
+    /// takes for both.
     Journal {
         entries: u64,
         payload: u64,
@@ -32,7 +33,7 @@ pub enum Besides {
     History {
         legal: bool,
     },
-    /// The seed, the calls and refusals of the journal, and whether it is legal.
+    /// The seed, the calls and errors in the journal, and whether it is legal.
     Storm {
         seed: u32,
         tally: Tally,
@@ -43,13 +44,13 @@ pub enum Besides {
 // The bytes of an entry in a journal.
 const ENTRY_SIZE: u64 = 64;
 
-// How many more an entry takes whose call has limits.
+// The additional bytes of an entry whose call has limits.
 const LIMITS_SIZE: u64 = size_of::<Call>() as u64;
 
-// How many nanoseconds a millisecond has.
+// The nanoseconds of a millisecond.
 const MILLISECOND: u128 = 1_000_000;
 
-/// What a run of so many operations took, of which the time alone was measured.
+/// The result of a run with this number of operations, if only the time was measured.
 pub fn timed(operations: u64, time: Duration) -> Measured {
     Measured {
         operations,
@@ -58,7 +59,7 @@ pub fn timed(operations: u64, time: Duration) -> Measured {
     }
 }
 
-/// What a run of so many operations took, with the journal that it left.
+/// The result of a run with this number of operations, with the journal that it left.
 pub fn result_of(operations: u64, time: Duration, journal: &Journal) -> Measured {
     let payload = journal.payload_bytes();
     let besides = Besides::Journal {
@@ -73,7 +74,7 @@ pub fn result_of(operations: u64, time: Duration, journal: &Journal) -> Measured
     }
 }
 
-/// What a replay took of a journal, which is legal or not.
+/// The result of a replay, with whether the journal is legal.
 pub fn replayed(time: Duration, journal: &Journal, legal: bool) -> Measured {
     Measured {
         operations: journal.len(),
@@ -82,7 +83,7 @@ pub fn replayed(time: Duration, journal: &Journal, legal: bool) -> Measured {
     }
 }
 
-/// What a storm left, whose journal is legal or not.
+/// The result of a storm, with whether its journal is legal.
 pub fn stormed(seed: u32, time: Duration, journal: &Journal, legal: bool) -> Measured {
     Measured {
         operations: journal.len(),
@@ -95,7 +96,7 @@ pub fn stormed(seed: u32, time: Duration, journal: &Journal, legal: bool) -> Mea
     }
 }
 
-// The bytes of the entries of a journal without calls that have a deadline, whose queues are opened before all other calls.
+// The bytes of the entries of a journal without deadlines, in which all opens come first.
 fn entry_bytes(journal: &Journal) -> u64 {
     let mut bytes = ENTRY_SIZE.saturating_mul(journal.len());
     for place in 0..journal.len() {
@@ -147,7 +148,7 @@ fn besides_of(alloc: Global, m: Measured) -> Result<String, AllocError> {
     }
 }
 
-// What is said of a journal that is legal or not.
+// The words for whether a journal is legal.
 fn history_of(legal: bool) -> &'static str {
     if legal {
         "history ok"
@@ -156,14 +157,14 @@ fn history_of(legal: bool) -> &'static str {
     }
 }
 
-// A total by the operation, with one decimal.
+// The amount per operation, with one decimal.
 fn per_operation(alloc: Global, total: u128, operations: u64) -> Result<String, AllocError> {
     let tenths = total.saturating_mul(10) / u128::from(operations.max(1));
     let (whole, tenth) = (tenths / 10, tenths % 10);
     format!(in alloc; "{whole}.{tenth}")
 }
 
-/// What stands in front of a result: the name of the workload.
+/// The start of the line: the name of the workload.
 pub fn title_of(workload: Workload) -> &'static str {
     match workload {
         Workload::Pair { rounds: _ } => "pair",

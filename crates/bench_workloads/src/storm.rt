@@ -1,5 +1,6 @@
-//! The workload of 32 processes, each in a thread of its own, that make calls of every kind at random. No call waits for ever: what
-//! may wait has a deadline, or is a wait that is given up.
+//! The workload of 32 processes that make pseudorandom calls of every kind, with one thread for
+//! each process. No call waits for ever: those that may wait have a deadline, or their wait is
+//! given up.
 ghost use Rattle.std.specs.Prelude.{◌≡◌, [], IfOk, IfSome};
 ghost use Rattle.std.specs.List.{All};
 ghost use Rattle.mq_model.specs.Legality.{Legal};
@@ -22,14 +23,14 @@ use std::thread;
 use std::thread::{Promise, PromisedHandle, Threads};
 use std::time::{Clock, Duration, Instant};
 
-// What each process is to do: so many calls, at random from the seed.
+// The work of each process: this number of calls, pseudorandom from the seed.
 #[derive(Clone, Copy)]
 struct Ride {
     seed: u32,
     rounds: u32,
 }
 
-// A thread gives back its process.
+// A thread promises to return its process.
 #[derive(Drop)]
 pub struct GivesBack<'s, L: Look<Guarded>>(&'s Mq<L>);
 
@@ -37,8 +38,8 @@ impl<'s, L: Look<Guarded>> Promise<Process<L>> for GivesBack<'s, L> {
     ghost kept_by = { λ p process. process.lock ≡ p.0.now };
 }
 
-/// About so many calls of every kind over a fresh system, at random from a seed. Gives the time that they took, and the
-/// journal, if the system stores one.
+/// About `calls` pseudorandom calls of every kind, in a new system. Returns the time that they
+/// took, and the journal if the system stores it.
 pub fn storm<L: Look<Guarded> + Sync, R: Wait + Threads + Clock + Sync>(
     rt: &R,
     alloc: Global,
@@ -63,17 +64,17 @@ where
     Ok((time, journal_left(mq, processes, storage)?))
 }
 
-// How many calls each process makes of about so many.
+// The number of calls of each process, if there are about `calls` in all.
 fn rounds_of(calls: u32) -> u32 {
     calls / PROCESSES + 1
 }
 
-/// How many calls a storm of about so many makes.
+/// The exact number of calls of a storm of about `calls`.
 pub fn calls_in(calls: u32) -> u32 {
     rounds_of(calls).saturating_mul(PROCESSES)
 }
 
-// Lets each process ride in a thread of its own, to its end.
+// Runs each process in a thread of its own, to its end.
 fn in_threads<L: Look<Guarded> + Sync, R: Wait + Threads + Clock + Sync>(
     rt: &R,
     alloc: Global,
@@ -93,7 +94,7 @@ where
     Ok(join_all(rt, mq, handles, back)?)
 }
 
-// Starts the threads, which have ended when it returns. A thread that is refused ends the run.
+// Starts the threads. They have ended when it returns. If a thread is refused, the run ends.
 fn start_all<'s, L: Look<Guarded> + Sync, R: Wait + Threads + Clock + Sync>(
     rt: &'s R,
     alloc: Global,
@@ -152,7 +153,7 @@ fn join_all<'s, L: Look<Guarded>, R: Wait + Threads>(
     Ok(back)
 }
 
-// The calls of one process. It ends early where a wait is given up, which nobody answered, or where the run has ended.
+// The calls of one process. It ends early if a wait was given up, or if the run has ended.
 fn calls_of<L: Look<Guarded>, R: Wait + Clock>(
     rt: &R,
     mq: &Mq<L>,

@@ -1,4 +1,4 @@
-//! What a journal has: its calls by kind, and its refusals by name.
+//! Statistics of a journal: its calls by kind, and its errors by name.
 use mq_model::entries::{Call, Entry, Reply};
 use mq_model::faults::Fault;
 use mq_model::journals::Journal;
@@ -22,7 +22,7 @@ const KINDS: [&str; 13] = [
     "withdraw",
 ];
 
-// The refusals that stand in a journal.
+// The errors that a journal can have.
 const FAULTS: [Fault; 10] = [
     Fault::Again,
     Fault::BadDescriptor,
@@ -36,14 +36,14 @@ const FAULTS: [Fault; 10] = [
     Fault::TimedOut,
 ];
 
-/// How many calls a journal has of each kind, and how many refusals of each name.
+/// The number of calls of each kind, and of errors with each name, in a journal.
 #[derive(Clone, Copy, Debug, PartialEq, Eq)]
 pub struct Tally {
     calls: [u64; 13],
     refusals: [u64; 10],
 }
 
-/// What a journal has.
+/// The statistics of a journal.
 pub fn tally_of(journal: &Journal) -> Tally {
     let mut tally = Tally {
         calls: [0; 13],
@@ -70,7 +70,7 @@ fn count(tally: &mut Tally, entry: Entry) {
     }
 }
 
-// The place of a call's kind.
+// The index of a call's kind.
 fn kind_of(call: Call) -> usize {
     match call {
         Call::MqOpen { .. } => 0,

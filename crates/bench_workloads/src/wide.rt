@@ -16,17 +16,17 @@ use std::alloc::Global;
 use std::sync::Wait;
 use std::time::{Clock, Duration, Instant};
 
-/// How many descriptors each has.
+/// The number of descriptors of each process.
 const DESCRIPTORS: u32 = limits::DESCRIPTORS as u32;
 
-/// How many queues there are.
+/// The number of queues.
 const QUEUES: u32 = limits::QUEUES as u32;
 
-/// The descriptor that the last process has of the queue that was created last.
+/// The descriptor of the last process for the queue that was created last.
 const LAST: u32 = 1;
 
-/// Sends and receives in turn, so many times each, by the last process of a fresh system of 32, on the last of 64 queues. Gives the time
-/// that this took, without the opens before it.
+/// Sends and receives in turn, `rounds` times each, by the last process of a new system of 32, on
+/// the last of 64 queues. Returns the time that this took, without the opens before it.
 pub fn wide<L: Look<Guarded>, R: Wait + Clock>(
     rt: &R,
     alloc: Global,
@@ -44,7 +44,7 @@ pub fn wide<L: Look<Guarded>, R: Wait + Clock>(
     Ok(start.elapsed(rt)?)
 }
 
-// Each of these processes opens its queues, in turn.
+// Opens the queues of each of these processes, one process after the other.
 fn open_all<L: Look<Guarded>, R: Wait>(
     rt: &R,
     mq: &Mq<L>,
@@ -59,7 +59,8 @@ fn open_all<L: Look<Guarded>, R: Wait>(
     Ok(())
 }
 
-// Opens the queues of a process, from two to two processes the next two, and registers it on the first of them.
+// Opens 16 queues for a process, starting two queues after those of the process before it, and
+// registers the process on the first of them.
 fn open_queues<L: Look<Guarded>, R: Wait>(
     rt: &R,
     mq: &Mq<L>,

@@ -1,4 +1,5 @@
-//! Measures a workload of message queue calls, which the arguments or a line of the standard input name.
+//! Measures a workload of message queue calls, which the arguments or a line on standard input
+//! name.
 #![tactic(auto)]
 
 mod run;
@@ -24,14 +25,15 @@ fn main(rt: HostRuntime) -> ExitCode {
     match asked(&rt) {
         Ok(()) => ExitCode::SUCCESS,
         Err(fault) => {
-            // Nothing is left to do if this cannot be written.
+            // If this cannot be written, there is nothing left to do.
             let _ = eprintln!(rt; "{fault}");
             ExitCode::from(fault.status())
         }
     }
 }
 
-// Measures what the arguments name, or if there are none what a line of the standard input names.
+// Measures the workload that the arguments name, or without arguments the one that a line on
+// standard input names.
 fn asked(
     rt: &(impl Env + AllocGlobal + Input + Print + Threads + Wait + Clock + CpuClock + Sync),
 ) -> Result<(), BenchFault> {
@@ -55,7 +57,7 @@ fn asked(
     }
 }
 
-// The usage is of a line on the standard input: the same words may be arguments.
+// The usage describes a line on standard input. The same words may be arguments.
 fn help<W: Write>(rt: &impl Print, output: &mut W) -> Result<(), BenchFault> {
     match println!(rt;
         "mqbench WORKLOAD SIZES.. measures a workload, and mqbench alone one of a line:"

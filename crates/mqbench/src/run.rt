@@ -1,4 +1,4 @@
-//! A run, from the bytes of its input to its output.
+//! From the bytes of the input to the output.
 ghost use Rattle.std.specs.Prelude.{◌≡◌, ◌+◌, ℕ, List, OnOk, Some, Ok, Err, take};
 ghost use Rattle.std.specs.Io.KnownBytes.{Appends};
 ghost use Rattle.bench_line.specs.Faults.{IsOfGoodLine, IsRefusal};
@@ -20,9 +20,10 @@ use std::thread::Threads;
 use std::time::{Clock, CpuClock};
 use text_io::output::write_all;
 
-/// Reads the line of an input, measures the workload that it names, and writes a line with the result, or the usage where the
-/// input is empty. `BenchFault::BadLine`: the line is at fault. `BenchFault::Input`, `BenchFault::Output`: a read or a
-/// write failed. Any other fault: the workload could not be carried out.
+/// Reads the line of an input, measures the workload that it names, and writes a line with the
+/// result, or the usage if the input is empty. Fails with `BenchFault::BadLine` if the line is
+/// wrong, with `BenchFault::Input` or `BenchFault::Output` if a read or a write failed, and with
+/// other errors if the workload could not be carried out.
 pub fn run_line<S: Wait + Threads + Clock + CpuClock + Sync, R: Read, W: Write>(
     rt: &S,
     alloc: Global,

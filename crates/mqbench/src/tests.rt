@@ -1,4 +1,4 @@
-//! Each workload with small sizes, and lines that are refused.
+//! Each workload with small sizes, and lines that are rejected.
 use crate::run::run_line;
 use bench_line::fault::{BenchFault, LineFault, WorkFault};
 use bench_line::size::Size;
@@ -19,7 +19,7 @@ fn output_of<S: Wait + Threads + Clock + CpuClock + Sync>(
     Ok(output)
 }
 
-// Lines, and how their results begin.
+// Lines, and the start of their results.
 static RESULTS: [(&str, &str); 20] = [
     ("pair 3\n", "pair: 6 operations, "),
     (" deep  4 2 \n", "deep: 16 operations, "),
@@ -97,7 +97,7 @@ fn a_replay_prints_its_history(rt: HostRuntime) {
     }
 }
 
-// Lines that name no workload, or have a word too many or too few.
+// Lines that name no workload, or have too many or too few words.
 static UNNAMED: [&str; 25] = [
     "word\n",
     "Pair 1\n",
@@ -126,7 +126,7 @@ static UNNAMED: [&str; 25] = [
     "\n\n",
 ];
 
-// Lines with a size that is no number or out of its range.
+// Lines with a size that is not a number or is out of range.
 static OUT_OF_RANGE: [(&str, Size); 21] = [
     ("pair 0\n", Size::Rounds),
     ("pair 10000001\n", Size::Rounds),
@@ -151,7 +151,7 @@ static OUT_OF_RANGE: [(&str, Size); 21] = [
     ("busy 33 pair 1\n", Size::Busy),
 ];
 
-// What each of these lines is refused with.
+// Lines, and the error that each gets.
 static MESSAGES: [(&str, &str); 11] = [
     (
         "word\n",
@@ -190,7 +190,7 @@ static MESSAGES: [(&str, &str); 11] = [
     ),
 ];
 
-// Workloads that the journal has no room for.
+// Workloads for which the journal has no room.
 static FULL: [&str; 8] = [
     "bounded 7 54 pair 3\n",
     "bounded 8 53 pair 3\n",

@@ -1,4 +1,4 @@
-// Runs a script of message queue calls: standard input to standard output.
+// Runs a script of message queue calls, from standard input to standard output.
 #![tactic(auto)]
 
 #[cfg(test)]
@@ -22,7 +22,7 @@ fn main(rt: HostRuntime) -> ExitCode {
     match outcome {
         Ok(()) => ExitCode::SUCCESS,
         Err(fault) => {
-            // Nothing is left to do where this line cannot be written.
+            // If this line cannot be written, there is nothing left to do.
             let _ = eprintln!(rt; "{fault}");
             ExitCode::from(fault.status())
         }

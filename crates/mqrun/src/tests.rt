@@ -20,7 +20,7 @@ mod streams;
 // The lock of the program.
 type Lamport = FastMutex<Guarded>;
 
-// One run over that lock. No test needs what it promises.
+// Runs a script over that lock. The tests need nothing from its contract.
 fn run<S, R, W, G>(
     rt: &S,
     alloc: Global,
@@ -37,7 +37,7 @@ where
     run_script::<Lamport, _, _, _, _>(rt, alloc, input, output, gate)
 }
 
-// How the run of a script with a gate ended, and what it wrote.
+// The result of running a script with a gate, and what it wrote.
 fn output_at<S: Threads + Wait + Clock + Sync, G: Gate + Sync>(
     rt: &S,
     alloc: Global,
@@ -57,7 +57,7 @@ fn output_of<S: Threads + Wait + Clock + Sync>(
     output_at(rt, alloc, script, &Plain)
 }
 
-// The run of a script must end so, and write this.
+// The run of a script must have this result and write this.
 fn expect_output<S: Threads + Wait + Clock + Sync + Abort>(
     rt: &S,
     alloc: Global,

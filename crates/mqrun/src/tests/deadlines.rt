@@ -1,10 +1,11 @@
-// Scripts with deadlines, and the moments of their phases.
+// Scripts with deadlines, and the times of their phases.
 use super::scripts::Run;
 use super::{expect_replies, output_of};
 use script_runner::RunFault;
 use std::test::Fail;
 
-// At the moment of the deadline it has passed, and one second later not; but a call that can be done at once is done.
+// A deadline has passed at its own time, and not if it is one second later. A call that need not
+// wait is done in any case.
 static DEADLINES: Run = Run {
     script: "processes 1\n\
              1 open /q bc 1 8\n\
@@ -24,7 +25,7 @@ static DEADLINES: Run = Run {
              history ok\n",
 };
 
-// The last clock line before the calls of a phase counts, and its moment stays in later phases.
+// The last clock line before the calls of a phase counts, and its time remains in later phases.
 static CLOCKS: Run = Run {
     script: "processes 1\n\
              clock 9 0\n\
@@ -55,7 +56,7 @@ static CLOCKS: Run = Run {
              history ok\n",
 };
 
-// Without a clock line it is the moment (0, 0).
+// Without a clock line the time is (0, 0).
 static NO_CLOCK: Run = Run {
     script: "processes 1\n\
              1 open /q bc 1 8\n\
@@ -67,7 +68,7 @@ static NO_CLOCK: Run = Run {
              history ok\n",
 };
 
-// Deadlines and moments at the ends of their range.
+// Deadlines and times at the ends of their range.
 static ENDS: Run = Run {
     script: "processes 1\n\
              1 open /q bc 1 8\n\
@@ -101,7 +102,7 @@ static ENDS: Run = Run {
              history ok\n",
 };
 
-// A receive whose deadline lies in the future waits for the other process's send.
+// A receive with a future deadline waits for the other process's send.
 static BLOCKED_UNTIL_SENT: Run = Run {
     script: "processes 2\n\
              1 open /q bc 1 8\n\

@@ -1,4 +1,4 @@
-// Scripts that can't go on, and those that can by one call more.
+// Scripts that deadlock, and variants with one more call that do not.
 use super::scripts::Run;
 use super::{expect_replies, output_at, output_of};
 use script_runner::{Gate, RunFault};
@@ -10,7 +10,8 @@ use std::thread;
 use std::thread::Threads;
 use std::time::Clock;
 
-// A script that can't go on: what it writes before, the lines of the calls that wait, and how the fault reads.
+// A script that deadlocks: what it writes before, the lines of the calls that wait, and the text of
+// the error.
 #[derive(Clone, Copy)]
 struct Stuck {
     script: &'static str,
@@ -37,7 +38,7 @@ static CROSSED: Stuck = Stuck {
     text: "line 8: waits for ever\nline 10: waits for ever",
 };
 
-// One send more of process 1, before it receives.
+// The same with one more send of process 1, before it receives.
 static CROSSED_ENDS: Run = Run {
     script: "processes 2\n\
              1 open /p bc 1 8\n\
@@ -74,7 +75,7 @@ static FULL_ENDS: Run = Run {
     replies: "1 fd 0\n1 ok\n1 got 0 1 a\n1 ok\n1 ok\nhistory ok\n",
 };
 
-// A process that ended its lines while another waits for it, and one that has none.
+// A process that has made its calls while another waits for it, and a process that has none.
 static LEFT_ALONE: Stuck = Stuck {
     script: "processes 3\n\
              1 open /q bc 1 8\n\
@@ -108,7 +109,8 @@ static LEFT_ALONE_ENDS: Run = Run {
              history ok\n",
 };
 
-// Calls with a deadline wait for ever where it lies after the moment of the phase, and not where it has passed.
+// Calls with a deadline wait for ever if it is after the time of the phase, and not if it has
+// passed.
 static DEADLINE: Stuck = Stuck {
     script: "processes 2\n\
              1 open /q bc 1 8\n\
@@ -146,7 +148,8 @@ static DEADLINE_ENDS: Run = Run {
              history ok\n",
 };
 
-// A send and a timed send to a full queue, and a receive from an empty one: one line of each process, in their order.
+// A send and a timed send to a full queue, and a receive from an empty one: one line for each
+// process, in order.
 static THREE: Stuck = Stuck {
     script: "processes 3\n\
              1 open /full bc 1 8\n\
@@ -164,7 +167,8 @@ static THREE: Stuck = Stuck {
     text: "line 11: waits for ever\nline 10: waits for ever\nline 9: waits for ever",
 };
 
-// A run of the script must end by a deadlock in these lines, with what the phases before wrote.
+// The run of the script must end with a deadlock in these lines, with the output of the earlier
+// phases.
 fn expect_deadlock<S: Threads + Wait + Clock + Sync + Abort>(rt: &S, alloc: Global, stuck: Stuck) {
     let (script, replies) = (stuck.script, stuck.replies.as_bytes());
     let (outcome, output) = output_of(rt, alloc, script.as_bytes());
@@ -203,7 +207,7 @@ fn a_deadlock_has_a_line_for_each_process_and_status_5(rt: HostRuntime) -> Resul
     Ok(())
 }
 
-// Process 2 comes late to each of its calls.
+// Process 2 is late for each of its calls.
 #[derive(Drop)]
 struct Late;
 

@@ -5,7 +5,7 @@ use script_runner::Gate;
 use std::sync::atomic::{AtomicU64, Ordering};
 use std::test::Fail;
 
-// Each of two processes waits here for the other, and notes a miss where it does not come.
+// Each of two processes waits here for the other, and counts a miss if it does not come.
 #[derive(Drop)]
 struct Meeting {
     come: [AtomicU64; 2],
@@ -13,7 +13,7 @@ struct Meeting {
     misses: AtomicU64,
 }
 
-// A meeting at which each looks for the other so many times.
+// A meeting at which each process polls this number of times.
 fn new_meeting(looks: u32) -> Meeting {
     Meeting {
         come: [AtomicU64::new(0), AtomicU64::new(0)],
@@ -48,7 +48,8 @@ fn the_processes_of_a_phase_meet(rt: HostRuntime) -> Result<(), Fail> {
     Ok(())
 }
 
-// Two phases let process 2 come only when process 1 is through, as a runner without threads would.
+// Two phases let process 2 come only when process 1 has finished, as a runner without threads
+// would.
 #[test]
 fn processes_that_run_one_after_another_miss_each_other(rt: HostRuntime) -> Result<(), Fail> {
     let gate = new_meeting(1000);
@@ -59,7 +60,7 @@ fn processes_that_run_one_after_another_miss_each_other(rt: HostRuntime) -> Resu
     Ok(())
 }
 
-// Notes the calls of one process: how many came, and the sum of their lines.
+// Counts the calls of one process, and adds up their lines.
 #[derive(Drop)]
 struct Count {
     process: u32,

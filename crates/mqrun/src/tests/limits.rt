@@ -1,11 +1,11 @@
-// The limits of a script, and the lines that are at fault.
+// The limits of a script, and wrong lines.
 use super::scripts::{EQUAL_PRIORITIES, NOTICES, Run};
 use super::{Lamport, expect_output, output_of};
 use script_runner::{Plain, RunFault, script_journal};
 use std::alloc::{AllocError, Global};
 use std::test::Fail;
 
-// Each text with so many letters after it.
+// Each text, followed by this number of letters.
 fn with_letters(alloc: Global, parts: &[(&str, usize)]) -> Result<Vec<u8>, AllocError> {
     let mut script = Vec::new(alloc);
     for (text, letters) in parts {
@@ -17,7 +17,7 @@ fn with_letters(alloc: Global, parts: &[(&str, usize)]) -> Result<Vec<u8>, Alloc
     Ok(script)
 }
 
-// The text that is written so many times between two others.
+// The text repeated this number of times, between two others.
 fn repeated(
     alloc: Global,
     first: &str,
@@ -81,7 +81,7 @@ fn a_message_may_hold_any_byte_but_a_space_and_a_feed(rt: HostRuntime) -> Result
     Ok(())
 }
 
-// Scripts, and their first lines at fault.
+// Scripts, and their first wrong lines.
 static AT_FAULT: [(&str, u64); 22] = [
     ("", 1),
     ("processes 33\n", 1),
@@ -135,7 +135,7 @@ fn each_prefix_runs_or_is_at_fault_in_its_last_line(rt: HostRuntime) -> Result<(
     Ok(())
 }
 
-// The number of the last line, and 1 where there is none.
+// The number of the last line, and 1 if there is none.
 fn last_line(text: &[u8]) -> u64 {
     let mut line = 1u64;
     for (place, b) in text.iter().enumerate() {

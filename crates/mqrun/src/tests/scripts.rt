@@ -13,7 +13,7 @@ const NO_CALL: Run = Run {
     replies: "history ok\n",
 };
 
-// Comments and spaces count for nothing.
+// Comments and extra spaces have no meaning.
 const COMMENTS: Run = Run {
     script: "# a comment\n\n   # another\n  processes   01 \n\n--\n 1  getattr  0 \n   \n1 exit",
     replies: "1 EBADF\n\
@@ -21,7 +21,7 @@ const COMMENTS: Run = Run {
              history ok\n",
 };
 
-// Equal priorities come in the order of their sends.
+// Messages of equal priority are received in the order of their sends.
 pub const EQUAL_PRIORITIES: Run = Run {
     script: "processes 1\n\
              1 open /q bc 2 16\n\
@@ -37,7 +37,7 @@ pub const EQUAL_PRIORITIES: Run = Run {
              history ok\n",
 };
 
-// The highest priority comes first.
+// The message of the highest priority is received first.
 const PRIORITIES: Run = Run {
     script: "processes 1\n\
              1 open /q bc 4 16\n\
@@ -81,7 +81,7 @@ const SIZES: Run = Run {
              history ok\n",
 };
 
-// The flag of a descriptor.
+// The nonblocking flag of a descriptor.
 const FLAGS: Run = Run {
     script: "processes 1\n\
              1 open /q bcn 1 8\n\
@@ -101,7 +101,7 @@ const FLAGS: Run = Run {
              history ok\n",
 };
 
-// A descriptor has its access, and the lowest free number.
+// Each descriptor has an access mode of its own, and the lowest free number.
 const ACCESS: Run = Run {
     script: "processes 1\n\
              1 open /q wc 2 8\n\
@@ -127,7 +127,7 @@ const ACCESS: Run = Run {
              history ok\n",
 };
 
-// A queue without its name lives on while it is open.
+// A queue without its name exists as long as it is open.
 const UNLINKED: Run = Run {
     script: "processes 1\n\
              1 open /q bc 2 8\n\
@@ -153,7 +153,7 @@ const UNLINKED: Run = Run {
              history ok\n",
 };
 
-// Which attributes a queue may have.
+// The attributes that a queue may have.
 const ATTRIBUTES: Run = Run {
     script: "processes 1\n\
              1 open /q bc\n\
@@ -185,7 +185,7 @@ const ATTRIBUTES: Run = Run {
              history ok\n",
 };
 
-// The end of a process leaves its queues.
+// An exit closes the descriptors, and the queues remain.
 const EXITS: Run = Run {
     script: "processes 1\n\
              1 open /q bc 2 8\n\
@@ -213,7 +213,7 @@ const EXITS: Run = Run {
              history ok\n",
 };
 
-// Who is told of a message.
+// Which process gets a notice of a message.
 pub const NOTICES: Run = Run {
     script: "processes 2\n\
              1 open /q bc 2 8\n\
@@ -311,7 +311,7 @@ const LEADING_ZEROS: Run = Run {
              history ok\n",
 };
 
-// An integer below a dash.
+// An integer that is a dash and digits.
 const SIGNED_ZERO: Run = Run {
     script: "processes 1\n\
              1 open /q bc -0 8\n",
@@ -319,7 +319,7 @@ const SIGNED_ZERO: Run = Run {
              history ok\n",
 };
 
-// A byte 0 in a name.
+// A NUL byte in a name.
 const ZERO_BYTE: Run = Run {
     script: "processes 1\n\
              1 open /q\0 bc\n",

@@ -1,4 +1,4 @@
-// Readers and writers that fail, give one byte at a time, or do not end.
+// Readers and writers that fail, take one byte at a time, or do not end.
 use super::run;
 use super::scripts::{EQUAL_PRIORITIES, NOTICES, Run, TWO_PROCESSES};
 use script_runner::{Gate, Plain, RunFault};
@@ -12,7 +12,7 @@ use std::test::Fail;
 use std::thread::Threads;
 use std::time::Clock;
 
-// Gives its bytes one by one, and fails at one read.
+// A reader that returns its bytes one by one, and fails at the read `fails_at`.
 #[derive(Drop)]
 struct OneByOne<'a> {
     rest: &'a [u8],
@@ -38,7 +38,7 @@ impl Read for OneByOne<'_> {
     }
 }
 
-// Errors of any kind count, also those that POSIX lets a program try again.
+// Errors of every kind count, also those that POSIX lets a program try again.
 static KINDS: [ErrorKind; 4] = [
     ErrorKind::Interrupted,
     ErrorKind::WouldBlock,
@@ -84,7 +84,7 @@ fn a_reader_of_one_byte_a_read_changes_no_output(rt: HostRuntime) -> Result<(), 
     Ok(())
 }
 
-// Gives comments without end, one byte a read.
+// A reader that returns comments without end, one byte per read.
 #[derive(Drop)]
 struct Endless {
     first: OneByOne<'static>,
@@ -123,7 +123,7 @@ fn reading_stops_with_the_first_byte_past_the_limit(rt: HostRuntime) -> Result<(
     Ok(())
 }
 
-// Takes so many bytes a write, so many times, and then takes nothing, or fails.
+// A writer that takes `width` bytes per write, `writes` times, and then takes nothing, or fails.
 #[derive(Drop)]
 struct Narrow {
     taken: Vec<u8>,
@@ -152,7 +152,7 @@ impl Write for Narrow {
     }
 }
 
-// Notes the last line whose call was made.
+// Keeps the last line whose call was made.
 #[derive(Drop)]
 struct Latest {
     line: AtomicU64,
@@ -164,13 +164,14 @@ impl Gate for Latest {
     }
 }
 
-// Of a script its replies, and for each phase how many bytes of replies there are up to its end, and its last line.
+// For each script its replies, and for each phase the number of bytes of replies until its end, and
+// its last line.
 static WRITTEN: [(Run, &[(usize, u64)]); 2] = [
     (EQUAL_PRIORITIES, &[(41, 6)]),
     (TWO_PROCESSES, &[(7, 2), (19, 5), (24, 7), (52, 11)]),
 ];
 
-// The last line of the phases that are run where so many bytes of replies are taken.
+// The last line of the phases that are run, if the writer takes this number of bytes.
 fn last_line(phases: &[(usize, u64)], taken: usize) -> u64 {
     let mut last = 0;
     for (end, line) in phases {
@@ -182,7 +183,8 @@ fn last_line(phases: &[(usize, u64)], taken: usize) -> u64 {
     last
 }
 
-// Runs a script over a writer that takes so many bytes a write, so many times. Says whether all was written.
+// Runs a script over a writer that takes `width` bytes per write, `writes` times. Returns whether
+// everything was written.
 fn is_written<S: Threads + Wait + Clock + Sync + Abort>(
     rt: &S,
     alloc: Global,
