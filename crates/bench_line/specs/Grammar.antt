@@ -124,13 +124,11 @@ bounded_written busy (entries ∷ bytes ∷ word ∷ arguments) = do
   Ok (request.Measure workload (record { storage = storage.Bounded (record { entries = entries; bytes = bytes }); busy = busy }))
 bounded_written busy words = Err NoWorkload
 
--- whether a workload reads a journal
 abbrev pub reads_journal : Workload → Bool
 reads_journal (workload.Check entries) = true
 reads_journal (workload.Replay entries processes) = true
 reads_journal _ = false
 
--- whether a system stores its journal
 abbrev pub is_stored : Storage → Bool
 is_stored storage.Unstored = false
 is_stored _ = true

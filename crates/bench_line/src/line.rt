@@ -83,7 +83,6 @@ fn is_one_line(text: &[u8]) -> bool
     !without_feed(text).contains(&b'\n')
 }
 
-// A line without its line feed.
 fn without_feed(text: &[u8]) -> &[u8]
     ensures { result.now ≡ without_feed text.now }
 {

@@ -206,7 +206,6 @@ fn receive<L: Look<Guarded>, R: Wait + Clock>(
     }
 }
 
-// Opens the hub.
 fn open_hub<L: Look<Guarded>, R: Wait>(
     rt: &R,
     mq: &Mq<L>,

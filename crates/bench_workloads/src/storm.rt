@@ -136,7 +136,6 @@ where
     )
 }
 
-// Joins the threads.
 fn join_all<'s, L: Look<Guarded>, R: Wait + Threads>(
     rt: &R,
     mq: &Mq<L>,

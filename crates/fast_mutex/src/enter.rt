@@ -47,8 +47,7 @@ pub trait Enter<S: Logged>: Lock<S> {
 }
 
 impl<S: Logged, L: Lock<S>> Enter<S> for L {
-    // The steps stand in a straight line, so that the compiler knows at which step the acquisition
-    // is.
+    // The steps are unrolled, so that the compiler knows at which step the acquisition is.
     #[inline(always)]
     fn take_fast_path(&self, walk: L::Walk) -> L::Walk {
         let walk = next(self, walk);

@@ -30,7 +30,6 @@ fn own_number(numbers: &Numbers, d: u32) -> u32
     }
 }
 
-// The first number that is free.
 fn free_at(numbers: &Numbers) -> Option<usize>
     ensures first { result ≡ position is_none numbers.now }
     ensures few { IfSome result (λ number. number < 16) }

@@ -181,7 +181,6 @@ impl Heuristic {
         Ok(Trial::Stuck(constraint))
     }
 
-    // The next task of a process.
     fn next(&self, process: usize) -> Option<&Task> {
         self.tasks.get(process)?.get(*self.made.get(process)?)
     }

@@ -95,7 +95,6 @@ fn hints_by_ends(
     Ok(hints)
 }
 
-// The end of each operation.
 fn ends_of(alloc: Global, histories: &Vec<Vec<Operation>>) -> Result<Vec<Vec<u64>>, AllocError>
     ensures { IfOk result (λ hints. length hints.items ≡ length histories.now.items) }
 {

@@ -89,7 +89,6 @@ pub fn outcome_of(alloc: Global, words: &[&[u8]]) -> Result<Option<Outcome>, All
     }
 }
 
-// The words after the first one.
 fn behind_first<'w, 's>(words: &'w [&'s [u8]]) -> &'w [&'s [u8]]
     ensures { words_at result.now ≡ drop 1 (words_at words.now) }
 {

@@ -88,7 +88,6 @@ pub fn tasks_of(alloc: Global, histories: &Vec<Vec<Operation>>) -> Result<Tasks,
     })
 }
 
-// The tasks of one process.
 fn tasks_in(
     alloc: Global,
     operations: &Vec<Operation>,

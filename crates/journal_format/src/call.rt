@@ -61,7 +61,6 @@ pub fn call_text(alloc: Global, call: &Call) -> Result<String, AllocError>
     }
 }
 
-// The words of an open.
 fn open_text(alloc: Global, flags: OpenFlags, attr: Option<Attr>) -> Result<String, AllocError>
     ensures { IfOk result (λ text. string_bytes text ≡
         join_with_byte 32 (call_words (Call.MqOpen flags attr))) }
@@ -75,7 +74,6 @@ fn open_text(alloc: Global, flags: OpenFlags, attr: Option<Attr>) -> Result<Stri
     }
 }
 
-// The flags of an open.
 fn flags_text(alloc: Global, flags: OpenFlags) -> Result<String, AllocError>
     ensures { IfOk result (λ text. string_bytes text ≡ flags_word flags) }
 {
@@ -151,7 +149,6 @@ fn call_behind<'w, 's>(verb: Verb, words: &'w [&'s [u8]]) -> Option<(Call, &'w [
     }
 }
 
-// The words after `open`.
 #[tactic(auto, unfolding(crate::specs::Reading::open_at))]
 fn open_of<'w, 's>(words: &'w [&'s [u8]]) -> Option<(Call, &'w [&'s [u8]])>
     ensures { option_map read_off result ≡ open_at (words_at words.now) }
@@ -162,7 +159,6 @@ fn open_of<'w, 's>(words: &'w [&'s [u8]]) -> Option<(Call, &'w [&'s [u8]])>
     Some((Call::MqOpen { flags, attr }, words))
 }
 
-// The words after `close`.
 #[tactic(auto, unfolding(crate::specs::Reading::close_at))]
 fn close_of<'w, 's>(words: &'w [&'s [u8]]) -> Option<(Call, &'w [&'s [u8]])>
     ensures { option_map read_off result ≡ close_at (words_at words.now) }
@@ -171,7 +167,6 @@ fn close_of<'w, 's>(words: &'w [&'s [u8]]) -> Option<(Call, &'w [&'s [u8]])>
     Some((Call::MqClose { d }, words))
 }
 
-// The words after `send`.
 #[tactic(auto, unfolding(crate::specs::Reading::send_at))]
 fn send_of<'w, 's>(words: &'w [&'s [u8]]) -> Option<(Call, &'w [&'s [u8]])>
     ensures { option_map read_off result ≡ send_at (words_at words.now) }
@@ -182,7 +177,6 @@ fn send_of<'w, 's>(words: &'w [&'s [u8]]) -> Option<(Call, &'w [&'s [u8]])>
     Some((Call::MqSend { d, prio, len }, words))
 }
 
-// The words after `recv`.
 #[tactic(auto, unfolding(crate::specs::Reading::receive_at))]
 fn receive_of<'w, 's>(words: &'w [&'s [u8]]) -> Option<(Call, &'w [&'s [u8]])>
     ensures { option_map read_off result ≡ receive_at (words_at words.now) }
@@ -192,7 +186,6 @@ fn receive_of<'w, 's>(words: &'w [&'s [u8]]) -> Option<(Call, &'w [&'s [u8]])>
     Some((Call::MqReceive { d, room }, words))
 }
 
-// The words after `tsend`.
 #[tactic(auto, unfolding(crate::specs::Reading::timed_send_at))]
 fn timed_send_of<'w, 's>(words: &'w [&'s [u8]]) -> Option<(Call, &'w [&'s [u8]])>
     ensures { option_map read_off result ≡ timed_send_at (words_at words.now) }
@@ -212,7 +205,6 @@ fn timed_send_of<'w, 's>(words: &'w [&'s [u8]]) -> Option<(Call, &'w [&'s [u8]])
     Some((call, words))
 }
 
-// The words after `trecv`.
 #[tactic(auto, unfolding(crate::specs::Reading::timed_receive_at))]
 fn timed_receive_of<'w, 's>(words: &'w [&'s [u8]]) -> Option<(Call, &'w [&'s [u8]])>
     ensures { option_map read_off result ≡ timed_receive_at (words_at words.now) }
@@ -230,7 +222,6 @@ fn timed_receive_of<'w, 's>(words: &'w [&'s [u8]]) -> Option<(Call, &'w [&'s [u8
     Some((call, words))
 }
 
-// The words after `getattr`.
 #[tactic(auto, unfolding(crate::specs::Reading::getattr_at))]
 fn getattr_of<'w, 's>(words: &'w [&'s [u8]]) -> Option<(Call, &'w [&'s [u8]])>
     ensures { option_map read_off result ≡ getattr_at (words_at words.now) }
@@ -239,7 +230,6 @@ fn getattr_of<'w, 's>(words: &'w [&'s [u8]]) -> Option<(Call, &'w [&'s [u8]])>
     Some((Call::MqGetattr { d }, words))
 }
 
-// The words after `setattr`.
 #[tactic(auto, unfolding(crate::specs::Reading::setattr_at))]
 fn setattr_of<'w, 's>(words: &'w [&'s [u8]]) -> Option<(Call, &'w [&'s [u8]])>
     ensures { option_map read_off result ≡ setattr_at (words_at words.now) }
@@ -249,7 +239,6 @@ fn setattr_of<'w, 's>(words: &'w [&'s [u8]]) -> Option<(Call, &'w [&'s [u8]])>
     Some((Call::MqSetattr { d, nonblock }, words))
 }
 
-// The words after `notify`.
 #[tactic(auto, unfolding(crate::specs::Reading::notify_at))]
 fn notify_of<'w, 's>(words: &'w [&'s [u8]]) -> Option<(Call, &'w [&'s [u8]])>
     ensures { option_map read_off result ≡ notify_at (words_at words.now) }
@@ -259,7 +248,6 @@ fn notify_of<'w, 's>(words: &'w [&'s [u8]]) -> Option<(Call, &'w [&'s [u8]])>
     Some((Call::MqNotify { d, value }, words))
 }
 
-// The words after `withdraw`.
 #[tactic(auto, unfolding(crate::specs::Reading::withdraw_at))]
 fn withdraw_of<'w, 's>(words: &'w [&'s [u8]]) -> Option<(Call, &'w [&'s [u8]])>
     ensures { option_map read_off result ≡ withdraw_at (words_at words.now) }

@@ -188,7 +188,6 @@ fn is_created(words: &[&[u8]]) -> bool
     }
 }
 
-// The words after `fd`.
 #[tactic(auto, unfolding(crate::specs::Reading::opened_at))]
 fn opened_of(words: &[&[u8]]) -> Option<Reply>
     ensures { result ≡ opened_at (words_at words.now) }
@@ -198,7 +197,6 @@ fn opened_of(words: &[&[u8]]) -> Option<Reply>
     Some(Reply::Opened { d, created })
 }
 
-// The words after `queued`.
 #[tactic(auto, unfolding(crate::specs::Reading::queued_at))]
 fn queued_of(words: &[&[u8]]) -> Option<Reply>
     ensures { result ≡ queued_at (words_at words.now) }
@@ -207,7 +205,6 @@ fn queued_of(words: &[&[u8]]) -> Option<Reply>
     Some(Reply::Queued { notified })
 }
 
-// The words after `handed`.
 #[tactic(auto, unfolding(crate::specs::Reading::handed_at))]
 fn handed_of(words: &[&[u8]]) -> Option<Reply>
     ensures { result ≡ handed_at (words_at words.now) }
@@ -216,7 +213,6 @@ fn handed_of(words: &[&[u8]]) -> Option<Reply>
     Some(Reply::Handed { wait })
 }
 
-// The words after `got`.
 #[tactic(auto, unfolding(crate::specs::Reading::got_at))]
 fn got_of(words: &[&[u8]]) -> Option<Reply>
     ensures { result ≡ got_at (words_at words.now) }
@@ -231,7 +227,6 @@ fn got_of(words: &[&[u8]]) -> Option<Reply>
     })
 }
 
-// The words after `collected`.
 #[tactic(auto, unfolding(crate::specs::Reading::collected_at))]
 fn collected_of(words: &[&[u8]]) -> Option<Reply>
     ensures { result ≡ collected_at (words_at words.now) }
@@ -240,7 +235,6 @@ fn collected_of(words: &[&[u8]]) -> Option<Reply>
     Some(Reply::Collected { by })
 }
 
-// The words after `withdrawn`.
 #[tactic(auto, unfolding(crate::specs::Reading::withdrawn_at))]
 fn withdrawn_of(words: &[&[u8]]) -> Option<Reply>
     ensures { result ≡ withdrawn_at (words_at words.now) }
@@ -249,7 +243,6 @@ fn withdrawn_of(words: &[&[u8]]) -> Option<Reply>
     Some(Reply::Withdrawn { wait })
 }
 
-// The words after `attr`.
 #[tactic(auto, unfolding(crate::specs::Reading::attrs_at))]
 fn attrs_of(words: &[&[u8]]) -> Option<Reply>
     ensures { result ≡ attrs_at (words_at words.now) }
@@ -266,7 +259,6 @@ fn attrs_of(words: &[&[u8]]) -> Option<Reply>
     }))
 }
 
-// The words after `notice`.
 #[tactic(auto, unfolding(crate::specs::Reading::notice_at))]
 fn notice_of(words: &[&[u8]]) -> Option<Reply>
     ensures { result ≡ notice_at (words_at words.now) }

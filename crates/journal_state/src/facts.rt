@@ -134,7 +134,6 @@ pub(crate) fn notices(alloc: Global, journal: &Journal, p: u32) -> Result<Vec<u6
     Vec::from_slice(alloc, &values[given as usize..])
 }
 
-// Whether an entry is of process `p`.
 fn has_entry(journal: &Journal, p: u32) -> bool
     ensures { result ≡ list_any (λ r. r.entry.process == p) journal.now.records }
 {

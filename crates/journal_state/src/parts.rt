@@ -310,7 +310,6 @@ fn json_access(alloc: Global, h: Description) -> Result<String, AllocError>
     format!(in alloc; ",\"access\":\"{access}{rest}")
 }
 
-// A descriptor with this description, as JSON.
 fn descriptor_json(alloc: Global, d: u32, h: Description) -> Result<String, AllocError>
     ensures { IfOk result (λ text. string_bytes text ≡ descriptor Json d (Some h)) }
 {
@@ -319,7 +318,6 @@ fn descriptor_json(alloc: Global, d: u32, h: Description) -> Result<String, Allo
     format!(in alloc; "{{\"descriptor\":{d},\"queue\":{queue}{rest}")
 }
 
-// The same as text.
 fn descriptor_text(alloc: Global, d: u32, h: Description) -> Result<String, AllocError>
     ensures { IfOk result (λ text. string_bytes text ≡ descriptor Text d (Some h)) }
 {

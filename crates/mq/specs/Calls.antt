@@ -46,7 +46,6 @@ abbrev pub bounds_in : List ℕ → Option Bounds
 bounds_in (n ∷ entries ∷ bytes ∷ rest) = Some (record { entries = entries; bytes = bytes })
 bounds_in _ = None
 
--- whether the journal is stored
 abbrev pub stored_in : List ℕ → Bool
 stored_in (n ∷ k ∷ []) = false
 stored_in (n ∷ entries ∷ bytes ∷ k ∷ rest) = false
@@ -56,7 +55,6 @@ stored_in _ = true
 abbrev pub bounds_of : Ticket Record → Option Bounds
 bounds_of t = bounds_in t.lock.fixed
 
--- the process has no open wait
 abbrev pub IsFree : Ticket Record → Type 0
 IsFree t = open_wait t.left t.number ≡ None
 

@@ -117,7 +117,6 @@ fn wait_begun(reply: Reply, room: usize) -> Option<usize>
     }
 }
 
-// Whether each of these processes is blocked.
 fn all_blocked(books: &Books, processes: &[u32]) -> bool
     ensures { result ≡ list_all (is_blocked books.now.records) processes.now }
 {

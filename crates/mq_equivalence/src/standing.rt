@@ -146,7 +146,6 @@ fn may_begin(kind: Kind, here: u64, entry: Entry) -> Option<u64>
     }
 }
 
-// Whether a place is marked.
 fn is_marked(marks: &[bool], m: u64) -> bool
     ensures { result ≡ get_or marks.now m false }
 {

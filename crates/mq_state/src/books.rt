@@ -662,7 +662,6 @@ fn room_of(call: Call) -> usize
     }
 }
 
-// The call that process p waits in.
 fn waiting_call(journal: &Ledger, tables: &Tables, p: u32) -> Call
     requires { IsKeptBy journal.now tables.now }
     ensures { result ≡ waiting_call journal.now.records p }

@@ -17,14 +17,12 @@ fn is_deadlock_of(found: &Witnessed, phase: u64) -> bool
     found.outcome.stage == phase && found.outcome.stuck
 }
 
-// The number of outcomes of a phase.
 fn outcomes_of(found: &[Witnessed], phase: u64) -> usize
     ensures { result ≡ count_by (is_outcome_of phase) found.now }
 {
     found.iter().filter(|w| is_outcome_of(w, phase)).count()
 }
 
-// The number of deadlocks in a phase.
 fn deadlocks_of(found: &[Witnessed], phase: u64) -> usize
     ensures { result ≡ count_by (is_deadlock_of phase) found.now }
 {
@@ -88,7 +86,6 @@ fn push_phase(
     push_entries(alloc, text, found, phase)
 }
 
-// The last line.
 fn end_text(alloc: Global, complete: bool, budget: u64) -> Result<String, AllocError>
     ensures { IfOk result (λ text. string_bytes text ≡ end_text complete budget) }
 {

@@ -15,7 +15,6 @@ use Rattle.script_runner.specs.declared.turns.Share.{Share}
 use Rattle.script_runner.specs.declared.turns.Turn.{Turn}
 use Rattle.script_runner.specs.declared.turns.Worked.{Worked}
 
--- the calls of turns
 abbrev pub calls_in : List Turn → List WrittenCall
 calls_in turns = map (λ turn. said_call turn.call) turns
 

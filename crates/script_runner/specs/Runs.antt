@@ -106,7 +106,6 @@ RunsCalls (call ∷ calls) (completion ∷ completions) old new =
     × Performs call.moment call.command (buffer_given call.command) completion.buffer.items old mid completion.outcome
     × RunsCalls calls completions mid new
 
--- the calls of process p
 abbrev pub calls_of : ℕ → List WrittenCall → List WrittenCall
 calls_of p calls = filter (λ call. call.process == p) calls
 

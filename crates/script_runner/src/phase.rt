@@ -126,7 +126,6 @@ where
     )
 }
 
-// Joins the threads of a phase.
 fn join_all<L: Look<Guarded>, R: Threads + Wait>(
     rt: &R,
     members: Vec<Member<'_, L>>,
@@ -150,7 +149,6 @@ fn joined<L: Look<Guarded>, R: Threads + Wait>(rt: &R, member: Member<'_, L>) ->
     }
 }
 
-// A process without calls.
 fn idle<L: Look<Guarded>>(share: Share<'_, Process<L>>) -> Worked<Process<L>>
     requires free { IsFree share.process }
     requires none { vec_len share.turns ≡ 0 }

@@ -170,7 +170,6 @@ pub fn command_of<'s>(words: &[&'s [u8]]) -> Option<Command<&'s [u8]>>
     }
 }
 
-// The words after `open`.
 fn open_of<'s>(words: &[&'s [u8]]) -> Option<Command<&'s [u8]>>
     ensures { option_map said result ≡ open_written (map (λ word. word.now) words.now) }
 {
@@ -198,7 +197,6 @@ fn attr_of(words: &[&[u8]]) -> Option<Option<Attr>>
     }
 }
 
-// The words after `close`.
 fn close_of<'s>(words: &[&'s [u8]]) -> Option<Command<&'s [u8]>>
     ensures { option_map said result ≡ close_written (map (λ word. word.now) words.now) }
 {
@@ -210,7 +208,6 @@ fn close_of<'s>(words: &[&'s [u8]]) -> Option<Command<&'s [u8]>>
     }
 }
 
-// The words after `unlink`.
 fn unlink_of<'s>(words: &[&'s [u8]]) -> Option<Command<&'s [u8]>>
     ensures { option_map said result ≡ unlink_written (map (λ word. word.now) words.now) }
 {
@@ -220,7 +217,6 @@ fn unlink_of<'s>(words: &[&'s [u8]]) -> Option<Command<&'s [u8]>>
     }
 }
 
-// The words after `send`.
 fn send_of<'s>(words: &[&'s [u8]]) -> Option<Command<&'s [u8]>>
     ensures { option_map said result ≡ send_written (map (λ word. word.now) words.now) }
 {
@@ -239,7 +235,6 @@ fn send_of<'s>(words: &[&'s [u8]]) -> Option<Command<&'s [u8]>>
     }
 }
 
-// The words after `receive`.
 fn receive_of<'s>(words: &[&'s [u8]]) -> Option<Command<&'s [u8]>>
     ensures { option_map said result ≡ receive_written (map (λ word. word.now) words.now) }
 {
@@ -252,7 +247,6 @@ fn receive_of<'s>(words: &[&'s [u8]]) -> Option<Command<&'s [u8]>>
     }
 }
 
-// The words after `tsend`.
 fn timed_send_of<'s>(words: &[&'s [u8]]) -> Option<Command<&'s [u8]>>
     ensures { option_map said result ≡ timed_send_written (map (λ word. word.now) words.now) }
 {
@@ -279,7 +273,6 @@ fn text_of<'s>(words: &[&'s [u8]]) -> Option<&'s [u8]>
     }
 }
 
-// The words after `trecv`.
 fn timed_receive_of<'s>(words: &[&'s [u8]]) -> Option<Command<&'s [u8]>>
     ensures { option_map said result ≡ timed_receive_written (map (λ word. word.now) words.now) }
 {
@@ -313,7 +306,6 @@ pub fn deadline_of(sec: &[u8], nsec: &[u8]) -> Option<Deadline>
     })
 }
 
-// The words after `getattr`.
 fn getattr_of<'s>(words: &[&'s [u8]]) -> Option<Command<&'s [u8]>>
     ensures { option_map said result ≡ getattr_written (map (λ word. word.now) words.now) }
 {
@@ -325,7 +317,6 @@ fn getattr_of<'s>(words: &[&'s [u8]]) -> Option<Command<&'s [u8]>>
     }
 }
 
-// The words after `setattr`.
 fn setattr_of<'s>(words: &[&'s [u8]]) -> Option<Command<&'s [u8]>>
     ensures { option_map said result ≡ setattr_written (map (λ word. word.now) words.now) }
 {
@@ -338,7 +329,6 @@ fn setattr_of<'s>(words: &[&'s [u8]]) -> Option<Command<&'s [u8]>>
     }
 }
 
-// The words after `notify`.
 fn notify_of<'s>(words: &[&'s [u8]]) -> Option<Command<&'s [u8]>>
     ensures { option_map said result ≡ notify_written (map (λ word. word.now) words.now) }
 {
@@ -351,7 +341,6 @@ fn notify_of<'s>(words: &[&'s [u8]]) -> Option<Command<&'s [u8]>>
     }
 }
 
-// The words after `notice`.
 fn notice_of<'s>(words: &[&'s [u8]]) -> Option<Command<&'s [u8]>>
     ensures { option_map said result ≡ notice_written (map (λ word. word.now) words.now) }
 {
@@ -361,7 +350,6 @@ fn notice_of<'s>(words: &[&'s [u8]]) -> Option<Command<&'s [u8]>>
     }
 }
 
-// The words after `exit`.
 fn exit_of<'s>(words: &[&'s [u8]]) -> Option<Command<&'s [u8]>>
     ensures { option_map said result ≡ exit_written (map (λ word. word.now) words.now) }
 {

@@ -7,7 +7,6 @@ pub struct Run {
     pub replies: &'static str,
 }
 
-// No call.
 const NO_CALL: Run = Run {
     script: "processes 1\n",
     replies: "history ok\n",
@@ -303,7 +302,6 @@ pub const TWO_PROCESSES: Run = Run {
              history ok\n",
 };
 
-// Leading zeros.
 const LEADING_ZEROS: Run = Run {
     script: "processes 1\n\
              01 getattr 0\n",
