@@ -1,4 +1,4 @@
--- What an export gives, by what a try came to.
+-- What an export returns, given the result of a try.
 use Rattle.std.proofs.Common.{◌≡◌, ℕ, Option, arith, rules}
 use Rattle.fast_mutex.specs.Items.{Ticket}
 use Rattle.mq_model.specs.Record.{Record}

@@ -23,7 +23,7 @@ unmapped : {A B : Type 0} (f : A → B) (o : Option A) → option_map f o ≡ No
 unmapped f None e = refl
 unmapped f (Some x) e = absurd (cc)
 
--- nor where no room is wanted
+-- nor if no buffer is needed
 pub no_room : (past : Past) (p : ℕ) → waiting_room past p ≡ None → wait_deadline past p ≡ None
 no_room past p e = no_deadline past p (unmapped (λ w. room_of (waiting_call past p)) (open_wait past p) e)
 

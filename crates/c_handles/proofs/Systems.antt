@@ -22,14 +22,14 @@ pub tickets_length : {A : Type 0} (lock : LockId) (left : List A) (k n : ℕ) �
 tickets_length lock left k zero = refl
 tickets_length lock left k (suc n) = ap suc (tickets_length lock left (suc k) n)
 
--- those that stand for the processes of one journal have their deadlines
+-- the tickets of the processes of one journal have their deadlines
 pub deadlines_fit : (deadlines : List (Option Deadline)) (lock : LockId) (left : Past) → ((p : ℕ) → p < 33 → slice_get deadlines p ≡ Some (wait_deadline left p)) → (k n : ℕ) → k + n ≤ 33
     → All (IsDeadlineOf deadlines) (tickets_with lock left k n)
 deadlines_fit deadlines lock left at k zero few = All-nil (IsDeadlineOf deadlines)
 deadlines_fit deadlines lock left at k (suc n) few =
     All-cons (IsDeadlineOf deadlines) _ _ (record { number = omega arith; deadline = at k (omega arith) }) (deadlines_fit deadlines lock left at (suc k) n (omega arith))
 
--- so many times no deadline
+-- no deadline, repeated
 abbrev pub nones : ℕ → List (Option Deadline)
 nones zero = []
 nones (suc n) = None ∷ nones n

@@ -1,4 +1,4 @@
--- What a search keeps of its nodes: their choices stay possible, and how many runs are left.
+-- What a search keeps of its nodes: their choices remain possible, and how many runs are left.
 use Rattle.std.proofs.Common.{◌≡◌, ℕ, zero, suc, ◌+◌, ◌*◌, ◌-◌, ◌^◌, ◌<◌, ◌≤◌, max, Bool, true, List, [], ◌∷◌, ◌++◌, length, All, take, drop, get_or, sym, ap, ◌∙◌, subst, arith}
 use Rattle.std.specs.List.{remove}
 use Rattle.std.proofs.Math.Nat.{pow-suc, one-le-pow, mul-le-mul_left}
@@ -32,7 +32,7 @@ opens-kept could kept nodes more h =
 pub power-positive : (m k : ℕ) → 1 ≤ suc m ^ k
 power-positive m k = one-le-pow k (suc m) (omega arith)
 
--- the runs of a node with few open choices, and those of the places behind it
+-- the runs of a node with few open choices, and those of the places after it
 pub power-step : (m s i open_choices : ℕ) → open_choices ≤ m → i ≤ s →
     open_choices * suc m ^ (s - i) + suc m ^ (s - i) ≤ suc m ^ (suc s - i)
 power-step m s i n few within =
@@ -65,7 +65,7 @@ left-node m s nodes node prefix at few within =
     more : (w x p q : ℕ) → x + p ≤ q → w + x + p ≤ w + q
     more w x p q h = omega arith
 
--- what is left behind a place at which a node was added, or none
+-- what is left after a place at which a node was added, or none
 pub left-more : (m s from i old new initial : ℕ) → from ≤ i → i ≤ s →
     new + suc m ^ (s - i) ≤ old + suc m ^ (suc s - i) →
     old + suc m ^ (suc s - max from i) ≤ initial → new + suc m ^ (suc s - max from (i + 1)) ≤ initial

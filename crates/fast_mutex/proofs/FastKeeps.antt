@@ -54,7 +54,7 @@ module _ {S I : Type 0} (shows : S → List I) (fixes : S → List ℕ) (author 
   abbrev seat : At → ℕ → List I → Fixed → List I → List (Claim I) → Plan I → ℕ → View I
   seat p k found fixed left more plan n = seat_view p found fixed ((k, left) ∷ more) plan n
 
-  -- the processes of other claims stay where they are
+  -- the points of the processes of other claims do not change
   rests_else : (at : ℕ → At) (k : ℕ) (p : At) (cs : List (Claim I)) → times k cs ≡ 0 → Each (λ (c : Claim I). at c.0 ≡ Rest) cs → Each (λ (c : Claim I). moved_to at k p c.0 ≡ Rest) cs
   rests_else at k p [] z h = tt
   rests_else at k p (c ∷ cs) z h = dite (ℕ_discrete c.0 k)
@@ -79,16 +79,16 @@ module _ {S I : Type 0} (shows : S → List I) (fixes : S → List ℕ) (author 
   number_good : (k : ℕ) (fixed : Fixed) (now left : List I) → Good fixed now (k, left) → IsProcess about.count k
   number_good k fixed now left g = (omega (arith, g.1), g.2)
 
-  -- where nobody is inside, no view is
+  -- if no process is in its critical section, no view is
   nobody_stands : (at : ℕ → At) → ((i : ℕ) → is_inside (at i) ≡ false) → (p : At) (cs : List (Claim I)) → On at p cs → is_inside p ≡ false
   nobody_stands at none_in p [] on = ap is_inside on
   nobody_stands at none_in p (c ∷ cs) on = ap is_inside (sym on.0) ∙ none_in c.0
 
-  -- who is inside stays there while another process moves
+  -- a process in its critical section stays there while another process takes a step
   comes_on : (at : ℕ → At) (k : ℕ) (p : At) (c : Course I) → is_inside (at k) ≡ false → Comes shows fixes author answered about at c → Comes shows fixes author answered about (moved_to at k p) c
   comes_on at k p c out h = ⊎_elim (λ e. inl e) (λ t. let ne : t.0 ≢ k = (λ e. let q : true ≡ false = sym t.1 ∙ ap (λ z. is_inside (at z)) e ∙ out in absurd (cc)) in inr (t.0, ap is_inside (moved_else at k t.0 p ne) ∙ t.1, t.2)) h
 
-  -- where nobody is inside, the list to come is the current one
+  -- if no process is in its critical section, the list to come is the current one
   comes_now : (at : ℕ → At) (c : Course I) → ((i : ℕ) → is_inside (at i) ≡ false) → Comes shows fixes author answered about at c → c.next ≡ c.now
   comes_now at c none_in h = ⊎_elim (λ e. e) (λ t. let q : true ≡ false = sym t.1 ∙ none_in t.0 in absurd (cc)) h
 
@@ -224,7 +224,7 @@ module _ {S I : Type 0} (shows : S → List I) (fixes : S → List ℕ) (author 
         record { line = is_line; on = (on_word, refl, refl); refused = λ _. refl; admitted = λ e. absurd (ne e) },
       ))
 
-  -- while k is inside, no other seat is
+  -- while k is in its critical section, no other seat is
   not_inside : (words marks : List ℕ) (at : ℕ → At) → IsSafeWorld about.count words marks at → (k : ℕ) → is_inside (at k) ≡ true → (p : At) (cs : List (Claim I)) → times k cs ≡ 0 → On at p cs → is_inside p ≡ false
   not_inside words marks at h k is p [] z on = ap is_inside on
   not_inside words marks at h k is p (c ∷ cs) z on = dite (ℕ_discrete c.0 k)
@@ -333,18 +333,18 @@ module _ {S I : Type 0} (shows : S → List I) (fixes : S → List ℕ) (author 
   all_rest at [] h = refl
   all_rest at (c ∷ cs) h = h
 
-  -- a seat at Rest moves, and the one inside stays
+  -- a step of a seat at Rest leaves the process in its critical section there
   still_inside : (vs : List (View I)) (id j : ℕ) (v w d : View I) → v.at ≡ Rest → is_inside d.at ≡ true → get_elem? vs id ≡ some v → get_elem? vs j ≡ some d → get_elem? (set vs id w) j ≡ some d
   still_inside vs id j v w d o i at g = set_else vs id j w (λ e. let P : ℕ → Type 0 = λ n. get_elem? vs n ≡ some d in
       let same : d ≡ v = some-injective d v (sym (subst P e g) ∙ at) in let x : true ≡ false = sym i ∙ ap (λ (z : View I). is_inside z.at) same ∙ ap is_inside o in cc) ∙ g
 
-  -- a word that is 1 stays so where seat k stores another's word
+  -- a word that is 1 keeps that value if seat k stores the word of another
   told_on : (at : ℕ → At) (c : Course I) → Comes shows fixes author answered about at c → Marked answered about.count c → Stays → (k q : ℕ) (given : List I) → is_inside (at k) ≡ true → GrowsBy author k c.now given → (given ≡ c.next) ⊎ (c.done ≡ []) → 1 ≤ q → q ≤ about.count
       → (p : At) (fixed : Fixed) (cs : List (Claim I)) → On at p cs → is_inside p ≡ false → Each (Good fixed c.now) cs → mark_in c.marks (number_in cs) ≡ 1 → mark_in (set c.marks (q - 1) (flag (answered q given))) (number_in cs) ≡ 1
   told_on at c comes m stays k q given i adds same low high p fixed [] on out good up = absurd (omega (arith, up))
   told_on at c comes m stays k q given i adds same low high p fixed (d ∷ ds) on out good up = shown_on answered about.count author stays at c comes m d.0 (ap is_inside on.0 ∙ out) (good.0.1) (good.0.2) k q given i adds same low high up
 
-  -- the store of the word s of process q, inside
+  -- the store of the word s of process q, in the critical section
   marks_home : (s : St) (r : Rule s) → Stays → (id k : ℕ) (p : At) (found : List I) (fixed : Fixed) (l : List I) (plan : Plan I) (n : ℕ) (st : S) (q : ℕ) → is_inside p ≡ true → GrowsBy author k found (shows st) → MayCome answered plan (shows st) → 1 ≤ q → q ≤ fixed.0
       → get_elem? s.views id ≡ some (seat p k found fixed l [] plan n)
       → Rule record { words = set s.words (fixed.0 + 1 + q) (flag (answered q (shows st))); homes = s.homes; views = set s.views id (view_marked q (shows st) (seat p k found fixed l [] plan n)) }
@@ -396,7 +396,7 @@ module _ {S I : Type 0} (shows : S → List I) (fixes : S → List ℕ) (author 
     record { inside = is; process = q; on = (refl, refl, refl); stores = refl; goes = refl },
   )
 
-  -- who was told, or is now, has its word at 1
+  -- if a poll of a process was true, or now is, its word is 1
   or_told : (told : Bool) (word mark : ℕ) → word ≡ mark → (told ≡ true → mark ≡ 1) → (told || (word == 1)) ≡ true → mark ≡ 1
   or_told true word mark is before t = before refl
   or_told false word mark is before t = sym is ∙ eqb-true word 1 t
@@ -504,7 +504,7 @@ module _ {S I : Type 0} (shows : S → List I) (fixes : S → List ℕ) (author 
   some_claim at p [] h i = let q : true ≡ false = sym i ∙ ap is_inside h in absurd (cc)
   some_claim at p (c ∷ cs) h i = omega arith
 
-  -- who has all claims finds the state at home
+  -- a seat with all claims finds the state in its slot
   ends : (id : ℕ) (found : List I) (fixed : Fixed) (cs : List (Claim I)) (plan : Plan I) (n : ℕ) (ws : List ℕ) (xs : List (Opt S)) → about.count ≤ length cs → Final (Seen Rule id (seat_view Rest found fixed cs plan n)) ws xs
       → (st : S) × (get_elem? xs 0 ≡ some (Some st)) × (fixes st ≡ fixes about.state.value) × Each (λ (c : Claim I). Grows author c.0 c.1 (shows st) []) cs
   ends id found fixed cs plan n ws xs all fin =
@@ -548,7 +548,7 @@ module _ {S I : Type 0} (shows : S → List I) (fixes : S → List ℕ) (author 
   tests_at slots id k word old me found fixed l plan n is_line on_word out is out' hit miss e = let P : Me (Opt S) (View I) → Type 0 = λ m. Allows Rule slots id m word (λ n. n) (IsTest shows fixes author answered (step slots word 0 0 none) m) in
       subst P (sym e) (tests slots id k word old found fixed l plan n is_line on_word out is out' hit miss)
 
-  -- Each line of the algorithm, for the seat of a walk.
+  -- Each line of the algorithm, for the seat of an acquisition.
   module _ (slots id k : ℕ) (me : Me (Opt S) (View I)) (found : List I) (fixed : Fixed) (l : List I) (plan : Plan I) (n : ℕ) where
     raises_rest_at : me ≡ me_at Rest k found fixed l plan n → Allows Rule slots id me (k + 1) (λ _. 1) (λ _. IsStore (step slots (k + 1) 1 0 none) me 1)
     raises_rest_at = stores_at slots id k (k + 1) 1 Rest me found fixed l plan n refl refl refl refl refl (λ ws ms at w e p. raises_rest about.count ws ms at w k e p)
@@ -660,7 +660,7 @@ module _ {S I : Type 0} (shows : S → List I) (fixes : S → List ℕ) (author 
   ready_from me p k found fixed l plan n st e is adds same blank = let P : Me (Opt S) (View I) → Type 0 = λ m. IsReady shows fixes author answered m in
       subst P (sym e) record { inside = is; alone = refl; full = (st, refl, same); adds = adds; may = inr blank }
 
-  -- it stays so when it has stored a word s
+  -- it remains ready after it has stored a word s
   pub ready_on : (me me' : Me (Opt S) (View I)) (q : ℕ) → IsReady shows fixes author answered me → me' ≡ (view_marked q (list_in shows me.1) me.0, me.1) → IsReady shows fixes author answered me'
   ready_on me me' q r e = let P : Me (Opt S) (View I) → Type 0 = λ m. IsReady shows fixes author answered m in
       subst P (sym e) record { inside = r.inside; alone = r.alone; full = r.full; adds = r.adds; may = inl refl }
@@ -704,7 +704,7 @@ module _ {S I : Type 0} (shows : S → List I) (fixes : S → List ℕ) (author 
 
 -- what is known of the view of a seat
 module _ {S I : Type 0} where
-  -- the seat of a walk that stands at p
+  -- the seat of an acquisition at point p
   pub stands_at : (me : Me (Opt S) (View I)) (at p : At) (k : ℕ) → me ≡ (seat_view at me.0.found me.0.fixed ((k, last_left me.0.claims) ∷ []) me.0.plan me.0.accesses, slots_at at) → at ≡ p
       → me ≡ (seat_view p me.0.found me.0.fixed ((k, last_left me.0.claims) ∷ []) me.0.plan me.0.accesses, slots_at p)
   stands_at me at p k e q = e ∙ ap (λ z. (seat_view z me.0.found me.0.fixed ((k, last_left me.0.claims) ∷ []) me.0.plan me.0.accesses, slots_at z)) q

@@ -1,5 +1,5 @@
--- Each line of Lamport's algorithm, taken on the words: where words and points are a world that keeps the condition,
--- they are one after the line. Each cites the law of its line.
+-- Each line of Lamport's algorithm, applied to the words. If words and points form a world that
+-- satisfies the invariant, they do so after the line. Each lemma cites the law of its line.
 use Rattle.std.proofs.Common.{◌≡◌, ◌≢◌, ◌<◌, ◌≤◌, ◌+◌, ◌-◌, ℕ, zero, suc, eqb, cond, Bool, true, false, List, [], ◌∷◌, ◌++◌, set, take, drop, get_or, length, length-set, refl, sym, ap, ◌∙◌, subst, inl, inr, ⊎_elim, arith, get_or-set_same, get_or-set_other, eq-eqb, ne_eqb}
 use Rattle.std.specs.List.{AllByRecursion as Each}
 use Rattle.std.proofs.lemmas.List.{set-append_left, set-append_right, get_or_append_left, get_or-append_right, take-append-drop, length-take-le}
@@ -193,7 +193,7 @@ module _ (n : ℕ) (words marks : List ℕ) (at : ℕ → At) (w : IsSafeWorld n
   pub refuses_slow : get_or words 1 0 ≢ k → at k ≡ SlowY → IsSafeWorld n words marks (moved_to at k SlowAwait)
   refuses_slow ne e = let P : Bool → Type 0 = λ t. IsSafeWorld n words marks (moved_to at k (cond t Slow SlowAwait)) in subst P (ne_eqb (get_or words 1 0) k ne) (loads_slow_y _ refl e)
 
-  -- at most one process is inside
+  -- at most one process is in its critical section
   pub others_outside : is_inside (at k) ≡ true → (j : ℕ) → j ≢ k → is_inside (at j) ≡ false
   others_outside i j ne = not_true (is_inside (at j)) (λ h. ne (one_inside_at n w.x w.y _ at w.safe j k (inside_point (at j) h) (inside_point (at k) i)))
 
@@ -212,7 +212,7 @@ module _ (n : ℕ) (words marks : List ℕ) (at : ℕ → At) (w : IsSafeWorld n
   pub mark_loaded : (p : ℕ) → 1 ≤ p → get_or words (n + 1 + p) 0 ≡ mark_in marks p
   mark_loaded p some = ap (λ ws. get_or ws (n + 1 + p) 0) w.is ∙ mark_word w.x w.y n w.flags marks p w.wide some
 
--- whom a step admits found nobody inside
+-- a process that a step takes into its critical section found no other there
 pub found_nobody : (n : ℕ) (words marks : List ℕ) (at : ℕ → At) (k : ℕ) (P Q : At) → IsSafeWorld n words marks (moved_to at k Q) → at k ≡ P → is_inside P ≡ false → is_inside Q ≡ true → (j : ℕ) → is_inside (at j) ≡ false
 found_nobody n words marks at k P Q w e out i j = not_true (is_inside (at j)) (λ h.
     admitted_alone n w.x w.y _ at _ k P Q w.safe (moves_to at k P Q e) (outside_point P out) (inside_point Q i) j (inside_point (at j) h))

@@ -80,7 +80,7 @@ module _ {I : Type 0} (answered : ℕ → List I → Bool) (n : ℕ) where
     λ p low high. sym (mark_loaded n words (drop n (drop 2 words)) (λ _. Rest) safe p low) ∙ first.marks p low high,
   )
 
-  -- a told process finds its wait answered, where nobody is inside
+  -- a process whose poll was true finds its wait answered, if no process is in its critical section
   pub shown_now : (c : Course I) → Marked answered n c → c.done ≡ [] → (p : ℕ) → 1 ≤ p → p ≤ n → mark_in c.marks p ≡ 1 → answered p c.now ≡ true
   shown_now c m none_yet p low high up = let no : has p c.done ≡ false = ap (has p) none_yet in
       flag_up (answered p c.now) (ap (λ b. flag (answered p (cond b c.next c.now))) (sym no) ∙ sym (m.1 p low high) ∙ up)
@@ -100,7 +100,7 @@ module _ {I : Type 0} (answered : ℕ → List I → Bool) (n : ℕ) where
     still_seen : (p : ℕ) (left now : List I) → Grows author p left now [] → answered p left ≡ true → answered p now ≡ true
     still_seen p left now g a = ap (answered p) g.is ∙ stays p g.behind left (All-from_recursion (λ x. author x ≢ p) g.behind (lacks p g.behind g.mine)) a
 
-    -- who is inside is another than who is outside
+    -- a process in its critical section is another than one outside
     apart : (at : ℕ → At) (k p : ℕ) → is_inside (at k) ≡ true → is_inside (at p) ≡ false → k ≢ p
     apart at k p i o e = let q : true ≡ false = sym i ∙ ap (λ z. is_inside (at z)) e ∙ o in absurd (cc)
 
@@ -114,13 +114,13 @@ module _ {I : Type 0} (answered : ℕ → List I → Bool) (n : ℕ) where
       shown_next up = let a : answered p (cond (has p c.done) c.next c.now) ≡ true = flag_up (answered p (cond (has p c.done) c.next c.now)) (sym (m.1 p low high) ∙ up) in
           split (has p c.done) (λ b. answered p (cond b c.next c.now) ≡ true → answered p c.next ≡ true) (λ _ h. h) (λ _ h. still_next h) a
 
-      -- where the list that p last left answers it, the word is 1
+      -- if the list that p last left answers it, the word is 1
       pub shown_left : (left : List I) → Grows author p left c.now [] → answered p left ≡ true → mark_in c.marks p ≡ 1
       shown_left left g a = let here : answered p c.now ≡ true = still_seen p left c.now g a in
           let both : answered p (cond (has p c.done) c.next c.now) ≡ true = split (has p c.done) (λ b. answered p (cond b c.next c.now) ≡ true) (λ _. still_next here) (λ _. here) in
           m.1 p low high ∙ ap flag both
 
-      -- a word that is 1 stays so where another process stores words
+      -- a word that is 1 keeps that value if another process stores words
       pub shown_on : (k q : ℕ) (given : List I) → is_inside (at k) ≡ true → GrowsBy author k c.now given → (given ≡ c.next) ⊎ (c.done ≡ []) → 1 ≤ q → q ≤ n → mark_in c.marks p ≡ 1 → mark_in (set c.marks (q - 1) (flag (answered q given))) p ≡ 1
       shown_on k q given i g same some few up = dite (ℕ_discrete p q)
           (λ e. let wide : length c.marks ≡ n = m.0 in
@@ -176,7 +176,7 @@ unfolding answer_bits
 bits_small f k zero = omega arith
 bits_small f k (suc m) = let h = bits_small f (suc k) m in let b = flag_small (f k) in let p = pow-succ' 2 m in omega arith
 
--- the bits of the processes from k on, where those above k are known
+-- the bits of the processes from k on, given those above k
 module _ (f : ℕ → Bool) (k bits : ℕ) (one : 0 < k) (few : k ≤ 32) (is : bits ≡ answer_bits f (k + 1) (32 - k)) where
   pub bits_down : 2 * bits + flag (f k) ≡ answer_bits f (k - 1 + 1) (32 - (k - 1))
   bits_down = let next : k + 1 ≡ suc k = omega arith in
@@ -213,6 +213,6 @@ module _ {I : Type 0} (answered : ℕ → List I → Bool) (found given : List I
       (λ e. let yes : has q (k ∷ stored) ≡ true = ap (λ z. has q (z ∷ stored)) (sym e) ∙ has_here q stored in let z : true ≡ false = sym yes ∙ not_in in absurd (cc))
       (λ ne. d q low (omega arith) (sym (has_else q k stored ne) ∙ not_in))
 
-  -- where the bits that are left are the same, or belong to no process, all words are done
+  -- if the remaining bits are the same, or belong to no process, all words are done
   pub done_all : (k m n w : ℕ) (stored : List ℕ) → w ≡ answer_bits (λ p. answered p found) k m → w ≡ answer_bits (λ p. answered p given) k m → n < k + m → Done k stored → (q : ℕ) → 1 ≤ q → q ≤ n → has q stored ≡ false → answered q found ≡ answered q given
   done_all k m n w stored e f wide d q low high not_in = dite (dec_lt q k) (λ below. d q low below not_in) (λ above. bits_same (λ p. answered p found) (λ p. answered p given) k m (sym e ∙ f) q (omega arith) (omega arith))

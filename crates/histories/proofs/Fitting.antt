@@ -40,7 +40,7 @@ message-at past place prio message =
     in
     goes (record_at past place)
 
--- whether a reply of this shape that gives this message returns what was seen
+-- whether a reply of this shape with this message returns what was seen
 abbrev brings_of : Reply → Option Message → ℕ → List ℕ → Bool
 brings_of replies.Waits m prio message = true
 brings_of (replies.Got k a n) m prio message = is_message_of m prio message

@@ -60,7 +60,7 @@ completed-grows past r p legal =
 
 -- and operations that end in their order end no earlier later ----------------------------------------------------------
 
--- an operation stands before each that is one
+-- an operation comes before each that is one
 some-below : {A : Type 0} (xs : List A) (m n : ℕ) (x : A) → m ≤ n → slice_get xs n ≡ Some x → (y : A) × (slice_get xs m ≡ Some y)
 some-below xs m n x below is =
     let within : n < length xs = slice_get_within xs n x is in
@@ -79,7 +79,7 @@ operation-below histories index m n operation below is =
     in
     goes (slice_get histories index) is
 
--- a moment by which the m-th operation of a process has not ended, and so none of the later ones
+-- a time by which the m-th operation of a process has not ended, and so none of the later ones
 later-ends : (histories : Histories) → EndInOrder histories → (index moment m more : ℕ) (operation : Operation) → operation_at histories index (m + more) ≡ Some operation →
     ((o : Operation) → operation_at histories index m ≡ Some o → moment ≤ o.end) → moment ≤ operation.end
 later-ends histories ordered index moment m zero operation is at =
@@ -93,7 +93,7 @@ later-ends histories ordered index moment m (suc more) operation is at =
     let next : last.0.end ≤ operation.end = ordered index (m + more) last.0 operation last.1 here in
     omega (arith, before, next)
 
--- a moment by which the current operation of no process has ended
+-- a time by which the current operation of no process has ended
 abbrev NotEnded : Histories → Past → ℕ → Type 0
 NotEnded histories past moment = (index : ℕ) (operation : Operation) → current_of histories past index ≡ Some operation → moment ≤ operation.end
 
@@ -148,7 +148,7 @@ record-in-time histories past r operation from is index o at =
     in
     not-ended-of histories past operation.begin (length histories) index o (process-within histories past index o at) none at
 
--- and none has at any time behind it
+-- and none has at any later time
 record-stays-in-time : (histories : Histories) → EndInOrder histories → (past : Past) → IsLinearization histories past → (i : Place) (operation : Operation) → operation_of histories past i ≡ Some operation →
     NotEnded histories past operation.begin
 record-stays-in-time histories ordered [] linear i operation is = let k : ⊥ = cc in absurd k

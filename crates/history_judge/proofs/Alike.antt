@@ -1,4 +1,4 @@
--- Calls that are seen alike come to operations that are seen alike.
+-- Calls that show the same have operations that show the same.
 use Rattle.std.proofs.Common.{◌≡◌, ℕ, ◌==◌, max, Bool, true, false, List, [], ◌∷◌, Option, Some, None, map, refl, ap, sym, ◌∙◌, if◌then◌else◌}
 use Rattle.mq_model.specs.declared.entries.Call.{Call}
 use Rattle.mq_model.specs.declared.entries.Reply.{Reply}

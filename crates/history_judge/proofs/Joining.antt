@@ -9,7 +9,7 @@ use Rattle.journal_format.proofs.WrittenLines.{join-more, call_some, reply_some}
 use Rattle.history_judge.specs.Text.{end_of, line_text, message_of, result_words, spaced, written_reply}
 use Rattle.history_judge.specs.declared.line.Called.{Called}
 
--- the words of a reply and a message behind it
+-- the words of a reply and a message after them
 reply-parts : (rs : List Word) (message : List ℕ) → 0 < length rs → join_with_byte 32 (rs ++ payload_words message) ≡ join_with_byte 32 rs ++ payload_text message
 reply-parts [] message some = absurd (omega arith)
 reply-parts (r ∷ rs) [] some = ap (λ (ws : List Word). join_with_byte 32 ws) (append-nil (r ∷ rs)) ∙ sym (append-nil (join_with_byte 32 (r ∷ rs)))

@@ -1,4 +1,4 @@
--- How long the line of a call is at most.
+-- The maximum length of the line of a call.
 use Rattle.std.proofs.Common.{◌<◌, ◌≤◌, ◌+◌, ◌*◌, ◌^◌, ◌++◌, false, [], ◌∷◌, length, length-append, arith, codes, None, IfSome}
 use Rattle.std.specs.List.{join_with_byte}
 use Rattle.mq_model.specs.declared.entries.Reply.TheVariants as reply

@@ -44,7 +44,7 @@ no_line rest more none bad c behind fits is =
     let good : can_go_on rest ≡ true = line-start rest more u behind none (line-join (called_words c) (called-words c fits)) (is ∙ append_assoc u (10 ∷ []) behind) in
     let both : false ≡ true = sym bad ∙ good in cc
 
--- each line of a history has one feed
+-- each line of a history has one line feed
 pub feeds-history : (calls : List Called) → AllFit calls → feeds (history_text calls) ≡ length calls
 unfolding line_text
 feeds-history [] fits = refl
@@ -58,7 +58,7 @@ line_feed c behind =
     let u = join_with_byte 32 (called_words c) in
     ap has_feed (append_assoc u (10 ∷ []) behind) ∙ feed_behind u behind
 
--- where two texts begin with the line of a call, the lines are one
+-- if two texts begin with the line of a call, the lines are equal
 one_line : (c d : Called) (x y : List ℕ) → Fits c → Fits d → line_text c ++ x ≡ line_text d ++ y → (line_text c ≡ line_text d) × (x ≡ y)
 unfolding line_text
 one_line c d x y c_fits d_fits same =
@@ -134,7 +134,7 @@ at_fault_at_end line calls text rest fits none number (inr end) stops =
     let whole : text ≡ history_text calls ++ (rest ++ end.more) = end.whole ∙ append_assoc (history_text calls) rest end.more in
     subst (IsAtFault line) (sym whole) (early_fault line calls rest end.more fits none number end.why)
 
--- where the text is a history's, its calls are read, or memory is refused
+-- if this is the text of a history, its calls are read, or memory is refused
 pub only_from : (result : Result (Vec Called Global) JournalFault) (text : List ℕ) (history : List Called) → AllFit history → text ≡ history_text history →
     IfOk result (λ calls. text ≡ history_text calls.items) → IfOk result (λ calls. AllFit calls.items) →
     ((line : ℕ) → IsErrOf result (BadLine line) → StopsAt line text) → (IsErrOf result Input → ⊥) →
@@ -164,7 +164,7 @@ stops_in line text rest first others more calls so_far fits number some lines no
   none = none_in rest first others more some lines none;
 }
 
--- with a line that lacks its feed
+-- with a line that lacks its line feed
 pub stops_short : (line : ℕ) (rest : List ℕ) (calls : List Called) → AllFit calls → line ≡ length calls + 1 → 0 < length rest → has_feed rest ≡ false → StopsAt line (history_text calls ++ rest)
 stops_short line rest calls fits number some short = record {
   calls = calls;

@@ -13,7 +13,7 @@ get-other (x ∷ xs) zero (suc j) v h = refl
 get-other (x ∷ xs) (suc i) zero v h = refl
 get-other (x ∷ xs) (suc i) (suc j) v h = get-other xs i j v (λ e. h (ap suc e))
 
--- the element behind others
+-- the element after others
 pub get-behind : {A : Type 0} (xs ys : List A) (v : A) → slice_get (xs ++ v ∷ ys) (length xs) ≡ Some v
 get-behind [] ys v = refl
 get-behind (x ∷ xs) ys v = get-behind xs ys v

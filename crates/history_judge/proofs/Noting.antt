@@ -10,12 +10,12 @@ use Rattle.history_judge.specs.Processes.{AreOfProcesses, is_process}
 use Rattle.history_judge.specs.WellFormed.{LatestMoments, fault_at, fault_behind, fault_of, has_pending, is_pending_by, latest, latest_of, moment_by}
 use Rattle.history_judge.specs.declared.line.Called.{Called}
 
--- the table has the latest of these moments of each process, of the first n calls
+-- the table has the latest of these times of each process, for the first n calls
 pub record AreLatest (calls : List Called) (n : ℕ) (moment : Operation → ℕ) (table : List ℕ) : Type 0 where
   pub count : length table ≡ 33
   pub each : (p : ℕ) → p < 33 → get_or table p 0 ≡ latest moment calls p n
 
--- the tables have the latest moments of each process and whether a call of it had not returned, of
+-- the tables have the latest times of each process and whether a call of it had not returned, for
 -- the first n calls
 pub record AreNoted (calls : List Called) (n : ℕ) (begins ends : List ℕ) (pending : List Bool) : Type 0 where
   pub begun : AreLatest calls n (λ o. o.begin) begins

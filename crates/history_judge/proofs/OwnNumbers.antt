@@ -1,4 +1,4 @@
--- Renaming gives own numbers, and leaves them.
+-- Renumbering gives this library's numbers, and leaves them unchanged.
 use Rattle.std.proofs.Common.{◌≡◌, ◌≢◌, ◌⊎◌, inl, inr, ℕ, ◌<◌, ◌≤◌, ◌==◌, Bool, true, false, not, List, [], ◌∷◌, length, get_or, Option, Some, None, is_some, is_none, if◌then◌else◌, refl, sym, ◌∙◌, ap, subst, arith, eqb-true, eq-eqb, ne_eqb, nat_lt}
 use Rattle.std.specs.Prelude.{position, slice_set, unwrap_or}
 use Rattle.std.specs.List.{filter, position_or_len}
@@ -41,7 +41,8 @@ other-number : (b : Bool) (k d : ℕ) → (k ≡ d → ⊥) → is_number d (if 
 other-number true k d ne = ne_eqb k d ne
 other-number false k d ne = refl
 
--- numbers that are renamed: own number i stands at i if a number stood there -------------------------------------------------
+-- renumbering of numbers: this library's number i is at i if a number was there
+-- ----------------------
 
 pub record AreOwned (numbers own : Numbers) : Type 0 where
   pub count : length numbers ≡ 16

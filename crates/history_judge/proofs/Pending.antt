@@ -83,7 +83,7 @@ through-at histories each (suc n) =
     in
     both (are_through histories [] n) (is_through (current_of histories [] n)) (through-at histories each n) (goes (slice_get histories n) refl)
 
--- where not all is complete before the first record, a call has returned
+-- if not everything is complete before the first record, a call has returned
 pub not-pending : (calls : List Called) (histories : Histories) → AreHistoriesOf calls histories → is_complete histories [] ≡ false → are_pending calls ≡ false
 not-pending calls histories are not_complete =
     let goes : (b : Bool) → are_pending calls ≡ b → b ≡ false =
@@ -124,7 +124,7 @@ count-length : (xs : List Return) → sum_by (λ x. 1) xs ≡ length xs
 count-length [] = refl
 count-length (x ∷ xs) = let e = sum_by-cons (λ y. 1) x xs in let ih = count-length xs in omega (arith, e, ih)
 
--- where a call has returned there is a return
+-- if a call has returned, there is a return
 pub has-return : (calls : List Called) (returns : List Return) → AreReturnsOf calls returns → are_pending calls ≡ false → 0 < length returns
 has-return calls returns are is =
     let some = return-from 0 calls is in

@@ -47,6 +47,6 @@ front-or-of-processes : (calls : List Called) (last : Option Return) → AreOfPr
 front-or-of-processes calls None all = all
 front-or-of-processes calls (Some last) all = front-of-processes last 0 calls all
 
--- of a front part
+-- of a prefix
 pub part-of-processes : (calls : List Called) (returns : List Return) (number : ℕ) → AreOfProcesses calls → AreOfProcesses (front_part calls returns number)
 part-of-processes calls returns number all = front-or-of-processes calls (slice_get returns number) all

@@ -185,7 +185,7 @@ linear-alike a b alike (r ∷ past) linear = (linear-alike a b alike past linear
 
 -- verdicts ----------------------------------------------------------------------------------------------------------------
 
--- where the histories of these calls have no linearization the calls are impossible
+-- if the histories of these calls have no linearization, the calls are not linearizable
 pub is-impossible : (calls : List Called) (histories : Histories) → AreHistoriesOf calls histories →
     ((past : Past) → IsLinearization histories past → is_complete histories past ≡ false) → IsImpossible calls
 is-impossible calls histories are nothing past e =
@@ -195,7 +195,7 @@ is-impossible calls histories are nothing past e =
     let both : true ≡ false = sym complete ∙ not_complete in
     let no : ⊥ = cc in no
 
--- where they have one, its text explains the calls
+-- if they have one, its text explains the calls
 pub explained : (calls : List Called) (histories : Histories) (past : Past) (text : List ℕ) → AreHistoriesOf calls histories →
     IsLinearization histories past × (is_complete histories past ≡ true) → text ≡ journal_text past → IsExplainedBy calls text
 explained calls histories past text are found written = record {

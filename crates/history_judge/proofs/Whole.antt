@@ -4,7 +4,7 @@ use Rattle.history_judge.specs.Fitting.{AllFit, Fits}
 use Rattle.history_judge.specs.Text.{history_text, line_text}
 use Rattle.history_judge.specs.declared.line.Called.{Called}
 
--- a call behind others
+-- a call after others
 pub history_text-last : (calls : List Called) (c : Called) → history_text (calls ++ c ∷ []) ≡ history_text calls ++ line_text c
 history_text-last [] c = append-nil (line_text c)
 history_text-last (d ∷ calls) c =

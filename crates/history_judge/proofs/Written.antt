@@ -26,12 +26,12 @@ use Rattle.history_judge.specs.Seen.{SeenCall, seen_call}
 use Rattle.history_judge.specs.Text.{called_words, end_of, line_text, message_of, result_words, words_between, written_reply}
 use Rattle.history_judge.specs.declared.line.Called.{Called}
 
--- ---- what a call came to
+-- ---- the result of a call
 
 decoded : (bytes : List ℕ) → All (λ b. b < 256) bytes → percent_decode (escaped bytes) ≡ bytes
 decoded bytes fits = round_trip ESCAPED bytes refl fits
 
--- a message behind other words
+-- a message after other words
 got_again : (prio : ℕ) (message : List ℕ) → prio < 2 ^ 64 → reply_at (reply_words (reply.Got prio None None) ++ payload_words message) ≡ Some (reply.Got prio None None)
 unfolding reply_at word_at kind_written got_at place_at
 got_again prio [] fits = rw (place_at_again prio [] fits) refl
@@ -173,7 +173,7 @@ no_process c line words p fits cut is read other =
     let own : is_process p.process ≡ true = ap (λ (q : PartsSeen). is_process q.process) same ∙ fits.process in
     let no : true ≡ false = sym own ∙ other in cc
 
--- nor are those whose last ones no call came to
+-- nor words whose last ones are no result of a call
 pub no_outcome : (c : Called) (line : List ℕ) (words : List Word) (p : PartsSeen) → Fits c → words ≡ words_of line → line ≡ line_text c → parts_at words ≡ Some p → outcome_at p.result ≡ None → ⊥
 no_outcome c line words p fits cut is read none = let some = outcome_is c line words p fits cut is read in cc
 
@@ -218,7 +218,7 @@ end-is (Attributes status) d ended written end last same is pending returned = r
 end-is (Notice value) d ended written end last same is pending returned = returned refl
 end-is (Refused fault) d ended written end last same is pending returned = returned refl
 
--- the same, where what had not returned is said to end at the greatest moment
+-- the same, if a call that had not returned ends at the greatest time
 pub ended_seen : (c : Called) (line : List ℕ) (words : List Word) (p : PartsSeen) (o : Outcome) (given : List ℕ) (end : ℕ) → Fits c →
     words ≡ words_of line → line ≡ line_text c → parts_at words ≡ Some p → outcome_at p.result ≡ Some (shown o) →
     given ≡ percent_decode p.quoted → (is_pending o ≡ true → end ≡ 2 ^ 64 - 1) → (is_pending o ≡ false → end ≡ unwrap_or p.end (2 ^ 64 - 1)) →

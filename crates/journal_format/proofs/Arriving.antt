@@ -19,7 +19,7 @@ use Rattle.journal_format.proofs.Splitting.{all-append, feeds, feeds-append, fee
 
 -- ---- what was read, and what is left
 
--- these bytes stand first in all, and the others are left
+-- these bytes come first, and the others are left
 record IsFront (xs all : List ℕ) (new : Option (List ℕ)) : Type 0 where
   left : List ℕ
   whole : all ≡ xs ++ left
@@ -82,7 +82,7 @@ read_nothing start old new bytes chunk left was gave none =
     let whole : bytes ++ chunk ≡ bytes = ap (λ t. bytes ++ t) none ∙ append-nil bytes in
     record { bytes_are = subst (Consumes start new) whole both; count = was.count }
 
--- where nothing more is read, these are all bytes
+-- if nothing more is read, these are all bytes
 pub all_read : (start now : Option (List ℕ)) (all bytes : List ℕ) (left : ℕ) → HasRead start now bytes left → start ≡ Some all → (left ≡ 0) ⊎ IsAtEnd now → take (MOST_BYTES + 1) all ≡ bytes
 all_read start now all bytes left read known (inl none) =
     all_taken bytes all now _ (front_of start now bytes all known read.bytes_are) (ap (λ k. length bytes + k) (sym none) ∙ read.count)
@@ -100,7 +100,7 @@ pub record EndsEarly (rest bytes text : List ℕ) : Type 0 where
   pub whole : text ≡ bytes ++ more
   pub why : (MOST_LINE < length rest) ⊎ (can_go_on rest ≡ false)
 
--- where no more of a line is read, these are all bytes, or it is none, whatever more there is
+-- if no more of a line is read, these are all bytes, or they do not start a line, whatever follows
 pub ended : (start now : Option (List ℕ)) (all front rest : List ℕ) (left : ℕ) → HasRead start now (front ++ rest) left → start ≡ Some all → HasEnded rest left now →
     (take (MOST_BYTES + 1) all ≡ front ++ rest) ⊎ EndsEarly rest (front ++ rest) (take (MOST_BYTES + 1) all)
 ended start now all front rest left read known (inl none) = inl (all_read start now all (front ++ rest) left read known (inl none))
@@ -134,7 +134,7 @@ too_long rest more long none =
     let first : take MOST_LINE (rest ++ more) ≡ take MOST_LINE rest = take-append-le MOST_LINE rest more (omega (arith, long)) in
     (some, ap has_feed first ∙ take-feedless MOST_LINE rest none)
 
--- what is left behind the lines that have come, came with the last read
+-- what is left after the lines that have come was read last
 pub left_in_last : (xs ys bytes rest : List ℕ) → xs ++ bytes ≡ ys ++ rest → HasNewLine bytes → has_feed bytes ≡ true → has_feed rest ≡ false → length rest ≤ CHUNK
 left_in_last xs ys bytes rest same new some none =
     let text : (xs ++ new.before) ++ new.last ≡ ys ++ rest = append_assoc xs new.before new.last ∙ ap (λ t. xs ++ t) (sym new.whole) ∙ same in
@@ -142,7 +142,7 @@ left_in_last xs ys bytes rest same new some none =
     let last : has_feed new.last ≡ true = ap (λ t. t || has_feed new.last) (sym new.none) ∙ sym parts ∙ some in
     omega (arith, left_short (xs ++ new.before) ys new.last rest text last none, new.size)
 
--- a line is at fault among those that came with the last read, or behind them
+-- a line that is wrong is among those that were read last, or after them
 pub reads_up_to : (line : ℕ) (old now : Option (List ℕ)) (front rest : List ℕ) (left : ℕ) → HasRead old now (front ++ rest) left → HasNewLine rest → feeds front < line → list_all is_text_byte front ≡ true → ReadsUpTo line old now
 reads_up_to line old now front rest left read new few plain = record {
   before = front ++ new.before;
@@ -153,7 +153,7 @@ reads_up_to line old now front rest left read new few plain = record {
   size = new.size;
 }
 
--- ---- what a text that was read comes to
+-- ---- the result of reading a text
 
 pub found_of : (result : Result Journal JournalFault) (journal : Journal) (text rest : List ℕ) → AllFit journal.records → text ≡ journal_text journal.records ++ rest → IfOk result (λ read. (read ≡ journal) × (rest ≡ [])) → IfOk result (λ read. AllFit read.records × (text ≡ journal_text read.records))
 found_of (Err fault) journal text rest fits is whole = tt
@@ -194,7 +194,7 @@ err_only (BadLine line) no_line no_input = absurd (no_line line refl)
 err_only Input no_line no_input = absurd (no_input refl)
 err_only NoMemory no_line no_input = refl
 
--- where the text is a journal's, that one is read, or memory is refused
+-- if this is the text of a journal, that journal is read, or memory is refused
 pub only_from : (result : Result Journal JournalFault) (text : List ℕ) (past : Past) → AllFit past → text ≡ journal_text past → IfOk result (λ read. AllFit read.records × (text ≡ journal_text read.records)) → IfOk result (λ read. length read.records < 2 ^ 63) → ((line : ℕ) → IsErrOf result (BadLine line) → StopsAt line text) → ((line : ℕ) → IsErrOf result (BadLine line) → line ≤ 2 ^ 63) → (IsErrOf result Input → ⊥) → MatchResult result (λ journal. journal.records ≡ past) (λ fault. fault ≡ NoMemory)
 only_from (Ok read) text past fits is found few stops number no_input = one_journal past read.records fits found.0 (omega (arith, few)) (sym is ∙ found.1)
 only_from (Err fault) text past fits is found few stops number no_input =

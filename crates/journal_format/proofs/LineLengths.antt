@@ -24,7 +24,7 @@ use Rattle.journal_format.specs.declared.payload.TheConstants.{ESCAPED}
 use Rattle.journal_format.specs.Fitting.{AttrFits, CallFits, Fits, IsLong, IsPlace, MomentFits, ReplyFits}
 use Rattle.journal_format.specs.Text.{access_letter, call_words, escaped, flag_word, flags_word, letter_if, limits_words, line_text, moment_words, number_or, payload_words, place_words, record_words, reply_words}
 
--- how many bytes words have in a line, each with the space or the feed behind it
+-- how many bytes words take in a line, each with the space or the line feed after it
 abbrev pub size : List Word → ℕ
 size [] = 0
 size (w ∷ ws) = length w + 1 + size ws

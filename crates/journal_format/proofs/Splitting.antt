@@ -82,7 +82,7 @@ text-line (b ∷ bytes) all =
     let rest : can_go_on bytes ≡ true = grind (arith, nat_tests) in
     and_from (is_text_byte b) (list_all is_text_byte bytes) here (text-line bytes rest)
 
--- the line that begins with these bytes has only such before its feed
+-- the line that begins with these bytes has only such before its line feed
 pub line-start : (rest more u behind : List ℕ) → has_feed rest ≡ false → can_go_on u ≡ true → rest ++ more ≡ u ++ 10 ∷ behind → can_go_on rest ≡ true
 line-start [] more u behind none all same = refl
 line-start (b ∷ rest) more [] behind none all same = let is : b ≡ 10 = cc in absurd (grind (arith, nat_tests))
@@ -94,7 +94,7 @@ line-start (b ∷ rest) more (d ∷ u) behind none all same =
     let here : is_line_byte b ≡ true = grind (arith, nat_tests) in
     and_from (is_line_byte b) (can_go_on rest) here (line-start rest more u behind short others later)
 
--- what is left behind the last feed is shorter than what had one
+-- what is left after the last line feed is shorter than what had one
 pub left_short : (xs ys last rest : List ℕ) → xs ++ last ≡ ys ++ rest → has_feed last ≡ true → has_feed rest ≡ false → length rest < length last
 left_short [] [] last rest same some none = let both : false ≡ true = sym none ∙ ap has_feed (sym same) ∙ some in absurd (cc)
 left_short [] (y ∷ ys) last rest same some none = omega (arith, ap length same, length-append ys rest)
@@ -104,7 +104,7 @@ left_short (x ∷ xs) [] last rest same some none =
     let both : false ≡ true = sym none ∙ ap has_feed (sym same) ∙ whole in absurd (cc)
 left_short (x ∷ xs) (y ∷ ys) last rest same some none = let later : xs ++ last ≡ ys ++ rest = cc in left_short xs ys last rest later some none
 
--- where two texts begin with a front without a feed, and then a feed, the fronts are one
+-- if two texts begin with a start without a line feed, and then a line feed, the starts are equal
 pub one_front : (u v x y : List ℕ) → HasNoFeed u → HasNoFeed v → u ++ 10 ∷ x ≡ v ++ 10 ∷ y → (u ≡ v) × (x ≡ y)
 one_front [] [] x y first second same = (refl, cc)
 one_front [] (b ∷ v) x y first second same = let is : 10 ≡ b = cc in absurd (grind (arith, nat_tests))
@@ -117,7 +117,7 @@ one_front (b ∷ u) (d ∷ v) x y first second same =
     let fronts = one_front u v x y rest other behind in
     (ap (λ t. b ∷ t) fronts.0 ∙ ap (λ h. h ∷ v) is, fronts.1)
 
--- how many feeds stand in these bytes
+-- the number of line feeds among these bytes
 abbrev pub feeds : List ℕ → ℕ
 feeds bytes = count_by (λ b. b == 10) bytes
 
@@ -132,7 +132,7 @@ feeds-none (b ∷ bytes) none =
     let one : feeds (b ∷ []) ≡ 0 = rw other refl in
     omega (arith, feeds-append (b ∷ []) bytes, one, feeds-none bytes rest)
 
--- a front without a feed, and then a feed
+-- a start without a line feed, and then a line feed
 pub feeds-one : (u : List ℕ) → HasNoFeed u → feeds (u ++ 10 ∷ []) ≡ 1
 feeds-one u none = feeds-append u (10 ∷ []) ∙ ap (λ n. n + 1) (feeds-none u none)
 
@@ -191,7 +191,7 @@ no_line place rest more small none bad r behind fits is =
     let good : can_go_on rest ≡ true = line-start rest more u behind none (line-join (record_words place r) (record-words place r small fits)) (is ∙ append_assoc u (10 ∷ []) behind) in
     let both : false ≡ true = sym bad ∙ good in cc
 
--- each line of a journal has one feed
+-- each line of a journal has one line feed
 pub feeds-journal : (past : Past) → AllFit past → length past < 2 ^ 64 → feeds (journal_text past) ≡ length past
 unfolding line_text
 feeds-journal [] fits small = refl
@@ -253,7 +253,7 @@ line-some place r others = simp (length-append) (omega arith)
 
 -- ---- the records of a journal, the earliest first
 
--- the lines of records that stand from this place on
+-- the lines of records from this place on
 abbrev pub lines_text : ℕ → List Record → List ℕ
 lines_text place [] = []
 lines_text place (r ∷ later) = line_text place r ++ lines_text (suc place) later
@@ -371,7 +371,7 @@ stops_here line place text rest first others past so_far all count small number 
 
 -- ---- a text that goes on
 
--- bytes with a feed: those before the first one, and those behind it
+-- bytes with a line feed: those before the first one, and those after it
 record Cut (bytes : List ℕ) : Type 0 where
   front : List ℕ
   behind : List ℕ
@@ -403,7 +403,7 @@ line_feed place r behind =
     let u = join_with_byte 32 (record_words place r) in
     ap has_feed (append_assoc u (10 ∷ []) behind) ∙ feed_behind u behind
 
--- where a text has a feed, what its first line is does not depend on what comes after the text
+-- if a text has a line feed, its first line does not depend on what follows the text
 pub first_in : (rest line others more u behind : List ℕ) → has_feed rest ≡ true → lines_of rest ≡ line ∷ lines_of others → HasNoFeed u → rest ++ more ≡ (u ++ 10 ∷ []) ++ behind → line ≡ u ++ 10 ∷ []
 first_in rest line others more u behind some lines none is =
     let cut = cut_at rest some in
@@ -431,7 +431,7 @@ stops_in line place text rest first others more past so_far all count small numb
   none = λ r behind fits is. no_first_in place rest first others more (omega arith) some lines none r behind fits (is ∙ ap (λ n. line_text n r ++ behind) (sym count));
 }
 
--- a text that stops with a line that lacks its feed
+-- a text that ends with a line that lacks its line feed
 pub stops_short : (line : ℕ) (rest : List ℕ) (past : Past) → AllFit past → line ≡ length past + 1 → 0 < length rest → has_feed rest ≡ false → StopsAt line (journal_text past ++ rest)
 stops_short line rest past all number some short = record {
   past = past;

@@ -65,7 +65,7 @@ words_of-word w s rest word ends =
     let all : list_all is_plain w ≡ true = grind (arith, nat_tests) in
     rw (slice_split_at is_separator w s rest (plain_parts w all) ends, some) refl
 
--- words with a space between two, and a feed, are cut into these words
+-- words that are separated by spaces, and a line feed, are split into these words
 pub words_of-line : (ws : List Word) → AreWords ws → words_of (join_with_byte 32 ws ++ 10 ∷ []) ≡ ws
 words_of-line [] words = refl
 words_of-line (w ∷ []) words = words_of-word w 10 [] words.0 refl

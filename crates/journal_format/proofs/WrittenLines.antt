@@ -26,7 +26,7 @@ use Rattle.journal_format.proofs.WholeWords.{AreWords, is_plain, word-decimal, w
 use Rattle.journal_format.proofs.WrittenCalls.{call_again, call-words, small_at_again}
 use Rattle.journal_format.proofs.WrittenReplies.{reply_again, reply-words}
 
--- ---- what stands between quotes
+-- ---- what is between quotes
 
 both_true : (a b : Bool) → (a && b) ≡ true → (a ≡ true) × (b ≡ true)
 both_true true b is = (refl, is)

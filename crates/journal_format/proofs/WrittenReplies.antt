@@ -20,7 +20,7 @@ unfolding reply_at word_at kind_written opened_at
 opened_again d true fits = rw (small_at_again d (codes "created" ∷ []) fits) refl
 opened_again d false fits = rw (small_at_again d [] fits) refl
 
--- a label that stands there, and one that does not
+-- a label that is there, and one that is not
 labelled_again : (label : Word) (place : ℕ) (ws : List Word) → bytes_eq label label ≡ true → IsPlace place → place_at label (label ∷ decimal place ∷ ws) ≡ Some (Some place, ws)
 unfolding place_at
 labelled_again label place ws same fits = rw (same, place_at_again place ws fits) refl

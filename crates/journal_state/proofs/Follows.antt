@@ -1,4 +1,4 @@
--- The tables stay those of the entries so far.
+-- The tables remain those of the entries so far.
 use Rattle.std.proofs.Common.{◌≡◌, ℕ, zero, suc, ◌+◌, ◌<◌, ◌==◌, Bool, true, false, not, List, [], ◌∷◌, ◌++◌, length, get_or, Option, Some, None, if◌then◌else◌, refl, sym, ◌∙◌, ap, subst, arith, eqb-true}
 use Rattle.std.specs.Prelude.{replicate}
 use Rattle.std.specs.List.{filter}

@@ -18,7 +18,7 @@ filter-numbers t d n lt = let less : n - d ≡ suc (n - (d + 1)) = omega arith i
 
 pub ruleset lists = (append_assoc, append-nil, drop_all, filter-drop, filter-numbers)
 
--- what is written behind what was written
+-- what is appended to what was written
 pub behind : (old a rest now new : List ℕ) → now ≡ old ++ a → new ≡ now ++ rest → new ≡ old ++ (a ++ rest)
 behind old a rest now new first last = last ∙ ap (λ t. t ++ rest) first ∙ append_assoc old a rest
 

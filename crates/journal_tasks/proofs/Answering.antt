@@ -1,4 +1,4 @@
--- What was found of a script, from where its processes begin.
+-- What was found about a script, from the start of its processes.
 use Rattle.std.proofs.Common.{◌≡◌, ◌∙◌, ℕ, true, false, Option, ap, subst}
 use Rattle.std.specs.List.{All}
 use Rattle.schedules.specs.Outcomes.{AreAll, AreDistinct, IsWitness}

@@ -22,7 +22,7 @@ makes-one_more p came (first ∷ plans) plan calls more all makes = (
   ap (λ cs. cs ++ more) all.4 ∙ append_assoc all.0 all.1 more,
 )
 
--- a line of the same process that came to the same
+-- a line of the same process with the same result
 pub makes-as : (p q : ℕ) (given : List ℕ) (step : Step) (a b : Option Completion) (calls : List Asked) → p ≡ q → a ≡ b → Makes p given step a calls → Makes q given step b calls
 makes-as p q given step a b calls same came makes =
     subst (λ o. Makes q given step o calls) came (subst (λ k. Makes k given step a calls) same makes)
@@ -51,7 +51,7 @@ programs-at phases (suc n) i d low =
 pub fronts-one_more : (phases : List (List WrittenCall)) (noted : List Noted) (n : ℕ) (calls own all : List Asked) → MakeFronts phases noted n calls → MakesFront (n + 1) (program_of 0 phases (n + 1)) (completions_of (n + 1) noted) own → all ≡ calls ++ own → MakeFronts phases noted (n + 1) all
 fronts-one_more phases noted n calls own all fronts front is = rw add-one (calls, own, fronts, front, is)
 
--- a call that returned is among those that were noted, and one that did not is behind them
+-- a call that returned is among those that were noted, and one that did not is after them
 pub came-within : {B : Type 0} (f : B → Completion) (r : Option B) (xs : List Completion) (i : ℕ) → option_map f r ≡ slice_get xs i → is_some r ≡ true → i < length xs
 came-within f None xs i is other = absurd (cc)
 came-within f (Some b) xs i is other = slice_get_within xs i (f b) (sym is)

@@ -1,4 +1,4 @@
--- The line that a fault names.
+-- The line that an error names.
 use Rattle.std.proofs.Common.{◌≡◌, ℕ, ap}
 use Rattle.journal_format.specs.declared.fault.JournalFault.{JournalFault}
 use Rattle.journal_format.specs.declared.fault.JournalFault.TheVariants as journal

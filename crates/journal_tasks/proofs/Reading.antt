@@ -1,4 +1,4 @@
--- A script that is read comes to no output fault.
+-- Reading a script cannot fail with an output error.
 use Rattle.std.proofs.Common.{◌≡◌}
 use Rattle.text_io.specs.declared.input.ReadFault.{ReadFault}
 use Rattle.text_io.specs.declared.input.ReadFault.TheVariants as read

@@ -36,21 +36,21 @@ fast_slow n x y b at s i j a c = elim (cases_eq i j) [
   | inr ne ↦ absurd (s.passed i j ne (subst IsAhead (sym a) tt) (subst (HasPassed i) (sym c) tt) (s.slow j c))
 ]
 
--- at most one process is inside
+-- at most one process is in its critical section
 pub one_inside_at : (n x y : ℕ) (b : ℕ → Bool) (at : ℕ → At) → Safe n x y b at → (i j : ℕ) → IsInsidePoint (at i) → IsInsidePoint (at j) → i ≡ j
 one_inside_at n x y b at s i j (inl a) (inl c) = s.one_fast i j a c
 one_inside_at n x y b at s i j (inr a) (inr c) = sym (s.slow i a) ∙ s.slow j c
 one_inside_at n x y b at s i j (inl a) (inr c) = fast_slow n x y b at s i j a c
 one_inside_at n x y b at s i j (inr a) (inl c) = sym (fast_slow n x y b at s j i c a)
 
--- whom a step admits found nobody inside
+-- a process that a step takes into its critical section found no other there
 pub admitted_alone : (n x y : ℕ) (b : ℕ → Bool) (at at' : ℕ → At) (i : ℕ) (P Q : At) → Safe n x y b at' → Moves i P Q at at' → (IsInsidePoint P → ⊥) → IsInsidePoint Q → (j : ℕ) → IsInsidePoint (at j) → ⊥
 admitted_alone n x y b at at' i P Q s m out inside j h = elim (cases_eq j i) [
   | inl e ↦ out (subst IsInsidePoint m.from (subst (λ k. IsInsidePoint (at k)) e h))
   | inr ne ↦ ne (one_inside_at n x y b at' s j i (subst IsInsidePoint (sym (m.others j ne)) h) (subst IsInsidePoint (sym m.to) inside))
 ]
 
--- who leaves leaves nobody inside
+-- a process that leaves its critical section leaves none there
 pub left_empty : (n x y : ℕ) (b : ℕ → Bool) (at at' : ℕ → At) (i : ℕ) (P Q : At) → Safe n x y b at → Moves i P Q at at' → IsInsidePoint P → (IsInsidePoint Q → ⊥) → (j : ℕ) → IsInsidePoint (at' j) → ⊥
 left_empty n x y b at at' i P Q s m inside out j h = elim (cases_eq j i) [
   | inl e ↦ out (subst IsInsidePoint m.to (subst (λ k. IsInsidePoint (at' k)) e h))

@@ -1,4 +1,5 @@
--- Each step goes by a line, and a walk along lines takes five steps to Fast and n + 7 or more to Slow.
+-- Each step follows a line, and an attempt along lines takes five steps to Fast and at least n + 7
+-- to Slow.
 use Rattle.std.proofs.Common.{◌≡◌, ◌==◌, ◌<◌, ◌≤◌, ◌+◌, ◌^◌, ◌⊎◌, ℕ, Bool, true, false, cond, refl, sym, subst, inl, inr, arith}
 use Rattle.std.proofs.lemmas.Bool.Decides.{eqb_tells}
 use Rattle.lamport_core.specs.State.{State, IsProcess, process_count, point_of, flag_of, next, step_from, with_process, of_process, after_TestY, after_AwaitY, after_TestX, after_Scan, after_SlowY, after_SlowAwait}

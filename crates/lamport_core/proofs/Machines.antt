@@ -16,7 +16,7 @@ of_process_read d xs (suc k) x p e =
     let place : suc k - 1 ≡ k = omega arith in
     get_or_read xs k x (omega arith) (subst (λ j. x ≡ get_or xs j x) place e) d
 
--- a write at place i - 1 gives process i its item
+-- a write at index i - 1 gives process i its item
 pub set_place : {A : Type 0} (xs : List A) (i : ℕ) (v : A) → 0 < i → set xs (i - 1) v ≡ with_process xs i v
 set_place xs zero v h = absurd (omega arith)
 set_place xs (suc k) v h = let place : suc k - 1 ≡ k = omega arith in ap (λ j. set xs j v) place

@@ -91,7 +91,7 @@ pub run_safe : (w : State) (is : List ℕ) → IsSafe w → IsSchedule (process_
 run_safe w [] s p = s
 run_safe w (i ∷ is) s p = run_safe (next w i) is (next_safe w i s p.0) (subst (λ n. IsSchedule n is) (sym (count-next w i)) p.1)
 
--- where each process is at rest, with its flag down
+-- if each process is at rest, with its flag down
 pub rest_safe : (n x y : ℕ) (b : ℕ → Bool) (at : ℕ → At) → ((i : ℕ) → at i ≡ Rest) → ((i : ℕ) → b i ≡ false) → Safe n x y b at
 rest_safe n x y b at rest down = record {
   process = λ i h. absurd (h (rest i));
@@ -114,7 +114,7 @@ start_safe n = record {
 pub reach_safe : (n : ℕ) (w : State) → Reach n w → IsSafe w
 reach_safe n w r = subst IsSafe (sym r.ends) (run_safe (start n) r.schedule (start_safe n) (subst (λ m. IsSchedule m r.schedule) (sym (length-replicate n false)) r.processes))
 
--- at most one process is inside
+-- at most one process is in its critical section
 pub one_inside : (w : State) (i j : ℕ) → IsSafe w → IsInside w i → IsInside w j → i ≡ j
 one_inside w i j s = one_inside_at _ _ _ _ _ s.safe i j
 

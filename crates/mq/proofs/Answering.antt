@@ -1,4 +1,4 @@
--- What one stay of a process changes of the answers.
+-- How one critical section of a process changes the answers.
 use Rattle.std.proofs.Common.{◌≡◌, ℕ, zero, suc, ◌+◌, ◌*◌, Bool, false, ◌∷◌, Option, None, is_some, refl, arith}
 use Rattle.fast_mutex.specs.Marks.{flag, answer_bits}
 use Rattle.mq_model.specs.Record.{Record, Past}
@@ -14,7 +14,8 @@ unanswered past p none = grind (arith, answered_by-none)
 names-nothing : (reply : Reply) → is_some (named_wait reply) ≡ false → (o : Option ℕ) → names_wait reply o ≡ false
 names-nothing reply e o = grind (arith)
 
--- a record that names no wait leaves each answer as it was, where the process of the record was not answered
+-- a record that serves no wait leaves each answer unchanged, if the process of the record was not
+-- answered
 pub answers-kept : (past base : Past) (r : Record) (p : ℕ) → r.entry.process ≡ p → is_some (named_wait r.entry.reply) ≡ false → is_answered base p ≡ false
     → ((q : ℕ) → is_answered past q ≡ is_answered base q) → (q : ℕ) → is_answered (r ∷ past) q ≡ is_answered base q
 answers-kept past base r p mine quiet free same q = grind arith

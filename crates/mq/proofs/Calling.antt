@@ -1,4 +1,4 @@
--- What a call in one stay leaves.
+-- The effect of a call in one critical section.
 use Rattle.std.proofs.Common.{◌≡◌, ℕ, Bool, true, false, List, ◌++◌, Option, None, is_some, IsSome, Result, IfErr, refl, ap, sym, subst, ◌∙◌, rules, arith}
 use Rattle.std.specs.List.{All}
 use Rattle.std.proofs.lemmas.List.{append-nil}
@@ -22,14 +22,14 @@ use Rattle.mq.proofs.Others.{wait-grown, call-grown, room-grown}
 use Rattle.mq.proofs.Growing.{grows-on, own-made, all-made}
 
 module _ {old stay : Ticket Record} {system : LockId} {books : Kept} {p : ℕ} where
-  -- who came in by a walk of its own, into this system
+  -- a process that entered its critical section by an acquisition of its own, in this system
   pub came-in : {t : Ticket Record} → Came t t.lock stay books p → t ≡ old → old.lock ≡ system → Came old system stay books p
   came-in c same lock = subst (λ (l : LockId). Came old l stay books p) lock (subst (λ (t : Ticket Record). Came t t.lock stay books p) same c)
 
   pub same-number : Came old system stay books p → stay.number ≡ p
   same-number c = c.number ∙ sym c.process
 
-  -- who came in finds the open wait that it left
+  -- a process that enters its critical section finds the open wait that it left
   pub came-wait : Came old system stay books p → open_wait books.records p ≡ open_wait old.left old.number
   came-wait c = rw (c.process) (wait-grown c.grows)
 
@@ -42,14 +42,14 @@ module _ {old stay : Ticket Record} {system : LockId} {books : Kept} {p : ℕ} w
   pub came-free : Came old system stay books p → IsFree old → open_wait books.records p ≡ None
   came-free c free = came-wait c ∙ free
 
-  -- what a stay adds is its process's own
+  -- what a critical section adds is of its process
   pub came-grows_by : {records : Past} (added : Past) → Came old system stay books p → records ≡ added ++ books.records → All (λ x. author x ≡ p) added → GrowsBy author stay.number stay.left records
   came-grows_by {records} added c is mine = grind (arith, same-number)
 
   pub came-grows : {records : Past} (call : Call) (given : List ℕ) (reply : Reply) → Came old system stay books p → records ≡ made p call given reply ++ books.records → GrowsBy author stay.number stay.left records
   came-grows {records} call given reply c is = came-grows_by (made p call given reply) c is (all-made p call given reply)
 
-  -- what a stay leaves that adds these records
+  -- the journal after a critical section that adds these records
   pub came-calls : {records : Past} (own : ℕ → Past) → Came old system stay books p → old.lock ≡ system → records ≡ own p ++ books.records → items_of author p (own p) ≡ own p → Legal records
       → Calls old (record { lock = system; number = stay.number; left = records; told = false }) (own old.number)
   came-calls {records} own c lock is mine legal = record {
@@ -74,7 +74,7 @@ module _ {old stay : Ticket Record} {system : LockId} {books : Kept} {p : ℕ} w
       → Found old (record { lock = system; number = stay.number; left = records; told = false }) call given reply
   came-found call given reply c lock is heeds = grind (arith, came-bounds)
 
-  -- where an exit stops, by the bounds of its system
+  -- how an exit stops, by the bounds of its system
   pub came-stops : (records : Past) (result : Result (Unit {0}) Fault) → Came old system stay books p → old.lock ≡ system → IfErr result (Stops books.bounds records p) → IfErr result (Stops (bounds_of old) records old.number)
   came-stops records result c lock stops = grind (arith, came-bounds)
 
@@ -82,11 +82,11 @@ module _ {old stay : Ticket Record} {system : LockId} {books : Kept} {p : ℕ} w
   pub came-in_turn : (ds : List ℕ) → Came old system stay books p → old.lock ≡ system → AreInTurn books.bounds books.records p ds → AreInTurn (bounds_of old) books.records old.number ds
   came-in_turn ds c lock in_turn = grind (arith, came-bounds)
 
-  -- a call that adds nothing of its process leaves the wait as it was
+  -- a call that adds no record of its process leaves the wait unchanged
   pub still-free : {records : Past} (call : Call) (given : List ℕ) (reply : Reply) → Came old system stay books p → IsFree old → records ≡ made p call given reply ++ books.records → is_wait reply ≡ false → open_wait records stay.number ≡ None
   still-free call given reply c free is answered = grind (arith, came-free, same-number)
 
-  -- where its reply names no wait, each answer is as it was
+  -- if its reply serves no wait, each answer is unchanged
   pub came-quiet : {records : Past} (call : Call) (given : List ℕ) (reply : Reply) → Came old system stay books p → IsFree old → records ≡ made p call given reply ++ books.records → is_some (named_wait reply) ≡ false
       → answered_bits stay.left ≡ answered_bits records
   came-quiet call given reply c free is quiet = rw (c.found, is) (sym (by (has_entry reply) refl))
@@ -95,7 +95,7 @@ module _ {old stay : Ticket Record} {system : LockId} {books : Kept} {p : ℕ} w
       by false e = rw e refl
       by true e = rw e (bits-kept _ _ (answers-kept books.records books.records (recorded p call given reply) p refl quiet (ap is_some (answered_by-none books.records p (came-free c free))) (λ q. refl)) 1 32)
 
-  -- where it waits, it waits in this call
+  -- if it waits, it waits in this call
   pub now-waits : {records : Past} (call : Call) (given : List ℕ) → Came old system stay books p → records ≡ made p call given Waits ++ books.records
       → WaitsIn (record { lock = system; number = stay.number; left = records; told = false }) call
   now-waits call given c is = grind (arith, same-number)
@@ -107,7 +107,7 @@ pub free-room : (past : Past) (p : ℕ) → open_wait past p ≡ None → waitin
 free-room past p free = ap (λ (o : Option ℕ). option_map (λ (w : ℕ). room_of (waiting_call past p)) o) free
 
 module _ {old stay : Ticket Record} {system : LockId} {books : Kept} {p : ℕ} where
-  -- where it has an open wait afterwards, it waits in this call
+  -- if it has an open wait afterwards, it waits in this call
   pub begun : {records : Past} (call : Call) (given : List ℕ) (reply : Reply) → Came old system stay books p → IsFree old → records ≡ made p call given reply ++ books.records → IsSome (waiting_room records stay.number)
       → WaitsIn (record { lock = system; number = stay.number; left = records; told = false }) call
   begun {records} call given reply c free is some = split (is_wait reply)

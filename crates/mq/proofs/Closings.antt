@@ -80,7 +80,7 @@ pub all-closes : (p : ℕ) (ds : List ℕ) → All (λ x. author x ≡ p) (close
 all-closes p [] = All-nil (λ x. author x ≡ p)
 all-closes p (d ∷ ds) = All-cons (λ x. author x ≡ p) (recorded p (MqClose d) [] Done) (closes p ds) refl (all-closes p ds)
 
--- the close of a held descriptor is refused for want of memory, or because the journal is full
+-- the close of a held descriptor fails only because memory was refused or the journal is full
 pub close-refused : (bounds : Option Bounds) (past new : Past) (p d : ℕ) (reply : Reply) (fault : Fault) → lowest_held past p ≡ Some d → reply ≡ Refused fault
     → (has_entry reply ≡ true → Appends past new p (MqClose d) [] reply) → (has_entry reply ≡ false → new ≡ past) → HeedsBounds bounds past p (MqClose d) [] reply → Stops bounds past p fault × (new ≡ past)
 close-refused bounds past new p d reply fault lowest is entry none heeds = split (has_entry reply)

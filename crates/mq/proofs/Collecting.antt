@@ -43,7 +43,7 @@ collect-adds found new p result some entry none = by (answered_by found p) refl 
         record { added = recorded p Collect [] (Collected b) ∷ []; is = appends.records; mine = All-cons (λ x. author x ≡ p) (recorded p Collect [] (Collected b)) [] refl (All-nil (λ x. author x ≡ p)) }
     by None is (Some r) there = absurd (let given : IsSome result = rw there refl in let yes = some.0 given in let bad : false ≡ true = rw is at yes in cc)
 
--- where it gives something, the wait was answered
+-- if it returns something, the wait was answered
 pub record Answered (found new : Past) (p : ℕ) : Type 0 where
   pub by : ℕ
   pub answered : answered_by found p ≡ Some by
@@ -69,7 +69,7 @@ end-adds found new p now result some entry none waits = by result refl
         let a = collect-answered found new p result value some entry there in
         record { added = recorded p Collect [] (Collected a.by) ∷ []; is = a.added; mine = All-cons (λ x. author x ≡ p) (recorded p Collect [] (Collected a.by)) [] refl (All-nil (λ x. author x ≡ p)) }
 
--- where it gives nothing, the wait was not
+-- if it returns nothing, the wait was not answered
 pub collect-unanswered : (found : Past) (p : ℕ) (result : Option Outcome) → (IsSome result ↔ IsSome (answered_by found p)) → result ≡ None → is_answered found p ≡ false
 collect-unanswered found p result some none = search rules
 
@@ -111,7 +111,7 @@ if-some P o f = search rules
 pub if-none : {X : Type 0} (P : Type 0) (o : Option X) → (o ≡ None → P) → IfNone o P
 if-none P o f = search rules
 
--- a collect after stays that added nothing
+-- a collect after critical sections that added nothing
 pub collects-later : {old mid new : Ticket Record} {result : Outcome} {before after : List ℕ} → Calls old mid [] → waiting_call mid.left mid.number ≡ waiting_call old.left old.number → Collects mid new result before after → Collects old new result before after
 collects-later {old} {mid} {new} {result} {before} {after} first same c = record {
   found = c.found;
@@ -128,7 +128,7 @@ collects-later {old} {mid} {new} {result} {before} {after} first same c = record
 pub waited : {old mid new : Ticket Record} {result : Outcome} {before after : List ℕ} (call : Call) (given : List ℕ) → Begins old mid call given → (c : Collects mid new result before after) → Waited old new call given c.by
 waited {old} {mid} {new} call given first c = record { begun = mid; begins = first; ends = subst (λ (n : ℕ). Calls mid new (recorded n Collect [] (Collected c.by) ∷ [])) first.calls.number c.calls; calls = calls-on (λ n. recorded n Collect [] (Collected c.by) ∷ []) first.calls c.calls }
 
--- a send waits where its start says so
+-- a send waits if its start says so
 pub send-waited : {old mid new : Ticket Record} {outcome : Outcome} {before after : List ℕ} {call : Call} {bytes : List ℕ} → OneCall start_send_says old mid call bytes (Ok false) → Collects mid new outcome before after → WaitedSend old new call bytes (Ok tt)
 send-waited {old} {mid} {new} {outcome} {before} {after} {call} {bytes} start c =
     let waits : start.reply ≡ Waits = send-waits start.reply (Ok false) start.says_so refl in

@@ -23,7 +23,7 @@ StartFits room result = IfOk result (λ got. IfSome got (λ received. received.l
 start-fits : (past : Past) (reply : Reply) (result : Result (Option Received) Fault) (before after : List ℕ) → start_receive_says past reply ≡ Some result → after ≡ filled past reply before → length after ≡ length before → IfOk result (λ got. IfSome got (λ received. received.len ≤ length before))
 start-fits past reply result before after says fill same = grind (arith, front-fits)
 
--- of a receive in one stay
+-- for a receive in one critical section
 pub receive-fits : {old new : Ticket Record} {call : Call} {before after : List ℕ} {result : Result (Option Received) Fault} → ReceiveCall start_receive_says old new call before after result → length after ≡ length before → IfOk result (λ got. IfSome got (λ received. received.len ≤ length before))
 receive-fits {new = new} {before = before} {after = after} {result = result} call same = start-fits new.left call.reply result before after call.says_so call.buffer same
 

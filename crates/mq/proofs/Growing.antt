@@ -8,7 +8,7 @@ use Rattle.mq_model.specs.declared.entries.Reply.{Reply}
 use Rattle.fast_mutex.specs.Items.{Ticket, Grows, items_of}
 use Rattle.mq.specs.Calls.{author, recorded, made, Calls}
 
--- one stay after another
+-- one critical section after another
 pub grows-on : {A : Type 0} {own : A → ℕ} {p : ℕ} {xs ys zs first second : List A} → Grows own p xs ys first → Grows own p ys zs second → Grows own p xs zs (second ++ first)
 grows-on {A} {own} {p} {xs} {ys} {zs} {first} {second} g h = record {
   behind = h.behind ++ g.behind;

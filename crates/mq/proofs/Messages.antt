@@ -24,7 +24,7 @@ received-kept past r m empty low = grind (arith, none-here)
 pub filled-kept : (past : Past) (p : ℕ) (call : Call) (given : List ℕ) (reply : Reply) (buffer : List ℕ) → is_receive call ≡ true → filled (made p call given reply ++ past) reply buffer ≡ filled past reply buffer
 filled-kept past p call given reply buffer receives = grind (arith, message-kept)
 
--- what a reply gives, by the journal that its call leaves
+-- the message of a reply, in the journal that its call leaves
 pub received_by-kept : (past : Past) (p : ℕ) (call : Call) (given : List ℕ) (reply : Reply) → may_reply call reply ≡ true → received_by (made p call given reply ++ past) reply ≡ received_by past reply
 received_by-kept past p (MqReceive d room) given reply may = grind (arith, received-kept)
 received_by-kept past p (MqTimedReceive d room until now) given reply may = grind (arith, received-kept)

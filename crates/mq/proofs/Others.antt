@@ -9,7 +9,7 @@ use Rattle.mq_state.specs.Buffers.{waiting_call, waiting_room}
 use Rattle.fast_mutex.specs.Items.{Grows, items_of}
 use Rattle.mq.specs.Calls.{author}
 
--- where p has no record of its own, all are of others
+-- if p has no record of its own, all are of others
 none-own : (p : ℕ) (more : List Record) → items_of author p more ≡ [] → are_of_others p more ≡ true
 none-own p [] e = refl
 none-own p (r ∷ more) e = grind (arith, none-own p more)

@@ -43,11 +43,12 @@ may-be-reply past p (MqSetattr d nonblock) given = attributes _ (reply_says past
 may-be-reply past p (MqNotify d value) given = done _ (reply_says past p (MqNotify d value) given)
 may-be-reply past p call given = refl
 
--- a reply without an entry is a refusal
+-- a reply without an entry is an error
 pub unentered : (reply : Reply) → has_entry reply ≡ false → (f : Fault) × (reply ≡ Refused f)
 unentered reply e = search rules
 
--- what a call on the books leaves: its record, or nothing for want of memory or because the journal is full
+-- what a call of the books adds: its record, or nothing if memory was refused or the journal is
+-- full
 pub asked : {old new : Past} {p : ℕ} {call : Call} {given : List ℕ} {reply : Reply}
     → (has_entry reply ≡ true → Appends old new p call given reply) → (has_entry reply ≡ false → new ≡ old) → new ≡ made p call given reply ++ old
 asked {old} {new} {p} {call} {given} {reply} entry none = grind arith
@@ -57,6 +58,6 @@ pub replied : {old new : Past} {p : ℕ} {call : Call} {given : List ℕ} {reply
     → (has_entry reply ≡ true → Appends old new p call given reply) → ((f : Fault) → may_reply call (Refused f) ≡ true) → may_reply call reply ≡ true
 replied {old} {new} {p} {call} {given} {reply} entry refused = grind (arith, may-be-reply, unentered)
 
--- a call that is made on request may be refused
+-- a call that is made on request may fail
 pub may-be-refused : (call : Call) (given : List ℕ) (room : ℕ) → Brings call given room → (f : Fault) → may_reply call (Refused f) ≡ true
 may-be-refused call given room brings f = search rules

@@ -18,7 +18,7 @@ tickets-count ticket lock left k zero [] e = refl
 tickets-count ticket lock left k (suc n) (s ∷ seats) e = ap suc (tickets-count ticket lock left (suc k) n seats (cc))
 tickets-count ticket lock left k n seats e = absurd (cc)
 
--- those that stand for the processes of one journal have their rooms
+-- the tickets of the processes of one journal have their buffer lengths
 pub rooms-fit : (rooms : List (Option ℕ)) (lock : LockId) (left : Past) → ((p : ℕ) → p < 33 → slice_get rooms p ≡ Some (waiting_room left p)) → (k n : ℕ) → k + n ≤ 33 → All (IsRoomOf rooms) (tickets_with lock left k n)
 rooms-fit rooms lock left at k zero few = All-nil (IsRoomOf rooms)
 rooms-fit rooms lock left at k (suc n) few = All-cons (IsRoomOf rooms) _ _ (record { number = omega arith; room = at k (omega arith) }) (rooms-fit rooms lock left at (suc k) n (omega arith))

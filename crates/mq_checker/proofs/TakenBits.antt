@@ -1,4 +1,4 @@
--- The table of messages that were taken stays that of the journal.
+-- The table of messages that were taken remains that of the journal.
 use Rattle.std.proofs.Common.{◌≡◌, ℕ, zero, suc, ◌<◌, ◌≤◌, ◌==◌, Bool, true, false, not, List, [], ◌∷◌, length, Option, Some, None, if◌then◌else◌, refl, sym, ◌∙◌, ap, arith, ne_eqb, get_or, ◌⊎◌, inl, inr}
 use Rattle.std.specs.Prelude.{slice_get, set, replicate}
 use Rattle.std.specs.List.{filter}
@@ -128,7 +128,7 @@ not-better goes_first past e q m n xs s f = split (is_in xs m)
     by (inl none) = rw none refl
     by (inr some) = rw (some, f) refl
 
--- what stands at a place below the first k records
+-- the record at a place below the first k records
 pub entry-before : (past : Past) (k m : ℕ) → m < k → k ≤ length past → option_map (λ (r : Record). r.entry) (record_at past m) ≡ option_map (λ (r : Record). r.entry) (record_at (first k past) m)
 entry-before past k m lt le = ap (option_map (λ (r : Record). r.entry)) (sym (record_at-first past k m lt le))
 

@@ -67,7 +67,7 @@ nothing-beyond past place le = by (record_at past place) refl
     by None e = refl
     by (Some r) e = let lt = record_at-below past place r e in absurd (omega arith)
 
--- what is to be said of the record at a place, where there is one and where there is none
+-- a fact about the record at a place, if there is one and if there is none
 pub at-beyond : {X : Type 0} (f : Record → X) (past : Past) (place : ℕ) → length past ≤ place → at f past place ≡ None
 at-beyond f past place le = ap (λ (o : Option Record). option_map f o) (nothing-beyond past place le)
 

@@ -88,7 +88,7 @@ never-collected past p call given other =
     not-collected (reply_to past p call given)
     (λ b e. let P : Reply → Type 0 = λ r. Says past p call r in says-collected past p call b other (subst P e (reply_says past p call given)))
 
--- the message that a reply gives was there before it
+-- the message that a reply hands out was there before it
 pub message-older : (past : Past) (p : Process) (call : Call) (given : List ℕ) (r : Record) → message_given (r ∷ past) (reply_to past p call given) ≡ message_given past (reply_to past p call given)
 message-older past p call given r =
     let goes : (reply : Reply) → Says past p call reply → message_given (r ∷ past) reply ≡ message_given past reply =
@@ -191,7 +191,7 @@ answered-some past p m = by (answered_by past p)
     by None e = absurd (cc)
     by (Some k) e = refl
 
--- a collect gives the same message if the waits were answered with the same
+-- a collect returns the same message if the waits were answered with the same
 pub collected-alike : (x y : Past) (p : ℕ) (call : Call) (a b : Reply) (px py : List ℕ) → shape b ≡ shape a → (is_some (answered_by x p) ≡ true → answer y p ≡ answer x p) → may_call y p call ≡ may_call x p call → Says x p call a → Says y p call b → may_call x p call ≡ true →
     message_collected (rec p call b py ∷ y) b ≡ message_collected (rec p call a px ∷ x) a
 collected-alike x y p call a b px py e same turns says_x says_y turn =

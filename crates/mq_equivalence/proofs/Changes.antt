@@ -27,7 +27,7 @@ use Rattle.mq_equivalence.proofs.Falling.{Falls, falls-filter}
 abbrev pub rec : ℕ → Call → Reply → List ℕ → Record
 rec p call reply payload = record { entry = record { process = p; call = call; reply = reply }; payload = payload }
 
--- what stands at a place stays
+-- the record at a place does not change
 pub at-older : {X : Type 0} (f : Record → X) (past : Past) (r : Record) (k : ℕ) → k < length past → at f (r ∷ past) k ≡ at f past k
 at-older f past r k lt = ap (λ (o : Option Record). option_map f o) (record_at-older past r k lt)
 

@@ -1,4 +1,4 @@
--- Values told from the numbers that stand for them.
+-- Decoding values from their numbers.
 use Rattle.std.proofs.Common.{◌≡◌, ◌≢◌, ℕ, ℤ, pos, negsuc, zero, suc, ◌+◌, ◌<◌, ◌≤◌, ◌==◌, Bool, true, false, List, [], ◌∷◌, ◌++◌, length, map, Option, Some, None, refl, sym, ◌∙◌, ap, subst, arith, append_assoc}
 use Rattle.std.proofs.lemmas.Bool.{eqb-false, eqb-true}
 use Rattle.std.proofs.lemmas.List.{length-map}
@@ -13,7 +13,7 @@ use Rattle.mq_model.proofs.Places.{split}
 use Rattle.mq_equivalence.specs.Views.{Message, Registered, Sender}
 use Rattle.mq_equivalence.specs.Key.{access_number, bytes_code, codes, deadline_code, description_code, index_of, limits_code, listed, message_code, number, optional, registered_code, sender_code, signed, test}
 
--- from the numbers of a value with whatever follows them, both can be told
+-- a value and the numbers after it can both be decoded
 abbrev pub IsTold : {X : Type 0} → (X → List ℕ) → Type 0
 IsTold {X} code = (x y : X) (u v : List ℕ) → code x ++ u ≡ code y ++ v → (x ≡ y) × (u ≡ v)
 
@@ -179,7 +179,8 @@ pub told-pairs : (f g : ℕ → List ℕ) (P : ℕ → ℕ → Type 0) → ((a b
     (xs ys : List ℕ) (u v : List ℕ) → listed f xs ++ u ≡ listed g ys ++ v → Pairs P xs ys × (u ≡ v)
 told-pairs f g P told xs ys u v e = told-codes_pairs f g P told xs ys u v (cc) (cc)
 
--- lists of what stands at each number --------------------------------------------------------------------------------------
+-- lists with an item for each number
+-- ---------------------------------------------------------------
 
 pub length-numbers : (low n : ℕ) → length (numbers_from low n) ≡ n
 length-numbers low zero = refl
@@ -207,7 +208,7 @@ codes-numbered f g P told low (suc n) u v e =
       rest = more.rest;
     }
 
--- what is told of two lists that are numbered from 0
+-- two lists that are numbered from 0
 pub record AllTold (P : ℕ → Type 0) (n m : ℕ) (u v : List ℕ) : Type 0 where
   pub count : n ≡ m
   pub each : (p : ℕ) → p < n → P p

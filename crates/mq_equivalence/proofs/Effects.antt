@@ -1,4 +1,4 @@
--- What the contents of a queue, and those who wait on it, become after a record.
+-- The contents of a queue, and the waits on it, after a record.
 use Rattle.std.proofs.Common.{◌≡◌, ℕ, ◌<◌, ◌≤◌, ◌==◌, Bool, true, false, ◌&&◌, ◌||◌, not, List, [], ◌∷◌, length, map, Option, Some, None, if◌then◌else◌, refl, sym, ◌∙◌, ap, subst, arith, eq-eqb, ne_eqb, ◌⊎◌, inl, inr, nat_lt, nat_le}
 use Rattle.std.specs.List.{list_all}
 use Rattle.std.specs.Option.{option_map, unwrap_or}
@@ -150,7 +150,8 @@ contents-step past legal p call (Notice v) payload q says = contents-same past (
 contents-step past legal p call Done payload q says = contents-same past (rec p call Done payload) q refl
 contents-step past legal p call (Refused f) payload q says = contents-same past (rec p call (Refused f) payload) q refl
 
--- those who wait ---------------------------------------------------------------------------------------------------------
+-- waits
+-- ----------------------------------------------------------------------------------------------
 
 -- a wait was withdrawn
 abbrev pub is_withdrawn : Reply → Bool
@@ -339,7 +340,7 @@ answer-older past r k =
     in
     goes (answered_by past k) refl
 
--- a wait is named where its process is
+-- a wait is served if its process is
 named-by : (past : Past) (reply : Reply) (w p k : ℕ) → named_wait reply ≡ Some w → open_wait past p ≡ Some w → names_wait reply (open_wait past k) ≡ (p == k)
 named-by past reply w p k named opens =
     split (p == k)

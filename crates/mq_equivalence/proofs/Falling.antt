@@ -1,4 +1,4 @@
--- Lists of places, the latest first, and what stands at these places.
+-- Lists of places, the latest first, and the records at these places.
 use Rattle.std.proofs.Common.{◌≡◌, ℕ, ◌<◌, ◌≤◌, ◌==◌, Bool, true, false, List, [], ◌∷◌, map, Option, Some, None, is_some, if◌then◌else◌, refl, sym, ◌∙◌, ap, arith, eqb-true, eq-eqb, ne_eqb, ◌⊎◌, inl, inr, min, max}
 use Rattle.std.specs.List.{filter, list_any}
 use Rattle.std.specs.Option.{option_map, unwrap_or}
@@ -149,7 +149,7 @@ best-rest f k ks b best other = record {
   first = λ j h. best.first j (in-cons k ks j h);
 }
 
--- behind the best message none has its priority
+-- after the best message none has its priority
 alone : (f : ℕ → Option Message) (k : ℕ) (ks : List ℕ) (b : ℕ) → Falls (k ∷ ks) → IsBest f (k ∷ ks) b → (k == b) ≡ true → has (prio_of (f b)) (map f ks) ≡ false
 alone f k ks b falls best is =
     has-none f ks (prio_of (f b)) (λ j h.

@@ -82,7 +82,7 @@ comes Messages past e q m is = comes-message past e q m is
 comes Senders past e q m is = let c = if-here (blocks_send e.call e.reply) (is_on past e q) (length past) m is in record { may = c.0; within = c.1 }
 comes Receivers past e q m is = let c = if-here (blocks_receive e.call e.reply) (is_on past e q) (length past) m is in record { may = c.0; within = c.1 }
 
--- what comes and stays
+-- what is added and kept
 both-none : (b : Bool) → (let none : Option ℕ = None in none ≡ (if b then none else none))
 both-none true = refl
 both-none false = refl

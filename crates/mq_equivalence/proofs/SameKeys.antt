@@ -27,7 +27,8 @@ use Rattle.mq_equivalence.specs.Structure.{renumbered}
 use Rattle.mq_equivalence.proofs.Relation.{numbered}
 use Rattle.mq_equivalence.proofs.Structure.{falls-alive, map-same, named-by, needed-in}
 
--- the queue of y that stands where queue q of x stands --------------------------------------------
+-- the queue of y at the index of queue q of x
+-- ------------------------------------------------------
 
 lookup : List ℕ → List ℕ → ℕ → ℕ
 lookup [] ys q = q

@@ -1,4 +1,5 @@
--- Names, descriptors and the queues that exist stay the same up to their numbers, under each call whose replies differ in places alone.
+-- Names, descriptors and the queues that exist remain the same up to their numbers, under each call
+-- whose replies differ only in sequence numbers.
 use Rattle.std.proofs.Common.{◌≡◌, ℕ, suc, ◌<◌, ◌==◌, Bool, true, false, ◌&&◌, ◌||◌, not, List, [], ◌∷◌, length, map, Option, Some, None, is_some, if◌then◌else◌, refl, sym, ◌∙◌, ap, subst, arith, eqb-true, eq-eqb, ne_eqb}
 use Rattle.std.specs.List.{filter}
 use Rattle.std.specs.Str.{bytes_eq}

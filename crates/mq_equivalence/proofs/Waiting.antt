@@ -1,4 +1,5 @@
--- The processes that wait, what their waits are answered with, and the message that a call gives: equivalent journals stay so.
+-- The processes that wait, the answers to their waits, and the message that a call returns:
+-- equivalent journals remain equivalent.
 use Rattle.std.proofs.Common.{◌≡◌, ℕ, ◌==◌, Bool, true, false, List, [], ◌∷◌, length, Option, Some, None, is_none, if◌then◌else◌, refl, sym, ◌∙◌, ap, subst}
 use Rattle.std.specs.Option.{option_and_then, option_map, unwrap_or}
 use Rattle.mq_model.specs.Record.{Past}
@@ -43,7 +44,7 @@ idle-answer past p call (Notice v) payload ss rs k before says none = refl
 idle-answer past p call Done payload ss rs k before says none = refl
 idle-answer past p call (Refused f) payload ss rs k before says none = refl
 
--- a reply that gives a message
+-- a reply that hands out a message
 abbrev pub is_got : Reply → Bool
 is_got (Got m a n) = true
 is_got _ = false
@@ -133,7 +134,7 @@ free-of past p MqUnlink reply kept says turn not = is-free (open_wait past p) tu
 free-of past p (MqNotify d value) reply kept says turn not = is-free (open_wait past p) turn
 free-of past p NextNotice reply kept says turn not = is-free (open_wait past p) turn
 
--- those who wait and the answers, after a withdrawal
+-- the waits and the answers, after a withdrawal
 senders-of : (past : Past) → Legal past → (p : ℕ) (call : Call) (reply : Reply) (payload : List ℕ) → is_withdrawn reply ≡ true → Says past p call reply → may_call past p call ≡ true → (q : ℕ) → senders (rec p call reply payload ∷ past) q ≡ senders_but p (senders past q)
 senders-of past legal p call reply payload is says turn q =
     let w = the-wait reply is in
@@ -253,7 +254,8 @@ module _ (to : ℕ → ℕ) (x y : Past) (equivalent : EquivalentUnder to x y) (
     answered = answers-go;
   }
 
--- the message that a call gives ----------------------------------------------------------------------------------------------
+-- the message that a call returns
+-- ------------------------------------------------------------------
 
 pub record IsGot (r : Reply) : Type 0 where
   pub place : ℕ

@@ -111,7 +111,7 @@ count-less slots key x there =
 abbrev alone : ℕ → Option Kept
 alone i = slice_index_or (None ∷ []) i None
 
--- what slots keep stays where one is added that is vacant
+-- the slots keep what they kept when a vacant one is added
 pub more-vacant : (slots : List (Option Kept)) (vacant : ℕ) → vacant ≡ vacant_in slots → HasMoreVacant slots (slots ++ None ∷ []) vacant (vacant + 1)
 more-vacant slots vacant count = record {
   count = let more : vacant_in (slots ++ None ∷ []) ≡ vacant_in slots + 1 = sum_by-append (λ (o : Option Kept). cond (is_none o) 1 0) slots (None ∷ []) in omega (arith, count, more);

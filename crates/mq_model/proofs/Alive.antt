@@ -237,7 +237,7 @@ alive-one past r x c was same = split (is_needed (r ∷ past) x)
 abbrev queue_at : Past → ℕ → ℕ → Option ℕ
 queue_at past p d = option_map (λ h. h.queue) (held past p d)
 
--- what stands under a descriptor, by its queue
+-- what a descriptor stands for, by its queue
 from-queue : (past : Past) (p d q : ℕ) → queue_at past p d ≡ Some q → is_held past q ≡ true
 from-queue past p d q e = by (held past p d) refl e
   where
@@ -248,7 +248,7 @@ from-queue past p d q e = by (held past p d) refl e
 to-queue : (past : Past) (q : ℕ) → is_held past q ≡ true → (p : ℕ) × (d : ℕ) × (queue_at past p d ≡ Some q)
 to-queue past q e = let x = is_held-holder past q e in (x.process, x.d, rw x.held (ap Some x.on))
 
--- descriptors that stand for the same queues before and after, where they are of queue q
+-- descriptors that stand for the same queues before and after, if they are of queue q
 pub is_held-same : (past now : Past) (q : ℕ) → ((p d : ℕ) → queue_at past p d ≡ Some q → queue_at now p d ≡ Some q) → ((p d : ℕ) → queue_at now p d ≡ Some q → queue_at past p d ≡ Some q) → is_held now q ≡ is_held past q
 is_held-same past now q to from = same-tests _ _
     (λ t. let x = to-queue now q t in from-queue past x.0 x.1 q (from x.0 x.1 x.2))

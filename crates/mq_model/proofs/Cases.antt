@@ -56,7 +56,7 @@ OpenReply (Opened d created) = Unit {0}
 OpenReply (Refused fault) = Unit {0}
 OpenReply reply = ⊥
 
--- a reply is a refusal, or there is a description of which all this holds
+-- a reply is an error, or there is a description for which all this holds
 abbrev pub Unless : Reply → Type 0 → Type 0
 Unless (Refused fault) P = Unit {0}
 Unless reply P = P
@@ -125,7 +125,7 @@ receive_says past (Some h) room =
     either P (int_lt (pos room) (attributes past h.queue).msgsize) _ _ (λ _. tt) (λ fits.
     best_says past h room (best past h.queue) (record { access = access; fits = fits }) refl))
 
--- what is so of each refusal and of a reply is so of that reply with a deadline
+-- what holds of each error and of a reply holds of that reply with a deadline
 timed_says : (P : Reply → Type 0) (until now : Deadline) (reply : Reply) → ((f : Fault) → P (Refused f)) → P reply → P (timed_reply until now reply)
 timed_says P until now Waits refused says =
     either P (not (is_moment until)) (Refused Invalid) (if has_passed until now then Refused TimedOut else Waits) (λ _. refused Invalid)

@@ -1,4 +1,4 @@
--- What one more record leaves as it was.
+-- What one more record leaves unchanged.
 use Rattle.std.proofs.Common.{◌≡◌, ℕ, ◌<◌, ◌==◌, Bool, true, false, ◌&&◌, ◌||◌, List, [], ◌∷◌, length, Option, Some, None, if◌then◌else◌, refl, sym, ◌∙◌, ap, arith, eqb-true, eq-eqb, ne_eqb}
 use Rattle.std.specs.List.{filter, list_any}
 use Rattle.std.specs.Option.{option_map, unwrap_or}
@@ -92,14 +92,14 @@ answered_by-step past r none k = split (r.entry.process == k)
     (λ t. let same : r.entry.process ≡ k = eqb-true _ _ t in let free : open_wait past k ≡ None = rw same at none in rw (t, free) (sym (answered_by-none past k free)))
     (λ e. rw e refl)
 
--- a call that blocked stays in the list of its queue
+-- a call that waits remains in the list of its queue
 pub blocked-older : (past : Past) (r : Record) (kind : WaitKind) (q w : ℕ) → is_in (blocked past kind q) w ≡ true → is_in (blocked (r ∷ past) kind q) w ≡ true
 blocked-older past r Send q w h = split (blocks_send r.entry.call r.entry.reply && is_on past r.entry q)
     (λ t. rw t (split (length past == w) (λ e. rw e refl) (λ n. rw (n, h) refl))) (λ f. rw f h)
 blocked-older past r Receive q w h = split (blocks_receive r.entry.call r.entry.reply && is_on past r.entry q)
     (λ t. rw t (split (length past == w) (λ e. rw e refl) (λ n. rw (n, h) refl))) (λ f. rw f h)
 
--- a refusal changes no name and no descriptor
+-- an error changes no name and no descriptor
 pub keeps-refused : (past : Past) (call : Call) (f : Fault) (payload : List ℕ) → KeepsNames past call (Refused f) payload
 keeps-refused past (MqOpen flags attr) f payload = record { creates = refl; unlinks = refl; opens = refl; descriptors = λ d b. refl }
 keeps-refused past (MqClose d) f payload = record { creates = refl; unlinks = refl; opens = refl; descriptors = λ d b. refl }

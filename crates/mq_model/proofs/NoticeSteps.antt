@@ -67,7 +67,7 @@ unless-some : (ended : Registration → Bool) (o : Option Registration) (n : Reg
 unless-some ended None n e = absurd (cc)
 unless-some ended (Some m) n e = split (ended m) (λ t. let bad : None ≡ Some n = rw t at e in absurd (cc)) (λ f. rw f at e)
 
--- a registration that stands was made by its record
+-- a registration was made by its record
 pub registered-made : (past : Past) (q : ℕ) (n : Registration) → registered past q ≡ Some n → IsMadeBy past n
 registered-made [] q n e = absurd (cc)
 registered-made (r ∷ past) q n e = by (only_if (is_on past r.entry q) (registration_of (length past) r.entry.process r.entry.call r.entry.reply)) refl e (λ old. registered-made past q n old)
@@ -142,7 +142,7 @@ given-few (r ∷ past) legal p =
     given Done is says t longer before = absurd (let bad : false ≡ true = rw is at t in cc)
     given (Refused f) is says t longer before = absurd (let bad : false ≡ true = rw is at t in cc)
 
--- a record that notifies nobody and gives no notice
+-- a record that notifies no process and takes no notice
 pub notices-same : (past : Past) (r : Record) (p : ℕ) → notified r.entry.reply ≡ None → gives_notice r.entry.reply ≡ false → notices (r ∷ past) p ≡ notices past p
 notices-same past r p none quiet = rw (none, quiet) (ap (drop (notices_given past p)) (append-nil (values_notified past p)))
 
@@ -167,7 +167,7 @@ drop-one k [] = drop-nothing (k + 1) ∙ sym (ap (drop 1) (drop-nothing k))
 drop-one zero (x ∷ xs) = refl
 drop-one (suc k) (x ∷ xs) = let e : suc k + 1 ≡ suc (k + 1) = omega arith in rw e (drop-one k xs)
 
--- a record that gives a notice
+-- a record that takes a notice
 pub notices-given : (past : Past) (q : ℕ) (call : Call) (v : ℕ) (payload : List ℕ) (p : ℕ) → notices (record { entry = record { process = q; call = call; reply = Notice (Some v) }; payload = payload } ∷ past) p ≡ (if q == p then drop 1 (notices past p) else notices past p)
 notices-given past q call v payload p = split (q == p)
     (λ t. rw t (ap (drop (notices_given past p + 1)) (append-nil (values_notified past p)) ∙ drop-one (notices_given past p) (values_notified past p)))

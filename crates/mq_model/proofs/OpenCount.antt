@@ -29,7 +29,8 @@ no-record (r ∷ past) k all =
     let other = All-head (λ (r : Record). (r.entry.process == k) ≡ false) r past all in
     rw other (no-record past k (All-tail (λ (r : Record). (r.entry.process == k) ≡ false) r past all))
 
--- where f says of each place whether its line waits, the lines that wait are as many as the places of which it is true
+-- if f says of each index whether the process there waits, as many wait as there are indices for
+-- which f is true
 count-lines : (f : ℕ → Bool) (owners : List Owner) (k : ℕ) → ((i : ℕ) → is_some (wait_in owners i) ≡ f (k + i)) → waits_count owners ≡ count_by f (numbers_from k (length owners))
 unfolding waits_count wait_in
 count-lines f [] k same = refl
@@ -69,7 +70,7 @@ from-one (r ∷ past) legal = All-cons (λ (r : Record). 1 ≤ r.entry.process) 
     least : (p : ℕ) → IsTrue (nat_le 1 p && nat_le p 32) → 1 ≤ p
     least p is = grind (arith, nat_tests, (and_parts (nat_le 1 p) (nat_le p 32) is).0)
 
--- the table of the first n processes, where no other has a record, counts the open waits
+-- the table of the first n processes counts the open waits, if no other process has a record
 pub open_waits-counted : (past : Past) (owners : List Owner) (n : ℕ) → Legal past → OwnersMirror past owners → length owners ≡ n + 1 → n ≤ 32 → All (λ (r : Record). r.entry.process ≤ n) past → waits_count owners ≡ open_waits past
 unfolding open_waits
 open_waits-counted past owners n legal mirror count few all =

@@ -14,8 +14,8 @@ use Rattle.mq_model.specs.declared.entries.OpenFlags.{OpenFlags}
 use Rattle.mq_model.specs.declared.entries.Reply.{Reply}
 use Rattle.mq_model.specs.declared.entries.Reply.TheVariants.{Opened}
 
--- a successful open: the number is the lowest free one, the queue was created where the name was not bound, and then there
--- was room for one more
+-- a successful open: the number is the lowest free one; the queue was created if the name was not
+-- bound, and then there was room for one more
 pub record OpenedFacts (past : Past) (p : ℕ) (name : List ℕ) (d : ℕ) (created : Bool) : Type 0 where
   pub free : lowest_free past p ≡ Some d
   pub new : not (is_some (bound_queue past name)) ≡ created

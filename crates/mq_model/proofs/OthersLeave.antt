@@ -7,7 +7,7 @@ use Rattle.mq_model.specs.Record.{Record, Past}
 use Rattle.mq_model.specs.Waits.{is_wait, open_wait, is_answered, names_wait, are_of_others, OthersLeave}
 use Rattle.mq_model.proofs.Places.{split}
 
--- an open wait stands below the journal's length
+-- the place of an open wait is below the journal's length
 pub open_wait-below : (past : Past) (p w : ℕ) → open_wait past p ≡ Some w → w < length past
 open_wait-below [] p w e = absurd (cc)
 open_wait-below (r ∷ past) p w e = split (r.entry.process == p)

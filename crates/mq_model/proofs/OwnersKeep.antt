@@ -1,4 +1,4 @@
--- The table of processes stays that of the journal, where it notes each entry.
+-- The table of processes remains that of the journal when it is updated for each entry.
 use Rattle.std.proofs.Common.{◌≡◌, ℕ, suc, ◌+◌, ◌<◌, ◌≤◌, ◌==◌, Bool, true, false, List, [], ◌∷◌, length, Option, Some, None, is_some, is_none, if◌then◌else◌, refl, sym, ◌∙◌, ap, subst, arith, eqb-true, eq-eqb, ne_eqb, ◌⊎◌, inl, inr, zero, get_or}
 use Rattle.std.specs.Prelude.{slice_get}
 use Rattle.std.specs.Option.{option_map, option_and_then}
@@ -364,7 +364,7 @@ keep-by past owners m legal p call (Notice v) payload q says is free lt at = kee
 keep-by past owners m legal p call Done payload q says is free lt at = keep-done past owners m p call payload is (free refl) lt
 keep-by past owners m legal p call (Refused f) payload q says is free lt at = keep-quiet past owners m p call (Refused f) payload (quiet past p call (Refused f) payload (free refl) refl refl (λ d. refl))
 
--- the table stays that of the journal where it notes an entry that may stand after it
+-- the table remains that of the journal when it is updated for an entry that may follow
 pub noted-keeps : (past : Past) (owners : List Owner) → OwnersMirror past owners → Legal past → (r : Record) (q : ℕ) → IsLegalNext past r → r.entry.process < length owners → EntryQueue past r.entry.process r.entry.call r.payload r.entry.reply q →
     OwnersMirror (r ∷ past) (noted owners (length past) r.entry.process r.entry.call r.entry.reply q)
 noted-keeps past owners m legal r q next lt at =

@@ -1,4 +1,4 @@
--- The process table where no process has anything.
+-- The table of processes without descriptors and waits.
 use Rattle.std.proofs.Common.{◌≡◌, ℕ, zero, suc, [], length, replicate, Option, Some, None, refl, sym, ◌∙◌, ap}
 use Rattle.std.specs.Prelude.{slice_get}
 use Rattle.std.specs.Option.{option_map, option_and_then, unwrap_or}
@@ -34,7 +34,7 @@ slots-free zero p o e = absurd (cc)
 slots-free (suc m) zero o e = let same : free_owner ≡ o = cc in ap (λ (x : Owner). length x.descriptors) (sym same)
 slots-free (suc m) (suc p) o e = slots-free m p o e
 
--- where no process has anything, the process table is that of the empty journal
+-- the table of processes without descriptors and waits is that of the empty journal
 pub owners-start : (m : ℕ) → OwnersMirror [] (replicate m free_owner)
 owners-start m = record {
   slots = λ p o e. slots-free m p o e;

@@ -51,7 +51,7 @@ blocks-reply call (Notice v) e = absurd (cc)
 blocks-reply call Done e = absurd (cc)
 blocks-reply call (Refused f) e = absurd (cc)
 
--- a blocked send stands on its queue, with the reply Waits
+-- a blocked send is on its queue, and has the reply Waits
 pub record IsBlockedOn (past : Past) (q w : ℕ) : Type 0 where
   pub to : sent_to past w ≡ Some q
   pub reply : reply_at past w ≡ Some Waits
@@ -258,7 +258,7 @@ pub present-handed : (past : Past) (p : ℕ) (call : Call) (w : ℕ) (payload : 
 present-handed past p call w payload q =
     filter-same _ _ (admitted past q) (λ k inside. let lt = admitted-below past q k inside in rw (ne_eqb (length past) k (λ same. omega (arith, lt))) refl)
 
--- a priority stays
+-- a priority does not change
 pub priority-older : (past : Past) (r : Record) (m : ℕ) → m < length past → priority (r ∷ past) m ≡ priority past m
 priority-older past r m lt = ap (λ o. unwrap_or (option_map (λ (x : Record). priority_given x.entry.call) o) 0) (record_at-older past r m lt)
 

@@ -164,7 +164,7 @@ le-less : (a : ℤ) (m n : ℕ) → m ≤ n → int_le (pos n) a ≡ true → in
 le-less (pos k) m n le h = grind (arith, nat_tests)
 le-less (negsuc k) m n le h = absurd (let bad : false ≡ true = h in cc)
 
--- what is below a number may grow by one, where that is not negative
+-- what is below a number may grow by one, if that is not negative
 le-more : (a : ℤ) (n : ℕ) → int_le a (pos n) ≡ false → int_le (pos (suc n)) a ≡ true
 le-more (pos k) n h = grind (arith, nat_tests)
 le-more (negsuc k) n h = absurd (let bad : true ≡ false = h in cc)
@@ -172,7 +172,7 @@ le-more (negsuc k) n h = absurd (let bad : true ≡ false = h in cc)
 abbrev Few : Past → ℕ → Type 0
 Few past q = int_le (pos (length (present past q))) (attributes past q).maxmsg ≡ true
 
--- the records where the messages of a queue do not grow
+-- the records after which the messages of a queue have not grown
 not-more : (past : Past) (r : Record) (q : ℕ) → q < length past → length (present (r ∷ past) q) ≤ length (present past q) → Few past q → Few (r ∷ past) q
 not-more past r q lt le before = rw (attributes-older past r q lt) (le-less (attributes past q).maxmsg (length (present (r ∷ past) q)) (length (present past q)) le before)
 

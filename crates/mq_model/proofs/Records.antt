@@ -45,7 +45,7 @@ slice_range-append bytes more start end p q = grind (arith, common_steps)
 slice_range-end : (bytes more : List ℕ) → slice_range (bytes ++ more) (length bytes) (length bytes + length more) ≡ more
 slice_range-end bytes more = grind (arith, common_steps)
 
--- calls that are kept apart after the others change no stored call
+-- calls that are added to the separate list change no stored call
 call_of-append : (apart more : List Call) (len : ℕ) (stored : StoredCall) → needs stored ≤ length apart → call_of (apart ++ more) len stored ≡ call_of apart len stored
 call_of-append apart more len (StoredCall.Open flags) le = refl
 call_of-append apart more len (StoredCall.Close d) le = refl
@@ -100,7 +100,7 @@ pub record_at-read : (apart : List Call) (bytes : List ℕ) (stored : List Store
 record_at-read apart bytes stored k s lt read =
     record_at-records_of apart bytes stored k ∙ ap (option_map (record_of apart bytes)) (slice_get_read stored (length stored) k s refl lt read)
 
--- no record stands at a place past the last
+-- there is no record at a place past the last
 pub record_at-past : (past : Past) (k : ℕ) → length past ≤ k → record_at past k ≡ None
 record_at-past [] k le = refl
 record_at-past (r ∷ past) k le = grind (arith, nat_tests, record_at-past past k)

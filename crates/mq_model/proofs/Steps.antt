@@ -13,7 +13,7 @@ use Rattle.mq_model.specs.declared.entries.Call.{Call}
 use Rattle.mq_model.specs.declared.entries.Reply.{Reply}
 use Rattle.mq_model.specs.declared.entries.Reply.TheVariants.{Opened, Queued, Handed, Waits, Got, Collected, Attrs, Notice, Done, Refused, Withdrawn}
 
--- every place of a list lies before n
+-- every place of a list is before n
 abbrev pub Below : ℕ → List ℕ → Type 0
 Below n xs = (m : ℕ) → is_in xs m ≡ true → m < n
 
@@ -59,7 +59,7 @@ pub admitted-below : (past : Past) (q : ℕ) → Below (length past) (admitted p
 admitted-below [] q = λ m h. absurd (cc)
 admitted-below (r ∷ past) q = below-with (length past) (entered past r.entry q) (admitted past q) (admitted-below past q) (λ k e. entered-below past r q k e)
 
--- what a record takes lies before it, or is its own message
+-- what a record takes is before it, or is its own message
 taken_by-below : (past : Past) (r : Record) → IsLegalNext past r → (k : ℕ) → taken_by (length past) r.entry.reply ≡ Some k → k ≤ length past
 taken_by-below past r legal k e = by_reply r.entry.reply (legal_says past r legal) e
   where

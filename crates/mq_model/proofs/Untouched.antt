@@ -1,4 +1,4 @@
--- The registration that stands on a queue, entry by entry.
+-- The registration on a queue, entry by entry.
 use Rattle.std.proofs.Common.{◌≡◌, ◌≢◌, ℕ, Bool, true, false, Option, Some, None, refl, sym, ◌∙◌, subst, eq-eqb, is_some}
 use Rattle.mq_model.specs.Notices.{registration_after, is_about_registrations, notified}
 use Rattle.mq_model.specs.declared.entries.Entry.{Entry}
@@ -11,7 +11,7 @@ use Rattle.mq_model.specs.declared.entries.Reply.TheVariants.{Done, Got, Queued}
 abbrev entry : ℕ → Call → Reply → Entry
 entry p call reply = record { process = p; call = call; reply = reply }
 
--- a call that is not about registrations leaves them where it is done
+-- a call that is not about registrations leaves them unchanged if it succeeds
 pub untouched-done : (p : ℕ) (call : Call) → is_about_registrations call ≡ false → (on : Bool) (here : ℕ) (before : Option Registration) → registration_after on here (entry p call Done) before ≡ before
 untouched-done p (MqNotify d value) e on here before = absurd (let bad : true ≡ false = e in cc)
 untouched-done p (MqClose d) e on here before = absurd (let bad : true ≡ false = e in cc)
@@ -33,7 +33,7 @@ registration place p d = record { place = place; process = p; d = d; value = 0 }
 gone : (x : Option Registration) (n : Registration) → x ≡ None → x ≢ Some n
 gone x n e same = absurd (let bad : None ≡ Some n = sym e ∙ same in cc)
 
--- a call about registrations touches one where it is done
+-- a call about registrations changes one if it succeeds
 touched-call : (p : ℕ) (call : Call) → is_about_registrations call ≡ true → Touches (entry p call Done)
 touched-call p (MqNotify d (Some v)) e = (true, 0, None, λ same. absurd (let bad : Some _ ≡ None = same in cc))
 touched-call p (MqNotify d None) e = (true, 0, Some (registration 0 p d), gone _ _ (rw (eq-eqb p p refl) refl))

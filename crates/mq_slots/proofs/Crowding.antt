@@ -64,7 +64,7 @@ last_of ll m new k = elim (cases_Bool (k == m)) [
   | inr e ↦ record { from = ll k; is = rw e refl; which = inr (refl, eqb-false _ _ e) }
 ]
 
--- where a slot is spare, there are fewer levels than slots for messages
+-- if a slot is spare, there are fewer levels than slots for messages
 pub levels-few : (n : ℕ) (p t nx : ℕ → ℕ) (m : ℕ) (lp ll : ℕ → ℕ) (new : ℕ) → IsChained n p t nx → IsLevelled n p t m lp ll → new < n → 32768 < p new → m + 1 < n
 levels-few n p t nx m lp ll new chain levels within spare =
     let head = chain.head in

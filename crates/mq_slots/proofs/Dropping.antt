@@ -18,7 +18,7 @@ first_is_high n p t nx m lp ll first chain levels best k kl e =
     let near : t first + span * p top ≤ t top + span * p first = best.nearest top within (omega arith) in
     omega arith
 
--- the levels stay where the slot is not the last of the highest
+-- the levels are unchanged if the slot is not the last of the highest
 pub dropped-not : (n : ℕ) (p t nx p' t' nx' : ℕ → ℕ) (m : ℕ) (lp ll : ℕ → ℕ) (first free count : ℕ) → IsChained n p t nx → IsLevelled n p t m lp ll → IsFirst n p t first → Unlinked p t nx p' t' nx' first free count
     → (0 < m → ll (m - 1) ≢ first) → IsLevelled n p' t' m lp ll
 dropped-not n p t nx p' t' nx' m lp ll first free count chain old best step top =

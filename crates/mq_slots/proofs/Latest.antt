@@ -1,4 +1,5 @@
--- The messages in the slots stand the latest first: a push puts its message before them, and a pop leaves the others in order.
+-- The messages in the slots are sorted, the latest first: a push puts its message before them, and
+-- a pop leaves the order of the others.
 use Rattle.std.proofs.Common.{◌≡◌, ◌≢◌, ℕ, zero, suc, ◌+◌, ◌<◌, ◌≤◌, inl, inr, List, [], ◌∷◌, length, refl, sym, ◌∙◌, ap, subst, arith, get_or-set_other, get_or-set_same}
 use Rattle.std.specs.Prelude.{slice_set}
 use Rattle.std.proofs.lemmas.List.{length-set}

@@ -4,7 +4,7 @@ use Rattle.std.proofs.lemmas.Bool.{cases_eq, cases_lt}
 use Rattle.mq_slots.specs.Chains.{IsChained, IsLevelled, IsCovered}
 use Rattle.mq_slots.proofs.Linking.{Linked, IsBefore, IsNew}
 
--- `at` is where the level of the priority q is or would be
+-- `at` is the index at which the level of the priority q is or would be
 pub record IsPlaced (m : ℕ) (lp : ℕ → ℕ) (at q : ℕ) : Type 0 where
   pub within : at ≤ m
   pub below : (k : ℕ) → k < at → lp k < q
@@ -36,7 +36,7 @@ level-before n p t nx m lp ll at new q s chain levels placed fresh here =
           ]);
     }
 
--- where no level is as high, the head of the chain comes before the message
+-- if no level is as high, the head of the list comes before the message
 pub head-before : (n : ℕ) (p t nx : ℕ → ℕ) (m : ℕ) (lp ll : ℕ → ℕ) (at new q s : ℕ) → IsChained n p t nx → IsLevelled n p t m lp ll → IsPlaced m lp at q → IsNew n p t new q s → m ≤ at → IsBefore n p t 0 q s
 head-before n p t nx m lp ll at new q s chain levels placed fresh over =
     let head = chain.head in
@@ -113,7 +113,7 @@ pub record Inserted (f f' : ℕ → ℕ) (at x : ℕ) : Type 0 where
 above : (f f' : ℕ → ℕ) (at x : ℕ) → Inserted f f' at x → (k : ℕ) → at < k → f' k ≡ f (k - 1)
 above f f' at x put k h = let e : k ≡ (k - 1) + 1 = omega arith in ap f' e ∙ put.upper (k - 1) (omega arith)
 
--- where a level was before another was put in
+-- the index of a level before another was inserted
 record Was (m : ℕ) (lp ll lp' ll' : ℕ → ℕ) (at k q : ℕ) : Type 0 where
   pub was : ℕ
   pub below : was < m

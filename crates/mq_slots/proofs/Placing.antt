@@ -53,7 +53,8 @@ length-placed m (x ∷ xs) = elim (cases_lt x.1 m.1) [
   | inr h ↦ rw (le-ltb x.1 m.1 h) (let rest = length-placed m xs in omega arith)
 ]
 
--- in which order they stand ----------------------------------------------------------------------------------------------
+-- their order
+-- ---------------------------------------------------------------------------------------
 
 -- every place is below n
 abbrev pub Below : ℕ → List (ℕ × ℕ) → Type 0
@@ -94,7 +95,7 @@ placed-descending m (x ∷ xs) down = elim (cases_lt x.1 m.1) [
   | inr h ↦ rw (le-ltb x.1 m.1 h) (placed-below (x.1 + 1) m xs (omega arith) down.0, placed-descending m xs down.1)
 ]
 
--- the latest message stands first
+-- the latest message is first
 pub placed-top : (m : ℕ × ℕ) (xs : List (ℕ × ℕ)) → Below m.1 xs → placed m xs ≡ m ∷ xs
 placed-top m [] below = refl
 placed-top m (x ∷ xs) below = rw (lt-ltb x.1 m.1 below.0) refl
@@ -105,7 +106,7 @@ placed-under m top xs lt = rw (le-ltb top.1 m.1 (omega arith)) refl
 
 -- without one of them ----------------------------------------------------------------------------------------------------
 
--- none stands at this place
+-- none has this place
 abbrev pub NoneAt : ℕ → List (ℕ × ℕ) → Type 0
 NoneAt place [] = Unit {0}
 NoneAt place (x ∷ xs) = (x.1 ≢ place) × NoneAt place xs
@@ -136,7 +137,7 @@ without-placed place m (x ∷ xs) is = elim (cases_lt x.1 m.1) [
   ])
 ]
 
--- another stays
+-- another message is kept
 pub without-other : (place : ℕ) (m : ℕ × ℕ) (xs : List (ℕ × ℕ)) → m.1 ≢ place → Descending xs → without place (placed m xs) ≡ placed m (without place xs)
 without-other place m [] other down = rw (ne_eqb m.1 place other) refl
 without-other place m (x ∷ xs) other down = elim (cases_lt x.1 m.1) [

@@ -82,7 +82,7 @@ none-used cells none i within = elim (cases_lt (prio_at cells i) 32768) [
   | inr spare ↦ spare
 ]
 
--- where there are messages, some slot has one
+-- if there are messages, some slot has one
 pub some-used : (cells : List Cell) → 0 < length (messages cells) → (i : ℕ) × (i < length cells) × (prio_at cells i < 32768)
 some-used [] some = absurd (omega arith)
 some-used (c ∷ cells) some = elim (cases_lt c.prio 32768) [

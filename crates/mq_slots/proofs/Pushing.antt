@@ -33,7 +33,8 @@ levelled_at m n e p t levels lp ll is = subst (λ x. IsLevelled x p t levels lp 
 pub same_pair : (a b c d : ℕ) → a ≡ c → b ≡ d → ◌≡◌ {A = ℕ × ℕ} (a, b) (c, d)
 same_pair a b c d e f = ap (λ (x : ℕ). let m : ℕ × ℕ = (x, b) in m) e ∙ ap (λ (y : ℕ). let m : ℕ × ℕ = (c, y) in m) f
 
--- what a push is given: sound slots with a spare one, a message that is the newest, and the level where it belongs
+-- what a push requires: sound slots with a spare one, a message that is the newest, and the index
+-- of its level
 pub record IsPush (cells : List Cell) (levels : List Level) (free count room at prio place : ℕ) : Type 0 where
   pub sound : IsSound cells levels free count room
   pub some : 0 < count

@@ -24,7 +24,7 @@ stays_spare n p t nx p' t' nx' before new q s count old step fresh chained some 
     let unlike : t i ≢ t new = λ e. other (old.apart i new il fresh.within (omega arith) fresh.spare e) in
     record { other = other; spare = omega arith; same_t = step.kept_t i other; same_nx = step.kept_nx i other apart; less = omega arith }
 
--- the next of a slot that stays spare does too
+-- the next slot of a spare one is spare, too
 next_stays : (n : ℕ) (p t nx : ℕ → ℕ) (new count : ℕ) → IsFreed n p t nx new count → 0 < count → (i : ℕ) → i < n → 32768 < p i → 1 < t i → nx i ≢ new
 next_stays n p t nx new count old some i il ip more e =
     let top : t new ≡ count = old.top some in

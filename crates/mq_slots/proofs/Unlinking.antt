@@ -19,7 +19,7 @@ pub record IsFirst (n : ℕ) (p t : ℕ → ℕ) (first : ℕ) : Type 0 where
   pub used : p first < 32768
   pub nearest : (j : ℕ) → j < n → p j < 32768 → t first + span * p j ≤ t j + span * p first
 
--- where a message is there, the head leads to the first one
+-- if there is a message, the head is linked to the first one
 pub head-first : (n : ℕ) (p t nx : ℕ → ℕ) → IsChained n p t nx → (i : ℕ) → i < n → p i < 32768 → IsFirst n p t (nx 0)
 head-first n p t nx old i il ip =
     let head = old.head in

@@ -13,7 +13,7 @@ use Rattle.mq_slots.proofs.Linking.{Linked}
 use Rattle.mq_slots.proofs.Unlinking.{Unlinked}
 use Rattle.mq_slots.proofs.Noting.{Inserted}
 
--- two slots are written: what stands at each index then
+-- what each index has after two slots were written
 pub record Written (old new : List Cell) (i j : ℕ) (x y : Cell) : Type 0 where
   pub slots : length new ≡ length old
   pub at_first : cell_at new i ≡ x

@@ -32,12 +32,12 @@ best-is xs b best = find-only (λ a. list_all (goes_first a) xs) xs b best.there
     (all-of (goes_first b) xs (λ m there. grind (arith, nat_tests, same-or-not m b, best.first m there)))
     (λ m there passes. grind (arith, nat_tests, same-or-not m b, best.first m there, of-all (goes_first m) xs passes b best.there))
 
--- what `best` of the slots gives
+-- the result of `best` of the slots
 pub best-found : (xs : List (ℕ × ℕ)) (o : Option (ℕ × ℕ)) → (IsNone o ↔ (xs ≡ [])) → IfSome o (λ m. IsBest xs m) → o ≡ best_slot xs
 best-found xs None none best = let empty : xs ≡ [] = none.0 refl in rw empty refl
 best-found xs (Some m) none best = sym (best-is xs m best)
 
--- what `pop` of the slots leaves, where the best message stands at a place
+-- what `pop` of the slots leaves, given the place of the best message
 pub popped : (xs ys : List (ℕ × ℕ)) (o : Option (ℕ × ℕ)) (place : ℕ) → (IsNone o ↔ (xs ≡ [])) → IfSome o (λ m. IsBest xs m) → IfSome o (λ m. ys ≡ without m.1 xs) → option_map (λ m. m.1) (best_slot xs) ≡ Some place → ys ≡ without place xs
 popped xs ys None place none best others at = grind arith
 popped xs ys (Some m) place none best others at = let is = best-is xs m best in grind arith

@@ -27,7 +27,7 @@ waits-counted past t tables few = open_waits-counted past t.owners.items t.n tab
 pub waits-open : (j : Shown) (t : Tables) → IsKeptBy j t → waits_count t.owners.items ≡ open_waits j.records
 waits-open j t kept = waits-counted j.records t kept.tables kept.processes
 
--- where they are not, and there is no room, there are no bounds
+-- if they are not exceeded, and there is no room, there are no bounds
 pub unbounded : (o : Option Bounds) (j : Shown) (w k m : ℕ) → HasRoomWithin o j → exceeds o (length j.records + w + k) (payload_bytes j.records + m) ≡ false → ((w + k ≤ j.entry_room) → (m ≤ j.byte_room) → ⊥) → o ≡ None
 unbounded o j w k m has within none = grind arith
 
@@ -41,7 +41,7 @@ not-both r ok err = grind arith
 
 -- what the calls of the tables ensure --------------------------------------------------------------------------------------
 
--- a call that is refused for want of room
+-- a call that fails because there is no room
 pub called-refused : (j j' : Shown) (t : Tables) (p : ℕ) (call : Call) (given : List ℕ) (k m : ℕ) (fault : Fault) (result : Result (Unit {0}) Fault) → finds_full t.bounds j.records p call given ≡ exceeds t.bounds (length j.records + open_waits j.records + k) (payload_bytes j.records + m) →
     IsRoomRefused t.bounds (length j.records + open_waits j.records + k) (payload_bytes j.records + m) result → result ≡ Err fault → j'.records ≡ j.records → j.byte_room ≤ j'.byte_room → IsKeptBy j' t → IsPooled None t → j'.stored ≡ j.stored → IsCalled j j' t t p call given (Refused fault)
 called-refused j j' t p call given k m fault result full room is same no_less kept pool stored = grind arith

@@ -20,7 +20,7 @@ use Rattle.mq_state.specs.declared.moves.WaitMove.TheVariants.{Stays, Begins, En
 abbrev call_at : Option Record → Call
 call_at o = unwrap_or (option_map (λ (x : Record). x.entry.call) o) Collect
 
--- the call of a wait that stays open
+-- the call of a wait that remains open
 older : (past : Past) (r : Record) (p w : ℕ) → open_wait past p ≡ Some w → open_wait (r ∷ past) p ≡ Some w → waiting_call (r ∷ past) p ≡ waiting_call past p
 older past r p w was is =
     ap (λ (o : Option ℕ). call_at (option_and_then (record_at (r ∷ past)) o)) is ∙ ap call_at (record_at-older past r w (open_wait-below past p w was)) ∙ sym (ap (λ (o : Option ℕ). call_at (option_and_then (record_at past) o)) was)

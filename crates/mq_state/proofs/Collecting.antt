@@ -1,4 +1,4 @@
--- The message that a collect gives fits its buffer.
+-- The message that a collect returns fits its buffer.
 use Rattle.std.proofs.Common.{◌≡◌, ℕ, ◌≤◌, Some, arith}
 use Rattle.mq_model.specs.Record.{Past}
 use Rattle.mq_model.specs.Waits.{answered_by}

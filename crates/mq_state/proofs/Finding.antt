@@ -1,4 +1,4 @@
--- What a search from the front finds.
+-- The result of a search from the start.
 use Rattle.std.proofs.Common.{◌≡◌, ℕ, zero, suc, ◌<◌, Bool, true, false, List, [], ◌∷◌, length, map, ◌==◌, eq-eqb, get_or, Some, None, refl, arith, sym, ap, ◌∙◌}
 use Rattle.std.specs.List.{find}
 use Rattle.mq_model.specs.Record.{Past}

@@ -27,7 +27,7 @@ use Rattle.mq_laws.proofs.SentMessages.{IsSentTo, is_sent, blocked-sent, admitte
 use Rattle.mq_laws.proofs.LegalPlaces.{legal-at, first-older}
 use Rattle.std.specs.Option.{unwrap_or}
 
--- a send that was not refused has a message at most the msgsize of its queue long
+-- the message of a send that did not fail is at most as long as the msgsize of its queue
 send-fits : (past : Past) (p : ℕ) (call : Call) (reply : Reply) (payload : List ℕ) (q : ℕ) → Says past p call reply → is_payload call reply payload ≡ true → is_send call ≡ true → is_sent reply ≡ true → called_queue past p call ≡ Some q →
     int_lt (attributes past q).msgsize (pos (length payload)) ≡ false
 send-fits past p call reply payload q says paid sends goes on = grind arith

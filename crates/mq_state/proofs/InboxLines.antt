@@ -11,7 +11,7 @@ slice_get-set [] p k y lt = absurd (omega arith)
 slice_get-set (x ∷ xs) (suc p) (suc k) y lt = slice_get-set xs p k y (omega arith) ∙ grind (arith, nat_tests)
 slice_get-set (x ∷ xs) p k y lt = grind arith
 
--- the line of process p with other notices
+-- the row of process p with other notices
 pub values-set : (f : List ℕ → List ℕ) (xs : List InboxShown) (p : ℕ) (y d : InboxShown) → p < length xs → y.values ≡ f (get_or xs p d).values → (k : ℕ) → notices_in (set xs p y) k ≡ (if p == k then f (notices_in xs k) else notices_in xs k)
 unfolding notices_in
 values-set f xs p y d lt is k = grind (arith, eqb-true, slice_get-set, slice_get-get_or)
@@ -22,12 +22,12 @@ pub line-room : (xs : List InboxShown) (p : ℕ) (d : InboxShown) → p < length
 unfolding room_in
 line-room xs p d lt = rw (slice_get-get_or xs p d lt) refl
 
--- who has room has an inbox
+-- a process with room has an inbox
 pub room-inside : (xs : List InboxShown) (p : ℕ) → 0 < room_in xs p → p < length xs
 unfolding room_in
 room-inside xs p lt = grind (arith, slice_get_past)
 
--- the line of process p with so much less room, at most
+-- the row of process p with at most this much less room
 pub room-set : (xs : List InboxShown) (p : ℕ) (y d : InboxShown) (less : ℕ) → p < length xs → (get_or xs p d).room ≤ y.room + less → (k : ℕ) → room_in xs k ≤ room_in (set xs p y) k + (if p == k then less else 0)
 unfolding room_in
 room-set xs p y d less lt le k = grind (arith, eqb-true, slice_get-set, slice_get-get_or)

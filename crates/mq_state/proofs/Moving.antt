@@ -72,6 +72,6 @@ entry-queue past p call reply payload q on = search rules
 pub notifies-alive : (past : Past) → Legal past → (p : ℕ) (call : Call) (reply : Reply) (payload : List ℕ) (q : ℕ) → EntryOn past p call payload reply q → is_some (notified reply) ≡ true → is_in (alive past) q ≡ true
 notifies-alive past legal p call reply payload q on e = grind (arith, called-alive past legal p call q)
 
--- the registration that it notifies stands there
+-- the registration that it notifies is on the queue
 pub notifies-registered : (past : Past) (p : ℕ) (call : Call) (reply : Reply) (payload : List ℕ) (q : ℕ) → EntryOn past p call payload reply q → (k : ℕ) → notified reply ≡ Some k → registered_place past q ≡ Some k
 notifies-registered past p call reply payload q on k e = search rules

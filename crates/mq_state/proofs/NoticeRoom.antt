@@ -92,7 +92,7 @@ noted-fewer brought given owners here e q moves queues p = grind (arith, lines-r
 
 -- there is room after each entry ------------------------------------------------------------------------------------------
 
--- what a process keeps of its room, where the entry brings notices to the registered process
+-- the room that a process keeps, if the entry adds notices for the registered process
 abbrev KeepsRoom : List QueueShown → List InboxShown → List InboxShown → ℕ → Bool → Type 0
 KeepsRoom queues inboxes after q notified = (p : ℕ) → room_in inboxes p ≤ room_in after p + notices_brought (registration_in queues q) notified p
 
@@ -124,7 +124,8 @@ lines-room past legal queues m p call Done payload q on inboxes after has kept r
 lines-room past legal queues m p call reply payload q on inboxes after has kept room k =
     quiet-room (length past) (record { process = p; call = call; reply = reply }) queues inboxes after q has kept k (λ n e. absurd (cc))
 
--- the tables after an entry have room for the notice of each registration, where there was room for the one that it makes
+-- after an entry the tables have room for the notice of each registration, if there was room for
+-- the one that it makes
 pub notice-room-keeps : (past : Past) → Legal past → (queues : List QueueShown) → QueuesMirror past queues → (p : ℕ) (call : Call) (reply : Reply) (payload : List ℕ) (q : ℕ) → EntryOn past p call payload reply q → (inboxes after : List InboxShown) →
     HasNoticeRoom queues inboxes → KeepsRoom queues inboxes after q (is_some (notified reply)) → HasRoomToRegister queues inboxes p call reply →
     (brought : Option Held) (given : Attr) (owners : List Owner) (moves : Moves) →
@@ -135,6 +136,6 @@ notice-room-keeps past legal queues m p call reply payload q on inboxes after ha
 pub room-to-notify : (queues : List QueueShown) (inboxes : List InboxShown) → HasNoticeRoom queues inboxes → (q : ℕ) (n : Registration) → registration_in queues q ≡ Some n → 0 < room_in inboxes n.process
 room-to-notify queues inboxes has q n stands = grind (arith, registered-counts)
 
--- who waits is noted
+-- after the update of the processes that wait
 pub notice-room-waiting : (moved : Option ℕ) (owners : List Owner) (queues : List QueueShown) (inboxes : List InboxShown) → HasNoticeRoom queues inboxes → HasNoticeRoom (waits_noted moved owners queues) inboxes
 notice-room-waiting moved owners queues inboxes has = grind (arith, registrations-changed)

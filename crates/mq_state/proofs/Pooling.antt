@@ -36,7 +36,7 @@ length-changed f (x ∷ queues) q = grind (arith, length-changed f queues q)
 pub pool-kept : {m a b : ℕ} {spares : List Held} (f : QueueShown → QueueShown) → ((x : QueueShown) → (f x).cap ≡ x.cap) → (queues : List QueueShown) (q : ℕ) → Pool m queues spares a b → Pool m (changed f queues q) spares a b
 pool-kept f same queues q pool = grind (arith, length-changed, wide-changed)
 
--- who waits is noted
+-- after the update of the processes that wait
 pub pooled-waiting : (bounds : Option Bounds) (moved : Option ℕ) (owners : List Owner) (queues after : List QueueShown) (spares : List Held) (room after_room spare_room : ℕ) → after ≡ waits_noted moved owners queues → after_room ≡ room →
     PoolWithin bounds None queues spares room spare_room → PoolWithin bounds None after spares after_room spare_room
 pooled-waiting bounds moved owners queues after spares room after_room spare_room is same pool = grind (arith, length-changed, wide-changed)
@@ -50,7 +50,7 @@ without-removed [] q i d lt at = absurd (omega arith)
 without-removed (x ∷ queues) q zero d lt at = rw at refl
 without-removed (x ∷ queues) q (suc i) d lt at = grind (arith, split, without-removed queues q i d)
 
--- where there is none of queue q nothing is left out
+-- if no row is of queue q, nothing is removed
 pub without-none : (queues : List QueueShown) (q : ℕ) → queue_in queues q ≡ None → without_queue queues q ≡ queues
 unfolding without_queue queue_in
 without-none [] q none = refl

@@ -15,7 +15,7 @@ use Rattle.std.proofs.lemmas.Option.{slice_get-get_or, slice_get_past}
 use Rattle.std.proofs.lemmas.Bool.Decides.{nat_tests}
 use Rattle.mq_model.proofs.Best.{find-test}
 
--- where queue q has index i, and none before it is q
+-- if queue q has index i, and no row before it is of q
 set-first : (f : QueueShown → QueueShown) (queues : List QueueShown) (q i : ℕ) (d : QueueShown) → i < length queues → ((get_or queues i d).place == q) ≡ true →
     ((k : ℕ) → k < i → ((get_or queues k d).place == q) ≡ false) → set queues i (f (get_or queues i d)) ≡ changed f queues q
 set-first f [] q i d lt here before = absurd (omega arith)
@@ -74,7 +74,7 @@ queue_in-place queues q x e = eqb-true _ _ (find-test (λ x. x.place == q) queue
 pub mapped : {X Y : Type 0} (f : X → Y) (o : Option X) (y : Y) → option_map f o ≡ Some y → (x : X) × (o ≡ Some x) × (f x ≡ y)
 mapped f o y e = grind arith
 
--- the line of queue q changed, any other as it was
+-- the row of queue q changed, and the others unchanged
 abbrev pub changed_line : (QueueShown → QueueShown) → ℕ → QueueShown → QueueShown
 changed_line f q x = if q == x.place then f x else x
 

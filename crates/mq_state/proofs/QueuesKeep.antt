@@ -1,4 +1,4 @@
--- The table of queues stays that of the journal, where it notes each entry.
+-- The table of queues remains that of the journal when it is updated for each entry.
 use Rattle.std.proofs.lemmas.List.{length-map}
 use Rattle.std.proofs.Common.{◌≡◌, ◌≢◌, ℕ, ◌<◌, ◌≤◌, ◌==◌, true, ◌||◌, not, List, [], ◌∷◌, ◌++◌, length, reverse, Option, Some, None, is_some, refl, sym, ◌∙◌, ap, arith, eq-eqb, ne_eqb}
 use Rattle.std.proofs.lemmas.Grind.{common_steps}
@@ -40,7 +40,7 @@ pub in-reverse : (xs : List ℕ) (m : ℕ) → is_in (reverse xs) m ≡ is_in xs
 in-reverse [] m = refl
 in-reverse (x ∷ xs) m = grind (arith, reverse-cons, in-append, in-reverse xs m)
 
--- a line of the table is of a queue that exists
+-- a row of the table is of a queue that exists
 pub line-alive : (past : Past) (queues : List QueueShown) → QueuesMirror past queues → (q : ℕ) (x : QueueShown) → queue_in queues q ≡ Some x → is_in (alive past) q ≡ true
 line-alive past queues m q x e = sym (in-reverse (alive past) q) ∙ ap (λ xs. is_in xs q) (sym m.places) ∙ is_in-places queues q ∙ ap is_some e
 

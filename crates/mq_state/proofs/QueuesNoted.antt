@@ -40,7 +40,7 @@ named-keeps : (past : Past) (p : ℕ) (call : Call) (reply : Reply) (payload : L
     is_named (rec p call reply payload ∷ past) k ≡ (if q == k then named_after (line_move past call reply) (is_named past k) else is_named past k)
 named-keeps past p call reply payload q on k lt = let r = rec p call reply payload in grind (arith, nat_tests, named-unlinked past r k q, named-created past r k, named-same past r k)
 
--- a line of the table, before a queue is given back, stays that of its queue
+-- a row of the table, before a queue is removed, remains that of its queue
 line-keeps : (past : Past) → Legal past → (p : ℕ) (call : Call) (reply : Reply) (payload : List ℕ) (q : ℕ) → EntryOn past p call payload reply q →
     (x : QueueShown) → LineMirror past x → x.place < length past → (q ≡ x.place → Allows (line_move past call reply) x) →
     LineMirror (rec p call reply payload ∷ past) (reregistered q (length past) (record { process = p; call = call; reply = reply }) (changed_line (renewed (line_move past call reply)) q x))
@@ -91,7 +91,7 @@ read-named : (queues : List QueueShown) (q : ℕ) (y : QueueShown) → queue_in 
 unfolding is_named_in
 read-named queues q y e = rw e refl
 
--- the table of queues stays that of the journal, where the entry creates no queue
+-- the table of queues remains that of the journal, if the entry creates no queue
 pub noted-queues-keeps : (past : Past) → Legal past → (owners : List Owner) (queues : List QueueShown) → QueuesMirror past queues → (p : ℕ) (call : Call) (reply : Reply) (payload : List ℕ) (q : ℕ) → EntryOn past p call payload reply q →
     AllowsIn queues q (line_move past call reply) → OwnersMirror (rec p call reply payload ∷ past) owners → creates call reply ≡ false →
     QueuesMirror (rec p call reply payload ∷ past) (noted_queues owners (length past) (record { process = p; call = call; reply = reply }) q (moves_of past call reply) queues)
@@ -100,7 +100,7 @@ noted-queues-keeps past legal owners queues m p call reply payload q on allows o
     let places = lines-places q (length past) (record { process = p; call = call; reply = reply }) (line_move past call reply) queues ∙ m.places in
     let keep = lines-keep past legal queues m p call reply payload q on allows in
     let held = is_held-table (rec p call reply payload ∷ past) owners om q in
-    -- the entry's queue exists, where the entry may free it
+    -- the entry's queue exists, if the entry may take its last user
     let bound = bound-alive past payload q in
     let called = called-alive past legal p call q in
     let exists : may_free call reply ≡ true → is_in (alive past) q ≡ true = grind arith in

@@ -1,4 +1,5 @@
--- What a reply gives and admits can be read before its entry, and all that is needed after it.
+-- What a reply hands out and admits can be read before its entry, and everything that is needed can
+-- be read after it.
 use Rattle.std.proofs.Common.{◌≡◌, ◌≢◌, ◌≤◌, ◌+◌, arith, true, false, length, ℕ, List, [], ◌∷◌, Option, Some, None, refl, sym, ap, ◌∙◌, subst}
 use Rattle.mq_model.specs.Record.{Record, Past, record_at, first}
 use Rattle.mq_laws.specs.Needed.{IsNeeded, home, GoesTo}
@@ -36,7 +37,7 @@ use Rattle.mq_state.proofs.Fitting.{answered-at}
 use Rattle.mq_laws.proofs.Needs.{present-needed, waiting-needed, handed-needed}
 use Rattle.mq_ledger.specs.Ledgers.{Shown, CanRead, CanReadGiven, CanReadAdmitted, IsReadable}
 
--- the message that a reply gives
+-- the message that a reply hands out
 pub given-readable : (s : Shown) → IsReadable s → Legal s.records → (p : ℕ) (call : Call) (reply : Reply) → Says s.records p call reply → CanReadGiven s reply
 given-readable s reads legal p call (Got m a n) says =
     let got = got_says s.records p call m a n says in
@@ -136,7 +137,7 @@ handed-is past legal p w b open_at answered r at receives =
     by k call before Done says named = absurd (cc)
     by k call before (Refused f) says named = absurd (cc)
 
--- the message that a collect gives can be read
+-- the message that a collect returns can be read
 pub collect-readable : (s : Shown) → IsReadable s → Legal s.records → (p b : ℕ) → answered_by s.records p ≡ Some b → is_receive (waiting_call s.records p) ≡ true → CanRead s b
 collect-readable s reads legal p b answered receives = by (open_wait s.records p) refl
   where

@@ -51,7 +51,7 @@ best-slots past q = find-slots past _ _ (λ k. list_all-map _ (slot_of past) (pr
 pub best-read : (past : Past) (queues : List QueueShown) → QueuesMirror past queues → (q : ℕ) → is_in (alive past) q ≡ true → option_map (λ x. x.1) (best_slot (slots_in queues q)) ≡ best past q
 best-read past queues m q h = grind (arith, slots-read past queues m q h, best-slots)
 
--- where none passes, the line of a queue does not
+-- if no row passes, the row of a queue does not
 find-none : (t : QueueShown → Bool) (queues : List QueueShown) (q : ℕ) (x : QueueShown) → find t queues ≡ None → queue_in queues q ≡ Some x → t x ≡ false
 unfolding queue_in
 find-none t [] q x none e = absurd (cc)
@@ -60,7 +60,7 @@ find-none t (y ∷ queues) q x none e = grind (arith, find-none t queues q x)
 queue_in-inside : (queues : List QueueShown) (q : ℕ) (x : QueueShown) → queue_in queues q ≡ Some x → is_in (map (λ x. x.place) queues) q ≡ true
 queue_in-inside queues q x e = grind (arith, is_in-places)
 
--- the first line that passes is the line of its place
+-- the first row that passes is the row with its place
 found-line : (t : QueueShown → Bool) (queues : List QueueShown) → HaveRisingPlaces queues → (x : QueueShown) → find t queues ≡ Some x → queue_in queues x.place ≡ Some x
 unfolding queue_in
 found-line t [] rises x e = absurd (cc)

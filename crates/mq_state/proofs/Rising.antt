@@ -1,4 +1,4 @@
--- The places of the lines rise, so that a queue is found by halves, and stands at one index alone.
+-- The places of the rows rise, so that a queue is found by binary search, and has only one index.
 use Rattle.std.proofs.Common.{◌≡◌, ℕ, suc, ◌+◌, ◌<◌, ◌≤◌, ◌==◌, Bool, true, false, List, [], ◌∷◌, ◌++◌, length, map, reverse, Some, None, get_or, refl, arith}
 use Rattle.std.specs.List.{filter, position, position_from}
 use Rattle.std.proofs.lemmas.Iterator.Adapters.{position_from-zero}
@@ -50,7 +50,8 @@ here-alone queues rises q i d within here = grind (arith, position_from-zero (λ
 pub up-to : (queues : List QueueShown) → HaveRisingPlaces queues → (i k : ℕ) (d e : QueueShown) → k ≤ i → i < length queues → (get_or queues k e).place ≤ (get_or queues i d).place
 up-to queues rises i k d e le within = grind (arith, rising-at, get_or_default)
 
--- there is none, where the lines before an index are below q, those from it on are not, and the one there is another
+-- there is none, if the rows before an index are below q, those from it on are not, and the one
+-- there is another
 pub not-there : (queues : List QueueShown) → HaveRisingPlaces queues → (q i : ℕ) → ((k : ℕ) (e : QueueShown) → k < i → (get_or queues k e).place < q) → ((k : ℕ) (e : QueueShown) → i ≤ k → k < length queues → q ≤ (get_or queues k e).place) →
     (i < length queues → (d : QueueShown) × (((get_or queues i d).place == q) ≡ false)) → position (λ x. x.place == q) queues ≡ None
 not-there queues rises q i below rest other = grind (arith, clash, nowhere queues q 0, position_from-zero (λ x. x.place == q) queues, rising-at, get_or_default)

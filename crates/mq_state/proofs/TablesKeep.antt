@@ -1,4 +1,4 @@
--- The tables stay those of the journal, where they note an entry.
+-- The tables remain those of the journal when they are updated for an entry.
 use Rattle.std.proofs.Common.{◌≡◌, ℕ, ◌≤◌, true, false, List, [], ◌∷◌, ◌++◌, length, Option, Some, None, is_some, refl, sym, ◌∙◌, ap, arith}
 use Rattle.mq_model.specs.Record.{Past}
 use Rattle.mq_model.specs.Names.{creates, attributes_given}

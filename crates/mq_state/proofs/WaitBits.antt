@@ -31,12 +31,12 @@ unfolding wait_in
 bits-none q [] none = refl
 bits-none q (o ∷ owners) none = grind (arith, none 0, bits-none q owners (λ p. none (suc p)))
 
--- who does not wait on a queue is not found waiting there
+-- a process that does not wait on a queue is not found waiting there
 pub pending-off : (owners : List Owner) (p q : ℕ) (kind : WaitKind) → waits_on q (wait_in owners p) ≡ false → pending_in owners p q kind ≡ None
 unfolding pending_in
 pending-off owners p q kind off = grind arith
 
--- where no bit is left nobody after waits
+-- if no bit is left, no later process waits
 pub zero-from : (q : ℕ) (owners : List Owner) (p k : ℕ) → wait_bits q (drop p owners) ≡ 0 → p ≤ k → waits_on q (wait_in owners k) ≡ false
 unfolding wait_in
 zero-from q (o ∷ owners) (suc p) (suc k) none le = zero-from q owners p k none (omega arith)
@@ -72,6 +72,6 @@ pub next-bit : (q : ℕ) (owners : List Owner) (p rest : ℕ) → rest ≡ wait_
 unfolding wait_in
 next-bit q owners p rest is some = grind (arith, drop_all p owners, drop-cons owners p free_owner, slice_get-get_or owners p free_owner)
 
--- where no bit is set nobody is found waiting
+-- if no bit is set, no process is found waiting
 pub nobody-waits : (owners : List Owner) (q : ℕ) (kind : WaitKind) → wait_bits q owners ≡ 0 → (k : ℕ) → pending_in owners k q kind ≡ None
 nobody-waits owners q kind none k = grind (arith, pending-off, zero-from q owners 0 k)

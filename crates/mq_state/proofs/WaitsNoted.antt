@@ -36,7 +36,7 @@ pub waits-few : (owners : List Owner) → waits_count owners ≤ length owners
 unfolding waits_count
 waits-few owners = count_by-le-length _ owners
 
--- in a legal journal a process begins a wait where it has none, and ends one that it has
+-- in a legal journal a process begins a wait only if it has none, and ends only one that it has
 pub own-wait : (past : Past) (owners : List Owner) → OwnersMirror past owners → (p : ℕ) (call : Call) (reply : Reply) → Says past p call reply → IsTrue (may_call past p call) → MovesOwnWait (wait_move reply) (wait_in owners p)
 own-wait past owners m p call reply says turn = grind (arith, turn-none, mapped, answered_by-none)
 

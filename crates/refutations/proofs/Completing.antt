@@ -125,7 +125,7 @@ sent-refuses-not (reply.Notice v) sent = absurd (let bad : false ≡ true = sent
 sent-refuses-not reply.Done sent = absurd (let bad : false ≡ true = sent in cc)
 sent-refuses-not (reply.Refused f) sent = absurd (let bad : false ≡ true = sent in cc)
 
--- the payload of a send that was not refused is the message that it was given
+-- the payload of a send that did not fail is the message that it was given
 sent-payload : (call : Call) (y : Reply) (given : List ℕ) → is_send call ≡ true → is_sent y ≡ true → payload_of call y given ≡ given
 sent-payload (MqSend d prio len) y given send sent = rw (sent-refuses-not y sent) refl
 sent-payload (MqTimedSend d prio len until now) y given send sent = rw (sent-refuses-not y sent) refl
@@ -221,7 +221,7 @@ abbrev pub completed_receives : ℕ → List ℕ → Histories → Past → ℕ 
 completed_receives prio message histories past index =
     of_process (λ (v : Vec Operation Global). count_by (receives prio message) (take (completed past (index + 1)) v.items)) (slice_get histories index)
 
--- a reply that fits an operation that received the message gives it, or is a wait
+-- a reply that fits an operation that received the message hands it out, or is a wait
 got-given : (past : Past) (y : Reply) (prio : ℕ) (message : List ℕ) → is_wait y ≡ false → brings past y prio message ≡ true → is_some (given_by past prio message y) ≡ true
 got-given past (reply.Got m a n) prio message quiet e = rw e refl
 got-given past (reply.Collected by) prio message quiet e = rw e refl

@@ -30,7 +30,7 @@ use Rattle.histories.specs.Outcomes.{has_bytes, has_handed, has_priority, hands,
 
 -- sends ------------------------------------------------------------------------------------------------------------------
 
--- a send of this message that was not refused
+-- a send of this message that did not fail
 abbrev pub is_sending : ℕ → List ℕ → Record → Bool
 is_sending prio message r = is_send r.entry.call && is_sent r.entry.reply && priority_given r.entry.call == prio && bytes_eq r.payload message
 
@@ -113,7 +113,7 @@ sending prio message r a b c d = rw (a, b, c, d) refl
 
 -- what is given ----------------------------------------------------------------------------------------------------------
 
--- the place of this message, if a reply gives it to its process
+-- the place of this message, if a reply hands it to its process
 abbrev pub given_by : Past → ℕ → List ℕ → Reply → Option Place
 given_by past prio message (Got place admitted notified) = if is_message past place prio message then Some place else None
 given_by past prio message (Collected by) = if is_handed past by && is_message past by prio message then Some by else None
@@ -151,7 +151,7 @@ given-is past prio message m (Notice v) e = absurd (cc)
 given-is past prio message m Done e = absurd (cc)
 given-is past prio message m (Refused f) e = absurd (cc)
 
--- what a legal record gives was sent
+-- what a legal record hands out was sent
 handed-sent_of : (past : Past) (prio : ℕ) (message : List ℕ) (m : ℕ) → Legal past → is_message past m prio message ≡ true → is_handed past m ≡ true → is_in (sent_of prio message past) m ≡ true
 handed-sent_of past prio message m legal is handed =
     let h = handed-at past m handed in

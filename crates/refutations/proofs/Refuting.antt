@@ -32,7 +32,7 @@ through-each histories past (suc n) i through below =
           subst (λ k. is_through (current_of histories past k) ≡ true) e parts.1
     ]
 
--- the first operation that had not returned is none behind one that had not
+-- the first operation that had not returned is not after one that had not
 first-pending : (xs : List Operation) (k : ℕ) (o : Operation) → slice_get xs k ≡ Some o → is_pending o.outcome ≡ true → position_or_len (λ (x : Operation). is_pending x.outcome) xs ≤ k
 first-pending [] k o is pending = absurd (let bad : None ≡ Some o = is in cc)
 first-pending (x ∷ xs) zero o is pending =
@@ -44,7 +44,7 @@ first-pending (x ∷ xs) (suc k) o is pending =
     let rest = first-pending xs k o is pending in
     split (is_pending x.outcome) (λ t. rw t (omega arith)) (λ f. rw f (omega (arith, rest)))
 
--- where a process has completed its operations, none that had returned is left
+-- if a process has completed its operations, none that had returned is left
 abbrev first_pending : List Operation → ℕ
 first_pending xs = position_or_len (λ (x : Operation). is_pending x.outcome) xs
 

@@ -65,7 +65,8 @@ ahead-entered {S} next is_goal path first s t true runs no_goal covered new noth
     let P : Option ℕ → Type 0 = λ o. IsAhead next is_goal path s t o in
     subst P (sym (nothing refl)) (none refl)
 
--- where a search stands: its path leads to a node, at which the machine is where a choice is to be taken there
+-- the position of a search: its path leads to a node, which is the state of the machine if a choice
+-- is to be taken there
 pub record Stands {S : Type 0} (next : S → ℕ → Option S) (is_goal : S → Bool) (IsKey : S → List ℕ → Type 0) (path : List ℕ) (levels : List Level) (start machine : S) (choice : Option ℕ) : Type 0 where
   pub node : S
   pub runs : after next path start ≡ Some node
@@ -91,7 +92,7 @@ ahead-fewer : {S : Type 0} (next : S → ℕ → Option S) (is_goal fewer : S �
 ahead-fewer next is_goal fewer less path s now None ahead = λ schedule to reaches. less to (ahead schedule to reaches)
 ahead-fewer next is_goal fewer less path s now (Some choice) ahead = (covered-fewer next is_goal fewer less (path ++ choice ∷ []) s ahead.0, ahead.1)
 
--- where there are fewer goals
+-- if there are fewer goals
 pub stands-fewer : {S : Type 0} (next : S → ℕ → Option S) (is_goal fewer : S → Bool) (IsKey : S → List ℕ → Type 0) → ((s : S) → is_goal s ≡ false → fewer s ≡ false) →
     (path : List ℕ) (levels : List Level) (start machine : S) (choice : Option ℕ) →
     Stands next is_goal IsKey path levels start machine choice → Stands next fewer IsKey path levels start machine choice

@@ -15,7 +15,7 @@ use Rattle.schedules.proofs.Covering.{Covered}
 abbrev pub is_new_goal : {S : Type 0} → (S → Bool) → (S → Told) → List Witnessed → S → Bool
 is_new_goal is_goal outcome found s = is_goal s && not (is_among found (outcome s))
 
--- what is covered stays so where there are fewer goals
+-- what is covered remains so if there are fewer goals
 pub covered-fewer : {S : Type 0} (next : S → ℕ → Option S) (is_goal fewer : S → Bool) → ((s : S) → is_goal s ≡ false → fewer s ≡ false) →
     (path : List ℕ) (s : S) → Covered next is_goal path s → Covered next fewer path s
 covered-fewer next is_goal fewer less [] s covered = tt
@@ -25,7 +25,7 @@ covered-fewer next is_goal fewer less (c ∷ path) s covered = (
   (λ t step. covered-fewer next is_goal fewer less path t (covered.2 t step)),
 )
 
--- where more was found there are fewer new goals
+-- if more was found, there are fewer new goals
 pub new-fewer : {S : Type 0} (is_goal : S → Bool) (outcome : S → Told) (old new : List Witnessed) →
     ((told : Told) → is_among new told ≡ false → is_among old told ≡ false) →
     (s : S) → is_new_goal is_goal outcome old s ≡ false → is_new_goal is_goal outcome new s ≡ false
@@ -53,7 +53,7 @@ noted-is_old is_goal outcome found s noted =
     in
     goes (is_goal s) (is_among found (outcome s)) noted
 
--- where no schedule leads to a new goal, everything was found
+-- if no schedule leads to a new goal, everything was found
 pub all-found : {S : Type 0} (next : S → ℕ → Option S) (is_goal : S → Bool) (outcome : S → Told) (from : S) (found : List Witnessed) →
     HasNoGoal next (is_new_goal is_goal outcome found) from → AreAll next is_goal outcome from found
 all-found next is_goal outcome from found none schedule to leads =
@@ -120,7 +120,7 @@ or-parts false true h = cc
 or-parts true false h = cc
 or-parts true true h = cc
 
--- an outcome that nothing else told before may be added
+-- an outcome that was not found before may be added
 pub distinct-push : (found : List Witnessed) (w : Witnessed) → AreDistinct found → is_among found (told_by w.outcome) ≡ false → AreDistinct (found ++ w ∷ [])
 distinct-push [] w distinct new = (tt, refl)
 distinct-push (x ∷ found) w distinct new =

@@ -1,4 +1,4 @@
--- How many of its steps a search has behind it.
+-- How many of its steps a search has made.
 use Rattle.std.proofs.Common.{◌≡◌, ℕ, ◌+◌, ◌*◌, ◌^◌, ◌<◌, ◌≤◌, zero, suc, inl, inr, List, [], ◌∷◌, ◌++◌, length, Option, Some, None, unwrap_or, refl, subst, sym, ap, ◌∙◌, arith, length-append, add-one}
 use Rattle.std.proofs.lemmas.Bool.{cases_lt}
 use Rattle.std.proofs.Math.Nat.{mul-le-mul_right, pow-succ', pow-zero}
@@ -13,7 +13,7 @@ use Rattle.schedules.specs.Work.{AreShort, HaveFew, sum_below, work, TakesAll}
 abbrev pub cost : {S : Type 0} → (S → ℕ → Option S) → (S → ℕ) → (ℕ → ℕ) → ℕ → ℕ → S → ℕ → ℕ
 cost next choices back n depth s choice = 1 + unwrap_or (option_map (work next choices back n depth) (next s choice)) 0
 
--- the steps that were made when a search stands behind a path, at a choice
+-- the steps that were made when a search is after a path, at a choice
 abbrev pub spent : {S : Type 0} → (S → ℕ → Option S) → (S → ℕ) → (ℕ → ℕ) → ℕ → ℕ → List ℕ → ℕ → S → ℕ
 spent next choices back zero depth path choice s = 0
 spent next choices back (suc n) depth [] choice s = sum_below (cost next choices back n (depth + 1) s) choice
@@ -161,8 +161,8 @@ spent-within {S} next choices back others (suc n) depth (p ∷ path) choice s no
     in
     goes (next s p) refl runs
 
--- how far a search is after so many steps: its path leads to a node, and up to a choice there, which is no later than the one that is
--- next, if there is one, it has made so many
+-- The progress of a search after a number of steps: its path leads to a node, and it has made these
+-- steps up to a choice there, which is no later than the next one, if there is one.
 pub record HasSpent {S : Type 0} (next : S → ℕ → Option S) (choices : S → ℕ) (back : ℕ → ℕ) (budget steps more : ℕ) (path : List ℕ) (start now : S) (choice : Option ℕ) : Type 0 where
   pub deep : length path ≤ steps
   pub at : ℕ
@@ -212,7 +212,7 @@ spends-skipped next choices back budget steps more path choice start now runs be
       made = omega (arith, skipped, le, made);
     }
 
--- a choice is taken back, after which so many others are taken again
+-- a choice is taken back, after which this many others are run again
 pub spends-left : {S : Type 0} (next : S → ℕ → Option S) (choices : S → ℕ) (back : ℕ → ℕ) → ((x : S) (choice : ℕ) → choices x ≤ choice → next x choice ≡ None) →
     (budget steps more again total : ℕ) (path front : List ℕ) (last : ℕ) (start node now : S) (choice other : Option ℕ) →
     path ≡ front ++ last ∷ [] → after next path start ≡ Some node → after next front start ≡ Some now → steps < budget →
@@ -291,7 +291,7 @@ limit-least b c (suc k) =
     let f = ap (λ (x : ℕ). limit b c x) same in
     omega (arith, ih, e, f)
 
--- what it takes where schedules are short and choices are few
+-- how many steps it takes if schedules are short and choices are few
 pub work-bound : {S : Type 0} (next : S → ℕ → Option S) (choices : S → ℕ) (back : ℕ → ℕ) (b c most : ℕ) → ((depth : ℕ) → depth ≤ most → back depth ≤ b) →
     (d n depth : ℕ) (from : S) → depth + d ≤ most → AreShort next d from → HaveFew next choices c from →
     work next choices back n depth from < limit b c (d + 1)

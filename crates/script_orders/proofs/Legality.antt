@@ -39,7 +39,7 @@ and-parts false false h = cc
 
 -- a call ----------------------------------------------------------------------------------------------------------------
 
--- what with_call is, where it is one
+-- the value of with_call, if there is one
 can-of : (past new : Past) (p : Process) (call : Call) (given : List ℕ) → with_call past p call given ≡ Some new → (can_call past p call given ≡ true) × (new ≡ record_of_call past p call given ∷ past)
 can-of past new p call given step =
     let goes : (b : Bool) → can_call past p call given ≡ b → (if b then Some (record_of_call past p call given ∷ past) else None) ≡ Some new → (can_call past p call given ≡ true) × (new ≡ record_of_call past p call given ∷ past) =

@@ -1,4 +1,4 @@
--- Stages that are alike stay so by each choice.
+-- Equivalent stages remain equivalent under each choice.
 use Rattle.std.proofs.Common.{◌≡◌, ℕ, zero, suc, ◌+◌, ◌≤◌, ◌<◌, ◌==◌, Bool, true, false, ◌&&◌, ◌||◌, List, [], ◌∷◌, ◌++◌, length, Option, Some, None, is_some, is_none, slice_get, refl, ap, sym, ◌∙◌, subst, arith, if◌then◌else◌, Vec, nat_lt, not}
 use Rattle.std.specs.Option.{option_and_then, option_map}
 use Rattle.std.specs.declared.alloc.Global.{Global}

@@ -1,4 +1,4 @@
--- Who neither waits nor can go on has made all its lines up to the phase.
+-- A process that neither waits nor can take a step has made all its lines up to the phase.
 use Rattle.std.proofs.Common.{◌≡◌, ℕ, zero, suc, ◌+◌, ◌≤◌, ◌<◌, ◌==◌, ◌⊎◌, inl, inr, Bool, true, false, ◌&&◌, List, [], ◌∷◌, ◌++◌, length, map, Option, Some, None, is_some, slice_get, slice_set, refl, ap, sym, ◌∙◌, subst, arith, add-one, if◌then◌else◌, Vec, nat_le, nat_lt, not}
 use Rattle.std.specs.Prelude.{filter, ◌||◌}
 use Rattle.std.specs.Option.{option_and_then, option_map}
@@ -135,7 +135,8 @@ good-next k (z ∷ xs) zero x y g h next =
     subst P e (good-at z.phase xs zero y g.2 next).0
 good-next k (z ∷ xs) (suc i) x y g h next = good-next z.phase xs i x y g.2 h next
 
--- who can go on -----------------------------------------------------------------------------------------------------------
+-- processes that can take a step
+-- -------------------------------------------------------------------
 
 some-map : {A B : Type 0} (f : A → B) (o : Option A) → is_some o ≡ true → is_some (option_map f o) ≡ true
 some-map f None h = cc
@@ -154,7 +155,7 @@ GoodProgram program = Good 0 (map plan_of program.items)
 planned-at : (program : Vec Planned Global) (i : ℕ) (planned : Planned) → slice_get program.items i ≡ Some planned → slice_get (map plan_of program.items) i ≡ Some (plan_of planned)
 planned-at program i planned has = slice_get-map plan_of program.items i ∙ ap (λ (o : Option Planned). option_map plan_of o) has
 
--- who does not wait, and whose next line is of the phase, can go on
+-- a process that does not wait, and whose next line is in the phase, can take a step
 line-goes : (past : Past) (phase : ℕ) (p : Process) (progress : Progress) (program : Vec Planned Global) (planned : Planned) → (1 ≤ p) × (p ≤ 32) → GoodProgram program → open_wait past p ≡ None → slice_get program.items progress.begun ≡ Some planned → planned.phase ≡ phase → is_some (after_turn past phase p progress program) ≡ true
 line-goes past phase p progress program planned bounds good free has is =
     let collects : Option Turned = option_map (turned 0 progress) (after_call (scene_of past progress) p Collect []) in
@@ -295,7 +296,7 @@ none-turns s n i below h =
     in
     goes (is_some (turn_of s i)) refl
 
--- who neither waits nor can go on: its next line is of a later phase
+-- the next line of a process that neither waits nor can take a step is in a later phase
 later-line : (s : Stage) (i : ℕ) (program : Vec Planned Global) (seat : Progress) (planned : Planned) → Holds s → slice_get s.programs i ≡ Some program → slice_get s.seats i ≡ Some seat → slice_get program.items seat.begun ≡ Some planned → is_some (turn_of s i) ≡ false → open_wait s.past (i + 1) ≡ None → s.phase < planned.phase
 later-line s i program seat planned holds has sits next stands free =
     let inside : i < length s.programs = slice_get_within s.programs i program has in

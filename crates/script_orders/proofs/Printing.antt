@@ -41,7 +41,7 @@ collect_by p None = reply_line p outcomes.Done []
 collect_by p (Some None) = reply_line p outcomes.Done []
 collect_by p (Some (Some m)) = said_by p (Some m)
 
--- what a wait came to is printed by what the entry that answered it sends
+-- what is printed for a wait depends on what the entry that answered it sends
 said-collect : (past : Past) (p : Process) (by : Place) → said_of_collect past p by ≡ collect_by p (at told past by)
 said-collect past p by =
     let sends : Option Record → Bool = λ o. unwrap_or (option_map (λ (r : Record). is_send r.entry.call) o) false in
@@ -67,7 +67,7 @@ said_of p Done m = reply_line p outcomes.Done []
 said_of p (Refused fault) m = reply_line p (outcomes.Refused fault) []
 said_of p _ m = []
 
--- a reply is printed by its shape and the message that it gives
+-- what is printed for a reply depends on its shape and its message
 said-shape : (past : Past) (p : Process) (reply : Reply) → is_collected reply ≡ false → said past p reply ≡ said_of p (shape reply) (message_given past reply)
 said-shape past p (Opened d created) not = refl
 said-shape past p (Queued n) not = refl

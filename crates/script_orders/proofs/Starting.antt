@@ -1,4 +1,4 @@
--- The calls of a legal journal, made anew.
+-- The calls of a legal journal, made again.
 use Rattle.std.proofs.Common.{◌≡◌, ℕ, ◌+◌, ◌==◌, ◌&&◌, Bool, true, false, List, [], ◌∷◌, length, None, Some, refl, ap, sym, ◌∙◌, subst, arith, eqb-true, if◌then◌else◌}
 use Rattle.std.specs.Prelude.{nat_le}
 use Rattle.std.specs.Cmp.Derive.{both_true}
@@ -35,7 +35,7 @@ payload-again NextNotice reply payload h = nil-of payload h
 payload-again Collect reply payload h = nil-of payload h
 payload-again (Withdraw now) reply payload h = nil-of payload h
 
--- the call of a legal record, made anew, leaves it
+-- the call of a legal record, made again, appends the same record
 pub made-again : (past : Past) (r : Record) → IsLegalNext past r → with_call past r.entry.process r.entry.call r.payload ≡ Some (r ∷ past)
 made-again past r legal =
     let p = r.entry.process in let call = r.entry.call in let reply : Reply = reply_to past p call r.payload in
@@ -52,7 +52,7 @@ made-again past r legal =
     in
     ap (λ (b : Bool). if b then Some (record_of_call past p call r.payload ∷ past) else None) can ∙ ap (λ (x : Record). Some (x ∷ past)) same
 
--- the call of a record of a legal journal, made anew on those before it
+-- the call of a record of a legal journal, made again after those before it
 pub goes-again : (past : Past) (k : ℕ) (r : Record) → Legal past → first (k + 1) past ≡ r ∷ first k past → with_call (first k past) r.entry.process r.entry.call r.payload ≡ Some (first (k + 1) past)
 goes-again past k r legal is =
     let both : Legal (r ∷ first k past) = rw is at (legal-first past (k + 1) legal) in

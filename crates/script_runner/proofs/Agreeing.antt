@@ -1,4 +1,4 @@
--- Processes that came in once more.
+-- Processes that acquired the lock once more.
 use Rattle.std.proofs.Common.{◌≡◌, ◌∙◌, ℕ, true, List, [], ◌∷◌, All, length, map, arith}
 use Rattle.std.specs.List.{AllZip, list_all}
 use Rattle.std.proofs.lemmas.List.Elements.{All-nil, All-cons}
@@ -27,7 +27,7 @@ Looks before after = Calls before after []
 pub look-made : (mq : LockId) (old new : List (Ticket Record)) → AllLook old new → All (λ process. process.lock ≡ mq) old → All (λ process. process.lock ≡ mq) new
 look-made mq old new looked made = zip-all Looks (IsOf mq) (IsOf mq) (λ a b looks of. looks.lock ∙ of) old new looked made
 
--- one look after another
+-- one poll after another
 pub looks-later : (old mid new : List (Ticket Record)) → AllLook old mid → AllLook mid new → AllLook old new
 looks-later old mid new first later = zip-then Looks Looks Looks (λ a b c one two. calls-later one two) old mid new first later
 
@@ -50,7 +50,7 @@ met-count old new met = AllZip-long (FindsLength met.n) old new met.found
 pub found-looks : (n : ℕ) (old new : List (Ticket Record)) → AllZip (FindsLength n) old new → AllLook old new
 found-looks n old new found = zip-weaker (FindsLength n) Looks (λ a b finds. finds.calls) old new found
 
--- the same after a look
+-- the same after a poll
 pub stand-later : (blocked : List ℕ) (old mid new : List (Ticket Record)) → AllLook old mid → MeetBlocked blocked mid new → MeetBlocked blocked old new
 stand-later blocked old mid new first m = grind (arith, calls-later, zip-then)
 

@@ -1,4 +1,4 @@
--- Sends and receives, with a deadline or without: what they leave in one stay.
+-- Sends and receives, with and without a deadline: their effect in one critical section.
 use Rattle.std.proofs.Common.{arith, ◌≡◌, ℕ, List, true, refl, Option, Some, Result, Ok, Err, Bool, ◌⊎◌, inl}
 use Rattle.fast_mutex.specs.Items.{Ticket}
 use Rattle.mq_model.specs.Messages.{is_receive, is_send}
@@ -13,7 +13,7 @@ use Rattle.script_runner.specs.Runs.{Receives, Sends, Shows}
 use Rattle.script_text.specs.declared.reply.Outcome.{Outcome}
 use Rattle.script_text.specs.declared.reply.Outcome.TheVariants as outcomes
 
--- what the first stay of a send leaves, and of a receive
+-- the effect of the first critical section of a send, and of a receive
 pub send-starts : {old new : Ticket Record} (call : Call) (given before after : List ℕ) {returned : Result Bool Fault} → is_send call ≡ true → IsCall send_kind.says old new call given before after returned → OneCall start_send_says old new call given returned
 send-starts = grind arith
 
@@ -33,7 +33,7 @@ receive-done {new = new} {received = received} start = record { result = Ok rece
 pub receive-refused : {old new : Ticket Record} {call : Call} {before after : List ℕ} {fault : Fault} → ReceiveCall start_receive_says old new call before after (Err fault) → Shows outcomes.Got (Receives old new call before after) (outcomes.Refused fault)
 receive-refused {new = new} {fault = fault} start = record { result = Err fault; called = inl (record { reply = start.reply; calls = start.calls; found = start.found; says_so = grind arith; buffer = start.buffer }); outcome = refl }
 
--- those with a deadline, at the moment of the clock
+-- those with a deadline, at the time of the clock
 pub or-more : {A B C : Type 0} → A ⊎ B → A ⊎ B ⊎ C
 or-more = grind arith
 

@@ -9,7 +9,7 @@ use Rattle.mq_model.specs.Record.{Past, Record}
 author-low : (past : Past) (r : Record) → IsLegalNext past r → 1 ≤ author r
 author-low past r legal = let both = legal.process in grind (arith, common_steps)
 
--- all of them are from 1 to n, where none is above n
+-- all of them are from 1 to n, if none is above n
 pub authors-within : (n : ℕ) (past : Past) → Legal past → All (λ (r : Record). r.entry.process ≤ n) past → All (λ (r : Record). (1 ≤ author r) × (author r ≤ n)) past
 authors-within n [] legal most = All-nil (λ (r : Record). (1 ≤ author r) × (author r ≤ n))
 authors-within n (r ∷ past) legal most =

@@ -10,7 +10,7 @@ use Rattle.script_text.specs.Script.{said_call}
 use Rattle.script_runner.specs.declared.turns.Turn.{Turn}
 use Rattle.script_runner.specs.declared.turns.Worked.{Worked}
 
--- what the first i items give, and one more
+-- the result for the first i items, and one more
 pub flat_map-more : {A B : Type 0} (f : A → List B) (xs : List A) (i : ℕ) (d : A) → i < length xs → flat_map f (take (i + 1) xs) ≡ flat_map f (take i xs) ++ f (get_or xs i d)
 flat_map-more f xs i d low = ap (flat_map f) (take_more xs i d low) ∙ sym (flat_map_more f [] (take i xs) (get_or xs i d))
 

@@ -1,4 +1,4 @@
--- Lists that stand side by side, item by item.
+-- Lists that are compared item by item.
 use Rattle.std.proofs.Common.{List, [], ◌∷◌, All}
 use Rattle.std.specs.List.{AllZip}
 use Rattle.std.proofs.lemmas.List.Elements.{All-nil, All-cons, All-head, All-tail}

@@ -1,4 +1,4 @@
--- Phases whose calls ended, or came to a stand.
+-- Phases whose calls ended, or that deadlocked.
 use Rattle.std.proofs.Common.{arith, ◌≡◌, ◌<◌, ◌+◌, ◌++◌, ◌∷◌, ◌∙◌, [], ℕ, List, All, ap, sym, get_or, length, map, subst, take, Result, IfErr, Option}
 use Rattle.std.specs.List.{AllByRecursion as ByRecursion, AllZip}
 use Rattle.std.proofs.lemmas.List.{length-map}
@@ -32,7 +32,7 @@ through shares workers ends none = absurd ends
 pub all-through : (shares : List (Share (Ticket Record))) (ended workers : List (Worked (Ticket Record))) → AllEnd shares ended → (workers ≡ ended) × (blocked_lines ended ≡ []) → AllWorkOff shares workers
 all-through shares ended workers ends settled = subst (λ ws. AllWorkOff shares ws) (sym settled.0) (through shares ended ends settled.1)
 
--- shares of these calls came to a stand: the phase did
+-- if shares of these calls deadlocked, so did the phase
 each-ends : (calls : List WrittenCall) (shares : List (Share (Ticket Record))) (ended : List (Worked (Ticket Record))) → AllEnd shares ended → ByRecursion (λ (share : Share (Ticket Record)). calls_in share.turns.items ≡ calls_of share.process.number calls) shares
     → AllZip (EndsPhase calls) (map (λ (share : Share (Ticket Record)). share.process) shares) ended
 each-ends calls [] [] ends dealt = tt

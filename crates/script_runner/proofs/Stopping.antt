@@ -1,4 +1,4 @@
--- The script that was read, and its phases and known bytes where a write failed.
+-- The script that was read, and its phases and known bytes if a write failed.
 use Rattle.std.proofs.Common.{◌≡◌, ◌<◌, ◌++◌, ℕ, List, ◌∷◌, length, get_or, take, drop, ap, sym, ◌∙◌, suc, subst, Ok, Option, Vec, Global, Bor}
 use Rattle.std.proofs.KnownBytes.{Appends-trans}
 use Rattle.std.proofs.Math.Seq.{drop-cons}
@@ -22,6 +22,6 @@ phases-split phases i d low =
     sym (take-append-drop i phases) ∙ ap (λ rest. take i phases ++ rest) (drop-cons phases i d low) in
     ap said_phases split ∙ map-append said (take i phases) (get_or phases i d ∷ drop (suc i) phases)
 
--- a whole text was written, and of the next a front part
+-- a whole text was written, and a prefix of the next
 pub appends-into : (a b c : Option (List ℕ)) (text next : List ℕ) → Appends a b text → AppendsTooLittle b c next → AppendsInto a c text next
 appends-into a b c text next whole part = (part.0, part.1, Appends-trans a b c text (take part.0 next) whole part.2)

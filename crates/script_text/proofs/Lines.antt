@@ -9,11 +9,11 @@ use Rattle.script_text.specs.Script.{lines_of, onto_first_line}
 abbrev pub is_feed : ℕ → Bool
 is_feed b = b == 10
 
--- a byte that is no feed, in front of a text whose first line is known
+-- a byte other than a line feed, before a text whose first line is known
 onto : (b : ℕ) (xs : List ℕ) (n : ℕ) → lines_of xs ≡ take (suc n) xs ∷ lines_of (drop (suc n) xs) → onto_first_line b (lines_of xs) ≡ take (suc (1 + n)) (b ∷ xs) ∷ lines_of (drop (suc (1 + n)) (b ∷ xs))
 onto b xs n first = let more : 1 + n ≡ suc n = omega arith in rw more (ap (onto_first_line b) first)
 
--- the first line is the text up to and with its first feed, or all of it
+-- the first line is the text up to its first line feed, which is included, or all of it
 pub lines_of-first : (b : ℕ) (bs : List ℕ) → lines_of (b ∷ bs) ≡ take (suc (position_or_len is_feed (b ∷ bs))) (b ∷ bs) ∷ lines_of (drop (suc (position_or_len is_feed (b ∷ bs))) (b ∷ bs))
 lines_of-first b [] = elim (cases_Bool (is_feed b)) [ inl feed ↦ rw feed | inr other ↦ rw other ]
 lines_of-first b (c ∷ cs) =
@@ -40,7 +40,7 @@ place_none n m none = elim (cases_Bool (ltb n m)) [
   | inr past ↦ ltb-false n m past
 ]
 
--- the first line, where a feed is found, and where there is none
+-- the first line, if a line feed is found, and if there is none
 pub lines_of-found : (text : List ℕ) (at : ℕ) → position is_feed text ≡ Some at → lines_of text ≡ take (at + 1) text ∷ lines_of (drop (at + 1) text)
 lines_of-found text at found =
     let place = place_found (position_or_len is_feed text) (length text) at found in

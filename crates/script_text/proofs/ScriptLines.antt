@@ -1,4 +1,4 @@
--- One line of a script, and what is after it.
+-- One line of a script, and what follows it.
 use Rattle.std.proofs.Common.{◌≡◌, ◌+◌, ℕ, List, ◌∷◌, refl, ap, sym, ◌∙◌, Option, Some, None, Result, Ok, Err}
 use Rattle.script_text.specs.ScriptFault.{Fails}
 use Rattle.script_text.specs.declared.fault.ScriptFault.{ScriptFault}
@@ -9,7 +9,7 @@ use Rattle.script_text.specs.declared.script.Phases.{Phases}
 use Rattle.script_text.specs.Phases.{whole_behind}
 use Rattle.script_text.specs.Script.{Written, WrittenCall, Whole, line_read, or_fault, processes_behind, result_map, script_read, with_line}
 
--- what no fault stopped was read
+-- what no error stopped was read
 read_some : {A : Type 0} (o : Option A) (n : ℕ) (x : A) → or_fault o n (λ read. Ok read) ≡ Ok x → o ≡ Some x
 read_some None n x gives = cc
 read_some (Some y) n x gives = cc
@@ -33,7 +33,7 @@ fails_on None n next g (BadCall k) fails = cc
 fails_on (Some read) n next g (BadCall k) fails = cc
 fails_on o n next g NoMemory fails = tt
 
--- a fault of the next line is the first one of the script
+-- an error in the next line is the first one of the script
 pub fails-line : (phases : Phases) (processes : Option ℕ) (at : Place) (bytes : List ℕ) (rest : List (List ℕ)) (fault : ScriptFault) → Fails fault (or_fault (line_read processes at bytes) (at.lines + 1) (λ read. Ok read)) → Fails fault (result_map (whole_behind phases) (script_read processes at (bytes ∷ rest)))
 fails-line phases processes at bytes rest fault fails =
     fails_on (line_read processes at bytes) (at.lines + 1) (λ read. result_map (with_line read.0) (script_read (processes_behind read.0 processes) read.1 rest)) (whole_behind phases) fault fails

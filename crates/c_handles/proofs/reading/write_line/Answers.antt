@@ -5,7 +5,7 @@ use Rattle.std.proofs.lemmas.List.{length-take, take_min}
 use Rattle.mq_state.specs.Buffers.{with_front}
 use Rattle.c_handles.proofs.reading.write_line.Goals as goal
 
--- as much of the line as the buffer has room for is its front
+-- as much of the line as fits into the buffer is a prefix of it
 front-written : (line before front : List ℕ) (count : ℕ) → count ≡ min (length line) (length before) → front ≡ take count line → front ++ drop count before ≡ with_front (take (length before) line) before
 unfolding with_front
 front-written line before front count least is =

@@ -3,7 +3,8 @@ use Rattle.exploration.specs.Shown.{IsOpen, Possible, Shows, runs_left}
 use Rattle.exploration.specs.declared.operation.Choice.{Choice}
 use Rattle.exploration.proofs.search.add_nodes.Given as goal
 
--- the choices before the step are possible, the steps from it on show what could be chosen, and the nodes so far leave so many runs
+-- The choices before the step are possible, the steps from it on show which choices were, and the
+-- nodes so far leave this many runs.
 abbrev pub invariant-loop-step : goal.invariant-loop-step
 invariant-loop-step l = record {
   count : length l.prefix.items ≡ l.step-index;

@@ -6,7 +6,7 @@ use Rattle.history_judge.specs.Text.{history_text}
 use Rattle.journal_format.specs.declared.lines.TheConstants.{CHUNK}
 use Rattle.history_judge.proofs.input.read_input.Given as goal
 
--- the text of what was read, and the line that lacks its feed
+-- the text of what was read, and the line that lacks its line feed
 abbrev pub invariant-lines : goal.invariant-lines
 invariant-lines g l = record {
   fits : AllFit l.calls.items;

@@ -5,7 +5,7 @@ use Rattle.journal_format.specs.Text.{has_feed, journal_text}
 use Rattle.journal_format.specs.declared.lines.TheConstants.{CHUNK}
 use Rattle.journal_format.proofs.input.read_input.Given as goal
 
--- the text of what was read, and the line that lacks its feed
+-- the text of what was read, and the line that lacks its line feed
 abbrev pub invariant-lines : goal.invariant-lines
 invariant-lines g l = record {
   fits : AllFit l.journal.records;

@@ -12,7 +12,7 @@ use Rattle.journal_page.specs.declared.view.Unviewed.TheVariants.{Unread}
 use Rattle.journal_page.specs.declared.view.Viewed.{Viewed}
 use Rattle.journal_page.proofs.view.view_journal.Goals as goal
 
--- the fault of a journal that was not read is that of the reading
+-- the error of a journal that was not read is that of the reading
 unread : (fault other : JournalFault) → ◌≡◌ {A = Result Viewed Unviewed} (Err (Unread fault)) (Err (Unread other)) → ◌≡◌ {A = Result Journal JournalFault} (Err fault) (Err other)
 unread fault other same = cc
 

@@ -9,7 +9,7 @@ use Rattle.mq_model.specs.declared.journals.Journal.{Journal}
 use Rattle.journal_tasks.proofs.Naming.{named_line}
 use Rattle.journal_tasks.proofs.draw.draw_journal.Goals as goal
 
--- reading the journal comes to no output fault
+-- reading the journal cannot fail with an output error
 journal-no_output : (fault : JournalFault) → Output ≡ of_journal_fault fault → ⊥
 journal-no_output (journal.BadLine line) is = cc
 journal-no_output journal.Input is = cc

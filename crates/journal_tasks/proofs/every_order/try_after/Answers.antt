@@ -7,7 +7,7 @@ use Rattle.journal_tasks.specs.declared.every_order.Ending.{Ending}
 use Rattle.journal_tasks.specs.declared.start.NoStart.{NoStart}
 use Rattle.journal_tasks.proofs.every_order.try_after.Goals as goal
 
--- the same fault of a result of another type
+-- the same error in a result of another type
 fault-alike : (A B : Type 0) {E : Type 0} (x y : E) → ◌≡◌ {A = Result A E} (Err x) (Err y) → ◌≡◌ {A = Result B E} (Err x) (Err y)
 fault-alike A B x y same = let is : x ≡ y = cc in ap (λ e. Err e) is
 

@@ -50,7 +50,7 @@ returns-clause-done g c = λ all script known written.
     let P : Whole → Type 0 = λ s. OnOk c.run_recorded.result (RecordsHistory s (g.W.Write.contents c.args.output.now) (g.W.Write.contents c.run_recorded.new.output)) in
     subst P same c.run_recorded.ensures.done
 
--- nor an output fault
+-- nor an output error
 read-no_output : (fault : ReadFault) → Output ≡ of_read_fault fault → ⊥
 read-no_output read.Failed is = cc
 read-no_output read.NoMemory is = cc

@@ -7,8 +7,8 @@ use Rattle.schedules.proofs.Collecting.{is_new_goal}
 use Rattle.schedules.proofs.Working.{HasSpent}
 use Rattle.schedules.proofs.outcomes.collect.Given as goal
 
--- where the search stands, what is told of each goal behind it was found, and so was what is told of each goal ahead of a state with a
--- key that was noted. So many steps were made for it
+-- At the position of the search, the outcome of each goal before it was found, and so was that of
+-- each goal after a state whose key was noted. It has made this many steps.
 abbrev pub invariant-loop : goal.invariant-loop
 invariant-loop g l = record {
   stands :

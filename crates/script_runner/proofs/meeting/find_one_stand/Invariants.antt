@@ -2,7 +2,7 @@ use Rattle.std.proofs.Common.{◌≡◌, true}
 use Rattle.script_runner.specs.Meeting.{AllLook, MeetBlocked}
 use Rattle.script_runner.proofs.meeting.find_one_stand.Given as goal
 
--- the last question, and whether all were told the same
+-- the last question, and whether all got the same answer
 abbrev pub invariant-questions : goal.invariant-questions
 invariant-questions g l = record {
   can : (goal.iterator-questions g).can_next l.iterator';

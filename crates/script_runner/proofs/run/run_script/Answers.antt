@@ -8,7 +8,7 @@ use Rattle.script_runner.specs.declared.fault.RunFault.TheVariants.{Deadlock, Ou
 use Rattle.script_runner.proofs.Stopping.{of-script}
 use Rattle.script_runner.proofs.run.run_script.Goals as goal
 
--- reading the script comes to no output fault
+-- reading the script cannot fail with an output error
 read-no_output : (fault : ReadFault) → Output ≡ of_read_fault fault → ⊥
 read-no_output = grind arith
 

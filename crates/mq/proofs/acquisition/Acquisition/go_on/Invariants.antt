@@ -1,7 +1,8 @@
 use Rattle.std.proofs.Common.{◌≡◌, ◌≤◌, ◌+◌}
 use Rattle.mq.proofs.acquisition.Acquisition.go_on.Given as goal
 
--- the walk is that of the process that set out, and has made no more accesses than there were steps
+-- the acquisition is that of the process that started it, and has made no more accesses than there
+-- were steps
 abbrev pub invariant-steps : goal.invariant-steps
 invariant-steps g l = record {
   same : g.L.Lock.walking l.walk ≡ g.L.Lock.walking l.initial.walk;

@@ -1,7 +1,7 @@
 use Rattle.std.proofs.Common.{◌≡◌}
 use Rattle.mq.proofs.process.Process.await_outcome.Given as goal
 
--- the process is as it was, but for what looks told it
+-- the process is unchanged, except for what polls told it
 abbrev pub invariant-looks : goal.invariant-looks
 invariant-looks g l = record {
   can : (goal.iterator-looks g).can_next l.iterator';
