@@ -154,8 +154,8 @@ fn depends_on_more(kind: Kind) -> bool {
     }
 }
 
-/// The cost of letting a thread go on: 1 if it preempts a thread that can go on, or if its deadline
-/// passes although some thread can go on; else 0.
+/// The cost of letting a thread go on: 1 if it preempts a thread that can go on and does not yield,
+/// or if its deadline passes although some thread can go on; else 0.
 pub fn cost(parked: &[Parked], last: u32, thread: u32) -> u32 {
     let can = |it: &Parked| matches!(it.ability, Ability::Can);
     let takes = thread != last

@@ -41,7 +41,7 @@ pub trait Enter<S: Logged>: Lock<S> {
             ((Self.ticket seat).number ≤ (Self.id self.now).count) };
 
     /// Wakes the threads that sleep until this process releases the lock, and those whose waits its
-    /// last critical section answered. If nobody sleeps, it is a load or two. A thread that is not
+    /// last critical section answered. If nobody sleeps, it is a few loads. A thread that is not
     /// woken polls again after some milliseconds.
     fn wake(&self, seat: &Self::Seat);
 }

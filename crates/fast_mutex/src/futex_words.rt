@@ -127,7 +127,7 @@ impl FutexWords {
     }
 
     /// Wakes one thread that sleeps until this process releases the lock, and the threads of the
-    /// processes whose waits it answered. If nobody sleeps, it is one load.
+    /// processes whose waits it answered. If nobody sleeps and it answered no wait, it is one load.
     #[inline(always)]
     pub(crate) fn wake_after(&self, process: u32, answered: u32) {
         if self.sleepers.load(SeqCst) != 0 {
