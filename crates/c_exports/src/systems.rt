@@ -71,8 +71,8 @@ pub extern "C" fn yak_resume(
     resuming::resume(alloc, processes, None, text, line)
 }
 
-/// The same with bounds, as `yak_bounded`, which hold for the whole journal. Also `JOURNALFULL` if it is too long for them, with the entries
-/// that end its open waits.
+/// The same with bounds, as `yak_bounded`, which hold for the whole journal. It also fails with
+/// `JOURNALFULL` if the journal, with the entries that end its open waits, is too long for them.
 #[unsafe(no_mangle)]
 pub extern "C" fn yak_resume_bounded(
     alloc: Global,

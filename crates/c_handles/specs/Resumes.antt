@@ -39,21 +39,23 @@ pub record TextIsNoStart (n : ℕ) (text : List ℕ) (line code : ℕ) : Type 0 
   pub of_text : IsTextOf past text
   pub no_start : IsNoStart n past line code
 
--- the journal of a text, with the entries that end its open waits, exceeds the bounds
+-- the journal with this text, with the entries that end its open waits, exceeds the bounds
 pub record TextIsTooLong (bounds : Option Bounds) (text : List ℕ) : Type 0 where
   pub past : Past
   pub of_text : IsTextOf past text
   pub too_long : is_too_long bounds past ≡ true
 
--- why no system with these bounds goes on from this text in these handles, with the line before and after: memory was refused, 11, the
--- journal is too long for the bounds, 13, a line of it is not that of an entry, 29, or another reason
+-- Why no system with these bounds can continue from this text in these handles, with the line
+-- number before and after: memory was refused, 11, the journal is too long for the bounds, 13, a
+-- line is not that of an entry, 29, or another reason.
 abbrev pub IsRefused : Option Bounds → List ℕ → List Handle → ℕ → ℕ → ℕ → Type 0
 IsRefused bounds text handles line after code =
     (HasNoPlace handles code × (after ≡ line)) ⊎ ((code ≡ 11) × (after ≡ line))
     ⊎ ((code ≡ 13) × (after ≡ line) × TextIsTooLong bounds text) ⊎ ((code ≡ 29) × StopsAt after text)
     ⊎ TextIsNoStart (length handles) text after code
 
--- a system with these bounds was made that begins with a journal that is what this says of the one whose text it is
+-- A system with these bounds was made that starts with a journal. `begins` relates that journal to
+-- the one whose text was given.
 pub record GoesOn (begins : Past → Past → Type 0) (bounds : Option Bounds) (text : List ℕ) (old new : List Handle) (code : ℕ) : Type 0 where
   pub written : Past
   pub of_text : IsTextOf written text

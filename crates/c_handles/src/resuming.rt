@@ -22,8 +22,9 @@ use mq_state::replay::Misfit;
 use mq_state::rewriting::Unwritten;
 use std::alloc::{AllocError, Global};
 
-/// Makes a system as [`new`](crate::system::new) that goes on from the journal whose text this is, as if its calls had been made on the
-/// system, within bounds if there are any. If the journal is refused, the line is written that is the reason.
+/// Makes a system as [`new`](crate::system::new) does that continues from the journal with this
+/// text, as if its calls had been made on the system, with bounds if there are any. If the journal
+/// cannot be used because of a line, writes the number of that line.
 pub fn resume(
     alloc: Global,
     processes: &mut [Handle],
@@ -40,8 +41,9 @@ pub fn resume(
     }
 }
 
-/// The same without bounds, with a short journal in place of this one, after which the queues reply alike. If a wait is answered and not collected, it
-/// begins with the journal itself.
+/// The same without bounds, and with a short journal in place of this one, after which the queues
+/// reply in the same way. If a wait is answered and not collected, the system continues from the
+/// journal itself.
 pub fn resume_short(alloc: Global, processes: &mut [Handle], text: &[u8], line: &mut u64) -> u32
     ensures { Resumes Equivalent None text.now processes.old processes.new line.old line.new
         result }

@@ -70,7 +70,8 @@ abbrev pub HasRoomWithin : Option Bounds → Shown → Type 0
 HasRoomWithin None j = Unit {0}
 HasRoomWithin (Some b) j = (b.entries ≤ length j.records + j.entry_room) × (b.bytes ≤ payload_bytes j.records + j.byte_room)
 
--- room for so many more entries and payload bytes is all that the bounds allow after these records
+-- room for this many further entries and payload bytes is all that the bounds allow after these
+-- records
 abbrev pub IsRoomWithin : Option Bounds → Past → ℕ → ℕ → Type 0
 IsRoomWithin None past entries bytes = Unit {0}
 IsRoomWithin (Some b) past entries bytes = (b.entries ≤ length past + entries) × (b.bytes ≤ payload_bytes past + bytes)

@@ -37,7 +37,7 @@ pub record IsDeparture (past : Past) (d : Departure) : Type 0 where
 abbrev pub is_too_long : Option Bounds → Past → Bool
 is_too_long bounds past = exceeds bounds (length past + open_waits past) (payload_bytes past)
 
--- why no queues of n processes with these bounds go on from these records
+-- why queues of n processes with these bounds cannot continue from these records
 abbrev pub IsMisfit : Past → ℕ → Option Bounds → Misfit → Type 0
 IsMisfit past n bounds NoMemory = Unit {0}
 IsMisfit past n bounds (Illegal d) = IsDeparture past d

@@ -170,8 +170,9 @@ impl Books {
         Books::resume_within(alloc, n, None, journal)
     }
 
-    /// The same within bounds, if there are any. They hold for the whole journal: its entries, those that end its open waits, and those of
-    /// later calls. A journal that is too long for them is refused too. All the memory that later calls could need is taken here.
+    /// The same with bounds, if there are any. They hold for the whole journal: its entries, those
+    /// that end its open waits, and those of later calls. It also fails if the journal is too long
+    /// for the bounds. It takes all the memory that later calls need within the bounds.
     pub fn resume_within(
         alloc: Global,
         n: u32,
@@ -572,7 +573,7 @@ impl Books {
     }
 }
 
-// The queues of n processes that nobody called yet. Their journal has no room.
+// The queues of n processes before any call. There is no room in their journal yet.
 fn empty_inner(alloc: Global, n: u32, bounds: Option<Bounds>) -> Result<Box<Inner>, AllocError>
     requires { (1 ≤ n) × (n ≤ 32) }
     ensures tables { IfOk result (λ s. AreThoseOf [] s.value.tables) }

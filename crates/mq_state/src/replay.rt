@@ -97,7 +97,8 @@ pub fn replay(alloc: Global, journal: &Journal) -> Result<Option<Departure>, All
     Ok(None)
 }
 
-// Notes all entries of a journal in the tables of an empty one. It reports no journal that is too long for the bounds.
+// Updates the tables of an empty journal for all entries of a journal. It does not check whether
+// the journal is too long for the bounds.
 pub(crate) fn follow_all(tables: &mut Tables, journal: &Journal) -> Result<(), Misfit>
     requires empty { AreThoseOf [] tables.old }
     requires pool { IsPooled None tables.old }

@@ -1,4 +1,4 @@
-//! Tells a person at a terminal that a search goes on.
+//! Tells a person at a terminal that a search is still running.
 use std::fs;
 use std::io::Eprint;
 use std::os::unix::fs::{FileTypeExt, MetadataExt};
@@ -9,10 +9,11 @@ use std::sync::atomic::Ordering::SeqCst;
 use std::thread::{Threads, join};
 use std::time::{Clock, Duration, Instant};
 
-// When the first line comes, in seconds. Each later line comes after twice as many.
+// When the first line is written, in seconds. Each further line comes after twice as many.
 const FIRST: u64 = 2;
 
-/// Makes a search. If the standard error is a terminal, a line there says so when the search has taken 2 seconds, 4, 8, and so on.
+/// Makes a search. If standard error is a terminal, writes a line there when the search has taken 2
+/// seconds, 4, 8, and so on.
 pub fn with_progress<R: Eprint + Files + Clock + Threads + Wait + Sync, T, F: FnOnce() -> T>(
     rt: &R,
     task: &str,
@@ -38,7 +39,7 @@ pub fn with_progress<R: Eprint + Files + Clock + Threads + Wait + Sync, T, F: Fn
     result
 }
 
-// Writes the lines, until the search is over.
+// Writes the lines until the search is over.
 fn tell<R: Eprint + Clock + Wait>(rt: &R, task: &str, is_over: &AtomicU64) {
     let Ok(start) = Instant::now(rt) else {
         return;
@@ -63,8 +64,8 @@ fn tell<R: Eprint + Clock + Wait>(rt: &R, task: &str, is_over: &AtomicU64) {
     }
 }
 
-// Whether the standard error is a terminal: a character device of one of the major numbers that Linux gives to consoles, serial lines and
-// pseudoterminals.
+// Whether standard error is a terminal: a character device with a major number that Linux gives to
+// consoles, serial lines and pseudoterminals.
 fn is_terminal(rt: &impl Files) -> bool {
     let Ok(at) = fs::metadata(rt, "/proc/self/fd/2") else {
         return false;

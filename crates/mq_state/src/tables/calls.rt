@@ -169,7 +169,7 @@ impl Tables {
         self.note_waiting(moved);
     }
 
-    // Makes the room that the next entry of a journal needs, and notes it with its payload.
+    // Makes the room that the next entry of a journal needs, and updates the tables for it.
     pub(crate) fn follow(
         &mut self,
         journal: &Prefix<'_>,

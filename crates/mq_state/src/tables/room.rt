@@ -40,8 +40,9 @@ impl Tables {
         true
     }
 
-    /// The room, in entries and payload bytes, that a journal needs to go on: for the entries that end the open waits, and for all that
-    /// the bounds still allow. `None` if the journal is too long for the bounds.
+    /// The room, in entries and payload bytes, that a journal needs for a system to continue from
+    /// it: for the entries that end the open waits, and for everything that the bounds still allow.
+    /// `None` if the journal is too long for the bounds.
     pub fn room_to_go_on(&self, journal: &Journal) -> Option<(usize, usize)>
         requires tables { AreThoseOf journal.now.records self.now }
         requires processes { AreAtMost self.now.n journal.now.records }
