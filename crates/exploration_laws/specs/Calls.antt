@@ -10,22 +10,22 @@ use Rattle.exploration.specs.Dependence.{is_receive, is_send, is_wait}
 use Rattle.exploration.specs.declared.deed.Deed.{Deed}
 use Rattle.exploration.specs.declared.deed.Effect.{Effect}
 
--- a send that queues a message of the effect's priority, on a queue with nobody registered, or that
--- has not just one message
+-- a send that queues a message of the effect's priority, on a queue without a registration or on
+-- one whose number of messages is not one
 pub record IsSend (past : Past) (a : Request) (effect : Effect) : Type 0 where
   pub call : messages.is_send a.call ≡ true
   pub queued : reply_of past a ≡ Queued None
   pub urgency : messages.priority_given a.call ≡ effect.priority
   pub unregistered : stays_filled past (queue_touched past a) ≡ true
 
--- a receive that gets a message of the effect's priority, and lets no send go on
+-- a receive that gets a message of the effect's priority, and admits no send
 pub record IsReceive (past : Past) (a : Request) (effect : Effect) : Type 0 where
   pub message : ℕ
   pub got : reply_of past a ≡ Got message None None
   pub urgency : messages.priority past message ≡ effect.priority
 
--- the step makes the call: its effect is on the object of the queue that the call touches; it only
--- looks if the call only reads; and it is no half of a wait on a condition
+-- The step makes the call. Its effect is on the object of the queue that the call is about, it only
+-- reads if the call only reads, and it is not a half of a wait on a condition variable.
 pub record IsCall (past : Past) (object : Queue → ℕ) (a : Request) (d : Deed) : Type 0 where
   pub effect : Effect
   pub among : Contains d.effects.items effect
@@ -35,6 +35,6 @@ pub record IsCall (past : Past) (object : Queue → ℕ) (a : Request) (d : Deed
   pub receives : is_receive effect.kind ≡ true → effect.looks ≡ false → IsReceive past a effect
   pub waits : is_wait effect.kind ≡ false
 
--- calls of one process are made by one thread
+-- one thread makes the calls of one process
 pub record OwnThreads (a b : Request) (d e : Deed) : Type 0 where
   pub own : a.process ≡ b.process → d.choice.thread ≡ e.choice.thread

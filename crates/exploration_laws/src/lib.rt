@@ -1,4 +1,4 @@
-//! What the test of independence of an exploration rests on: the definitions of the queues. The law
+//! The test of independence in an exploration is sound for the definitions of the queues. The law
 //! is a function that does nothing: its contract is the law.
 #![tactic(auto)]
 
@@ -12,12 +12,14 @@ ghost use Rattle.exploration.specs.Dependence.{are_independent};
 ghost use Rattle.exploration.specs.declared.deed.Deed.{Deed};
 ghost use Rattle.exploration_laws.specs.Calls.{IsCall, OwnThreads};
 
-/// Two steps that make calls of the queues, and that an exploration treats as independent, commute:
-/// after a legal journal where each call may be made, each may be made after the other, has the
-/// reply that it has without the other but for places, and both orders leave equivalent journals.
-/// It covers all calls but `mq_open`, `mq_unlink` and the withdrawal of a wait, if the two don't
-/// change the notices of one process; and of sends and receives those that are done at once, on a
-/// queue with nobody registered. It does not cover calls that are refused.
+/// Two steps that make calls of the queues, and that an exploration treats as independent, commute.
+/// After a legal journal in which each call may be made, each may be made after the other and has
+/// the same reply as without the other up to sequence numbers, and both orders leave equivalent
+/// journals.
+///
+/// The law covers all calls except `mq_open`, `mq_unlink` and the withdrawal of a wait, if the two
+/// do not change the notices of the same process. Of sends and receives it covers those that are
+/// done at once, on a queue without a registration. It does not cover calls that fail.
 pub fn independent_steps_commute()
     ensures { (past : Past) (object : Queue → ℕ) (a b : Request) (d e : Deed) → Legal past →
         IsLegalNext past (record_for past a) → IsLegalNext past (record_for past b) →

@@ -1,24 +1,25 @@
--- What it is for the machine to make progress: words about schedules, from any world.
+-- What it means that the machine makes progress: definitions about schedules, from any world.
 use Rattle.std.specs.Prelude.{◌≡◌, ◌≢◌, ℕ, zero, suc, ◌+◌, ◌*◌, ◌≤◌, ◌⊎◌, List, [], ◌∷◌, length}
 use Rattle.std.specs.List.{All, Contains, concat}
 use Rattle.lamport_core.specs.State.{State, Reach, IsInside, IsProcess, IsSchedule, point_of, process_count, next, run}
 use Rattle.lamport_core.specs.declared.At.{At}
 use Rattle.lamport_core.specs.declared.At.TheVariants.{Rest, AwaitY, SlowAwait, TestX, SlowB, Scan, SlowY, Fast, Slow, Leaving}
 
--- some process is inside
+-- some process is in its critical section
 abbrev pub IsOccupied : State → Type 0
 IsOccupied w = (i : ℕ) × IsInside w i
 
--- some process is inside at some moment of the schedule: in w, or after one of the steps
+-- some process is in its critical section at some time of the schedule: in w, or after one of the
+-- steps
 abbrev pub LeadsInside : State → List ℕ → Type 0
 LeadsInside w [] = IsOccupied w
 LeadsInside w (i ∷ is) = IsOccupied w ⊎ LeadsInside (next w i) is
 
--- the next step of process i leads it inside
+-- the next step of process i takes it into its critical section
 abbrev pub IsEntry : State → ℕ → Type 0
 IsEntry w i = (IsInside w i → ⊥) × IsInside (next w i) i
 
--- some step of the schedule leads its process inside
+-- some step of the schedule takes its process into its critical section
 abbrev pub Enters : State → List ℕ → Type 0
 Enters w [] = ⊥
 Enters w (i ∷ is) = IsEntry w i ⊎ Enters (next w i) is
@@ -38,7 +39,7 @@ pub record EnabledProcess (w : State) : Type 0 where
   pub started : point_of w process ≢ Rest
   pub enabled : IsEnabled w process
 
--- the point of a process in its entry, which has begun and has not yet led inside
+-- the point of a process in its entry: it has begun, and is not yet in its critical section
 abbrev pub IsEntering : At → Type 0
 IsEntering Rest = ⊥
 IsEntering Fast = ⊥
@@ -62,7 +63,7 @@ abbrev pub round_robin : ℕ → List ℕ
 round_robin zero = []
 round_robin (suc k) = suc k ∷ round_robin k
 
--- process p is not inside at any moment of the schedule
+-- process p is not in its critical section at any time of the schedule
 abbrev pub StaysOut : ℕ → State → List ℕ → Type 0
 StaysOut p w [] = IsInside w p → ⊥
 StaysOut p w (i ∷ is) = (IsInside w p → ⊥) × StaysOut p (next w i) is
@@ -80,7 +81,7 @@ pub record Starves (n p k : ℕ) : Type 0 where
   pub outside : StaysOut p world (concat rounds)
 
 -- k fair rounds of n processes from a reachable world, with some process in its entry, in which no
--- process enters
+-- process enters its critical section
 pub record Delays (n k : ℕ) : Type 0 where
   pub world : State
   pub reach : Reach n world
@@ -91,11 +92,12 @@ pub record Delays (n k : ℕ) : Type 0 where
   pub fair : AreFairRounds n world rounds
   pub none : Enters world (concat rounds) → ⊥
 
--- while nobody is inside, n processes can take at most this many steps that change the world
+-- while no process is in its critical section, n processes can take at most this many steps that
+-- change the world
 abbrev pub work_bound : ℕ → ℕ
 work_bound n = n * (2 * n + 11)
 
--- in this many fair rounds of n processes some process enters
+-- in this many fair rounds of n processes some process enters its critical section
 abbrev pub round_bound : ℕ → ℕ
 round_bound n = 6 * n + 5
 
@@ -109,17 +111,17 @@ HasSetY Fast = Unit {0}
 HasSetY Slow = Unit {0}
 HasSetY _ = ⊥
 
--- if y is not 0, the process that y names is at such a point
+-- if y is not 0, the process whose number is in y is at such a point
 abbrev pub IsOwned : State → Type 0
 IsOwned w = w.y ≢ 0 → HasSetY (point_of w w.y)
 
--- steps of n processes that lead from w to a world with some process inside
+-- steps of n processes that lead from w to a world with some process in its critical section
 pub record IsWayInside (n : ℕ) (w : State) (steps : List ℕ) : Type 0 where
   pub processes : IsSchedule n steps
   pub bounded : length steps ≤ work_bound n
   pub inside : IsOccupied (run w steps)
 
--- steps of n processes that lead process i inside
+-- steps of n processes that take process i into its critical section
 pub record CanEnter (n : ℕ) (w : State) (i : ℕ) : Type 0 where
   pub steps : List ℕ
   pub processes : IsSchedule n steps
@@ -131,7 +133,7 @@ NeedsNoFreeY y AwaitY = y ≡ 0
 NeedsNoFreeY y SlowAwait = y ≡ 0
 NeedsNoFreeY y _ = Unit {0}
 
--- a process that waits for nothing but a flag, if it waits at all
+-- a process that waits for nothing but a flag, if it waits
 pub record IsLeader (w : State) (i : ℕ) : Type 0 where
   pub process : IsProcess (process_count w) i
   pub free : NeedsNoFreeY w.y (point_of w i)

@@ -1,11 +1,11 @@
 //! Progress of Lamport's Algorithm 2, as the pure machine of `lamport_core`: it is free of deadlock
-//! and of livelock, for every number of processes and every schedule, and a single process may
+//! and of livelock, for every number of processes and every schedule, while a single process may
 //! starve.
 //!
 //! A process *waits* if its next step leaves the world unchanged. In a *fair round* each process
 //! that neither rests nor waits when the round begins takes a step. `deadlock_freedom`,
-//! `fair_rounds` and `starvation` do nothing: the clauses of each are its theorems. Nothing here
-//! says that a thread is scheduled.
+//! `fair_rounds` and `starvation` do nothing: their clauses are the theorems. There is no guarantee
+//! that a thread is scheduled.
 #![tactic(auto)]
 
 ghost use Rattle.std.specs.Prelude.{◌≡◌, ◌≢◌, ℕ, ◌-◌, ◌<◌, ◌≤◌, List, length, replicate, IfOk, true, false};
@@ -19,10 +19,10 @@ ghost use Rattle.lamport_progress.specs.Progress.{LeadsInside, NeverWaits, Enabl
 use lamport_core::{At, World};
 use std::alloc::{AllocError, Global};
 
-/// No reachable world is a dead end: unless all processes rest, one that does not rest can change
-/// the world. Under any schedule, steps that change the world lead some process inside once there
-/// are more of them than `work_bound`. So there is a way inside from each reachable world, and one
-/// for each process.
+/// No reachable world is a dead end: unless all processes are at rest, one that is not can change
+/// the world. Under any schedule with more than `work_bound` steps that change the world, some
+/// process enters its critical section. So from each reachable world some steps take a process into
+/// its critical section, and for each process some steps take that one there.
 pub fn deadlock_freedom()
     ensures no_dead_end { (n : ℕ) (w : State) (i : ℕ) → Reach n w → point_of w i ≢ Rest →
         EnabledProcess w }
@@ -35,9 +35,9 @@ pub fn deadlock_freedom()
         CanEnter n w i }
 {}
 
-/// If some process is in its entry, some process enters within `round_bound` fair rounds, whatever
-/// other processes do, also if one is inside at first. A round robin is a fair round. For two
-/// processes the bound is exact.
+/// If some process is in its entry, some process enters its critical section within `round_bound`
+/// fair rounds, whatever other processes do, even if one is inside at first. A round robin is a
+/// fair round. For two processes the bound is exact.
 pub fn fair_rounds()
     ensures enters { (n : ℕ) (w : State) (i : ℕ) (rounds : List (List ℕ)) → Reach n w →
         IsEntering (point_of w i) → AreFairRounds n w rounds → round_bound n ≤ length rounds →
@@ -47,14 +47,14 @@ pub fn fair_rounds()
     ensures exact_for_two { Delays 2 (round_bound 2 - 1) }
 {}
 
-/// A single process has no such bound: for every k, process 1 of two can stay out for k fair
-/// rounds, in each of which process 2 enters and leaves.
+/// There is no such bound for a single process: for every k, process 1 of two can stay out for k
+/// fair rounds, in each of which process 2 enters and leaves its critical section.
 pub fn starvation()
     ensures { (k : ℕ) → Starves 2 1 k }
 {}
 
-/// Steps that lead some process inside after this schedule of n processes. The error is lack of
-/// memory.
+/// Steps that take some process into its critical section after this schedule of n processes. Fails
+/// if memory was refused.
 pub fn way_inside(alloc: Global, n: u32, schedule: &[u32]) -> Result<Vec<u32>, AllocError>
     requires some { 1 ≤ n }
     requires processes { IsSchedule n schedule.now }
@@ -71,7 +71,7 @@ pub fn way_inside(alloc: Global, n: u32, schedule: &[u32]) -> Result<Vec<u32>, A
     Ok(steps)
 }
 
-// Whether some process is inside.
+// Whether some process is in its critical section.
 fn is_occupied(world: &World) -> bool
     ensures yes { result ≡ true → IsOccupied world.now.state }
     ensures no { result ≡ false → ¬ IsOccupied world.now.state }
@@ -82,7 +82,7 @@ fn is_occupied(world: &World) -> bool
     }
 }
 
-// The process that y names, or any process while y is 0.
+// The process whose number is in y, or any process while y is 0.
 fn find_leader(world: &World) -> u32
     requires some { 0 < count world.now }
     requires safe { IsSafe world.now.state }

@@ -1,4 +1,4 @@
--- Two calls that may be made in either order, to the same end.
+-- Two calls that may be made in either order, with the same effect.
 use Rattle.std.specs.Prelude.{◌≡◌, Bool, true, false, [], ◌∷◌}
 use Rattle.mq_model.specs.Record.{Record, Past}
 use Rattle.mq_model.specs.Legality.{IsLegalNext}
@@ -14,8 +14,8 @@ use Rattle.mq_commutation.specs.Independence.{reply_of}
 abbrev pub record_for : Past → Request → Record
 record_for past a = record_of past a.process a.call a.given
 
--- after a the call b may still be made, has the reply that it has without a but for places, and
--- gives its caller the same message, as a receive or as a collect
+-- After a the call b may still be made. It has the same reply as without a, up to sequence numbers,
+-- and gives its caller the same message, as a receive or as a collect.
 pub record Unaffected (past : Past) (a b : Request) : Type 0 where
   pub next : IsLegalNext (after_calls past (a ∷ [])) (record_for (after_calls past (a ∷ [])) b)
   pub reply : outline (reply_of (after_calls past (a ∷ [])) b) ≡ outline (reply_of past b)
@@ -32,7 +32,7 @@ pub record Commute (past : Past) (a b : Request) : Type 0 where
   pub first : Unaffected past b a
   pub journals : Equivalent (after_calls past (b ∷ (a ∷ []))) (after_calls past (a ∷ (b ∷ [])))
 
--- the calls that the theorems cover: all but mq_open, mq_unlink and the withdrawal of a wait
+-- the calls that the theorems cover: all except mq_open, mq_unlink and the withdrawal of a wait
 abbrev pub is_covered : Call → Bool
 is_covered (MqOpen flags attr) = false
 is_covered MqUnlink = false

@@ -18,14 +18,14 @@ use Rattle.mq_equivalence.specs.Runs.{Request}
 abbrev pub reply_of : Past → Request → Reply
 reply_of past a = reply_to past a.process a.call a.given
 
--- the queue of the call that stands at a place
+-- the queue of the call at a place
 abbrev pub queue_of_call : Past → ℕ → Option Queue
 queue_of_call [] place = None
 queue_of_call (r ∷ past) place =
     if place == length past then called_queue past r.entry.process r.entry.call
     else queue_of_call past place
 
--- the queue that a call touches: that of its descriptor, and for a withdrawal that of its wait
+-- the queue that a call is about: that of its descriptor, and for a withdrawal that of its wait
 abbrev pub queue_touched_by : Past → Process → Call → Option Queue
 queue_touched_by past p (Withdraw now) = option_and_then (queue_of_call past) (open_wait past p)
 queue_touched_by past p call = called_queue past p call
@@ -39,8 +39,8 @@ notified_registration past p call reply =
     if is_some (notified reply) then option_and_then (registered_as past) (called_queue past p call)
     else None
 
--- the process whose notices a call changes: its own process if it takes the next notice, and else
--- the process that it notifies
+-- The process whose notices a call changes: its own process if it takes the next notice, else the
+-- process that it notifies.
 abbrev pub whose_notices_by : Past → Process → Call → Reply → Option Process
 whose_notices_by past p NextNotice reply = Some p
 whose_notices_by past p call reply =
@@ -49,7 +49,7 @@ whose_notices_by past p call reply =
 abbrev pub whose_notices : Past → Request → Option Process
 whose_notices past a = whose_notices_by past a.process a.call (reply_of past a)
 
--- not the same number twice
+-- the two numbers, if both are given, differ
 abbrev pub differ : Option ℕ → Option ℕ → Bool
 differ (Some i) (Some j) = not (i == j)
 differ _ _ = true
@@ -71,26 +71,26 @@ only_reads (MqGetattr d) = true
 only_reads (MqSetattr d nonblock) = true
 only_reads _ = false
 
--- a message of this priority is queued behind the one that the receive gets, and neither call ends
--- a wait or a registration
+-- a message of this priority is queued after the one that the receive gets, and neither call ends a
+-- wait or a registration
 abbrev pub passes_by : Past → ℕ → Reply → Reply → Bool
 passes_by past prio (Queued None) (Got m None None) = nat_le prio (priority past m)
 passes_by past prio _ _ = false
 
--- nobody is registered on the queue, or it has not just one message
+-- there is no registration on the queue, or the number of its messages is not one
 abbrev pub stays_filled : Past → Option Queue → Bool
 stays_filled past None = true
 stays_filled past (Some q) = is_none (registered_as past q) || not (length (present past q) == 1)
 
--- a is a send and b a receive that may pass each other on one queue
+-- a is a send and b a receive on the same queue that do not affect each other
 abbrev pub passes : Past → Request → Request → Bool
 passes past a b =
     is_send a.call && passes_by past (priority_given a.call) (reply_of past a) (reply_of past b)
     && stays_filled past (queue_touched past a)
 
--- two calls of different processes, not both about names, that change the notices of different
--- processes; and they touch different queues, or both only read, or one sends a message and the
--- other receives an older or more urgent one
+-- Two calls of different processes, not both about names, that change the notices of different
+-- processes. Either they are about different queues, or both only read, or one sends a message and
+-- the other receives an older one or one of higher priority.
 abbrev pub are_independent : Past → Request → Request → Bool
 are_independent past a b =
     not (a.process == b.process)

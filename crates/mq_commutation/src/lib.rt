@@ -1,7 +1,7 @@
-//! Independent calls: two processes may make them in either order, to the same end. A search over
-//! the orders of calls may try one of the two orders and leave out the other. The laws are
-//! functions that do nothing and take no time: the contract of each is the law. They cover all
-//! calls but `mq_open`, `mq_unlink` and the withdrawal of a wait.
+//! Independent calls: two processes may make them in either order, with the same effect. A search
+//! over interleavings may try one of the two orders and leave out the other. The laws are functions
+//! that do nothing and take no time: the contract of each is the law. They cover all calls except
+//! `mq_open`, `mq_unlink` and the withdrawal of a wait.
 #![tactic(auto)]
 
 ghost use Rattle.std.specs.Prelude.{◌≡◌, ◌∷◌, List, [], true};
@@ -12,15 +12,15 @@ ghost use Rattle.mq_equivalence.specs.Runs.{Request, after_calls};
 ghost use Rattle.mq_commutation.specs.Independence.{are_independent};
 ghost use Rattle.mq_commutation.specs.Commuting.{Commute, is_covered, record_for};
 
-/// Of two calls each is independent of the other, or neither is.
+/// If one call is independent of another, the other is independent of it.
 pub fn independence_is_symmetric()
     ensures { (past : Past) (a b : Request) →
         are_independent past b a ≡ are_independent past a b }
 {}
 
-/// Independent calls commute: if each may be made after a legal journal, then each may be made
-/// after the other, has the reply that it has without the other but for places, and gives its
-/// caller the same message; and both orders leave equivalent journals.
+/// Independent calls commute. If each may be made after a legal journal, each may be made after the
+/// other, has the same reply as without the other up to sequence numbers, and gives its caller the
+/// same message. Both orders leave equivalent journals.
 pub fn independent_calls_commute()
     ensures { (past : Past) (a b : Request) → Legal past →
         IsLegalNext past (record_for past a) → IsLegalNext past (record_for past b) →
@@ -28,9 +28,8 @@ pub fn independent_calls_commute()
         are_independent past a b ≡ true → Commute past a b }
 {}
 
-/// So two independent calls that stand next to each other in a run may be exchanged, whatever calls
-/// follow them: what is legal after one order is legal after the other, and leaves equivalent
-/// journals.
+/// So two independent calls that are adjacent in a run may be exchanged, whatever calls follow:
+/// what is legal after one order is legal after the other, and leaves equivalent journals.
 pub fn exchanged_runs_stay_equivalent()
     ensures { (past : Past) (a b : Request) → Legal past →
         IsLegalNext past (record_for past a) → IsLegalNext past (record_for past b) →

@@ -1,5 +1,5 @@
-//! What the queues stand on, under one name: the types, the journal and the definitions, the laws of every legal journal,
-//! and the check that a journal is legal.
+//! The base of the queues under one name: the types, the journal and the definitions, the laws of
+//! every legal journal, and the check that a journal is legal.
 #![tactic(auto)]
 
 pub use mq_checker::checker;

@@ -1,4 +1,4 @@
--- What every legal journal keeps, whoever made it, said of its queues.
+-- The laws of every legal journal, whoever made it, about its queues.
 use Rattle.std.specs.Prelude.{ℕ, pos, ◌≡◌, ◌≢◌, ◌<◌, ◌≤◌, Bool, true, false, not, [], length, Option, Some, None}
 use Rattle.std.specs.Option.{option_map, option_and_then}
 use Rattle.mq_model.specs.Record.{Record, Past, record_at, first}
@@ -18,7 +18,7 @@ use Rattle.mq_model.specs.declared.entries.Reply.TheVariants.{Handed, Got, Colle
 abbrev pub reply_at : Past → ℕ → Option Reply
 reply_at past k = option_map (λ r. r.entry.reply) (record_at past k)
 
--- the message that a reply gives to its caller
+-- the message that a reply hands to its caller
 abbrev pub message_given : Reply → Option ℕ
 message_given (Got place admitted notified) = Some place
 message_given _ = None
@@ -28,22 +28,24 @@ abbrev pub withdrawn_wait : Reply → Option ℕ
 withdrawn_wait (Withdrawn wait) = Some wait
 withdrawn_wait _ = None
 
--- the place that a collect's reply gives, of the entry that answered the wait
+-- the place in a collect's reply: that of the entry that answered the wait
 abbrev pub cause : Reply → Option ℕ
 cause (Collected by) = Some by
 cause _ = None
 
--- the reply at place k has this part
+-- the reply at place k has this value in this part
 abbrev pub Has : (Reply → Option ℕ) → Past → ℕ → ℕ → Type 0
 Has part past k m = option_and_then part (reply_at past k) ≡ Some m
 
--- no two replies have the same part
+-- no two replies have the same value in this part
 abbrev pub IsOnce : (Reply → Option ℕ) → Past → Type 0
 IsOnce part past = (j k m : ℕ) → Has part past j m → Has part past k m → j ≡ k
 
--- no message is given twice, none that was handed over is given, and each is given after its send. No wait is ended twice, by an
--- entry that names it or by a withdrawal. So none is named twice, none is both named and withdrawn, no withdrawn send is accepted, and
--- a withdrawn receive takes nothing. No registration is notified twice, and no two collects have one cause
+-- No message is received twice, none that was handed over is received, and each is received after
+-- its send. No wait is ended twice, by an entry that serves it or by a withdrawal. So none is
+-- served twice, none is both served and withdrawn, no withdrawn send is accepted, and a withdrawn
+-- receive takes nothing. No registration is notified twice, and no two collects have the same
+-- cause.
 pub record GivesOnce (past : Past) : Type 0 where
   pub messages : IsOnce message_given past
   pub not_handed : (k m w : ℕ) → Has message_given past k m → reply_at past m ≢ Some (Handed w)
@@ -62,27 +64,28 @@ pub record IsReceivedAt (past : Past) (k q m : ℕ) : Type 0 where
   pub on : called_queue (first k past) r.entry.process r.entry.call ≡ Some q
   pub gets : message_given r.entry.reply ≡ Some m
 
--- what a receive got was the best message of its queue before it
+-- the message that a receive got was the best one of its queue before it
 abbrev pub GivesBest : Past → Type 0
 GivesBest past = (k m : ℕ) → Has message_given past k m → (q : ℕ) × IsReceivedAt past k q m × (best (first k past) q ≡ Some m)
 
--- the entry at place k takes message m: it gives it to its caller, or hands it over
+-- the entry at place k takes message m: it returns it to its caller, or hands it over
 abbrev pub IsTakenAt : Past → ℕ → ℕ → Type 0
 IsTakenAt past m k = option_and_then (taken_by k) (reply_at past k) ≡ Some m
 
--- of two messages of one queue and one priority the earlier is taken first. So what one process sends with one priority
--- leaves the queue in the order in which it was sent
+-- Of two accepted messages of the same queue and priority, the earlier one is taken first. So what
+-- one process sends with one priority leaves the queue in the order in which it was sent.
 abbrev pub LeavesInOrder : Past → Type 0
 LeavesInOrder past = (q m n k : ℕ) → is_accepted past q m ≡ true → is_accepted past q n ≡ true → m < n → priority past m ≡ priority past n → IsTakenAt past n k → (j : ℕ) × (j < k) × IsTakenAt past m j
 
--- process p held descriptor d before place k, with an access that passes
+-- process p held descriptor d before place k, with a description that passes this test
 pub record IsHeldAt (past : Past) (k p d : ℕ) (passes : Description → Bool) : Type 0 where
   pub h : Description
   pub held : held (first k past) p d ≡ Some h
   pub access : passes h ≡ true
 
--- each send and receive that was not refused, with a deadline or without, held its descriptor with that access, and where a wait is
--- collected or withdrawn its process holds what it held where the wait began
+-- Each send and receive that did not fail, with or without a deadline, held its descriptor with the
+-- access mode that it needs. When a wait is collected or withdrawn, its process holds what it held
+-- when the wait began.
 pub record HoldsDescriptors (past : Past) : Type 0 where
   pub sends : (k d : ℕ) (r : Record) → record_at past k ≡ Some r → is_send r.entry.call ≡ true → descriptor_of r.entry.call ≡ Some d → is_refused r.entry.reply ≡ false → IsHeldAt past k r.entry.process d (λ h. not (is_read_only h.access))
   pub receives : (k d : ℕ) (r : Record) → record_at past k ≡ Some r → is_receive r.entry.call ≡ true → descriptor_of r.entry.call ≡ Some d → is_refused r.entry.reply ≡ false → IsHeldAt past k r.entry.process d (λ h. not (is_write_only h.access))
@@ -95,15 +98,16 @@ pub record IsGoneAt (past : Past) (k q : ℕ) : Type 0 where
   pub created : is_in (created (first k past)) q ≡ true
   pub gone : is_in (alive (first k past)) q ≡ false
 
--- a queue that ceased to exist never exists again, and none of its messages is taken from then on. So each accepted message
--- was taken, or is present in its queue alone, which exists, or lost with it
+-- A queue that ceased to exist never exists again, and none of its messages is taken from then on.
+-- So each accepted message was taken, or is present in its queue only, which exists, or was lost
+-- with it.
 pub record EndsForGood (past : Past) : Type 0 where
   pub never_again : (j k q : ℕ) → IsGoneAt past j q → j ≤ k → k ≤ length past → is_in (alive (first k past)) q ≡ false
   pub none_taken : (j k q m : ℕ) → IsGoneAt past j q → j ≤ k → is_accepted past q m ≡ true → IsTakenAt past m k → ⊥
   pub present_or_taken : (q m : ℕ) → is_accepted past q m ≡ true → is_in (present past q) m ≡ not (is_in (taken past) m)
   pub in_one_queue : (q k m : ℕ) → is_accepted past q m ≡ true → is_in (present past k) m ≡ true → k ≡ q
 
--- where a receive waits nothing is present, and where a send waits the queue holds mq_maxmsg messages
+-- If a receive waits, the queue is empty. If a send waits, the queue holds mq_maxmsg messages.
 pub record WaitsForCause (past : Past) : Type 0 where
   pub receives : (q w : ℕ) → is_in (waiting_receives past q) w ≡ true → present past q ≡ []
   pub sends : (q w : ℕ) → is_in (waiting_sends past q) w ≡ true → pos (length (present past q)) ≡ (attributes past q).maxmsg

@@ -1,4 +1,5 @@
--- A refused call leaves everything as it was: what the definitions say after its entry is what they said before it.
+-- A call that fails changes nothing: what the definitions say after its entry is what they said
+-- before it.
 use Rattle.std.specs.Prelude.{ℕ, ◌≡◌, ◌+◌, true, List, Some}
 use Rattle.mq_model.specs.Record.{Record, Past, record_at, first}
 use Rattle.mq_model.specs.Names.{bound_queue, attributes}
@@ -9,9 +10,10 @@ use Rattle.mq_model.specs.Waits.{open_wait, wait_deadline, answered_by}
 use Rattle.mq_model.specs.declared.faults.Fault.{Fault}
 use Rattle.mq_model.specs.declared.entries.Reply.TheVariants.{Refused}
 
--- The same names, descriptors, queues, messages, waits with their deadlines, registrations and notices. Attributes and priorities are
--- read off an entry's own place, so they are said of queues that were created and of messages that are present: the place of the
--- refused entry itself names neither
+-- The same names, descriptors, queues, messages, waits with their deadlines, registrations and
+-- notices. Attributes and priorities are stated only for queues that were created and messages that
+-- are present, since the definitions take them from the place of an entry, and the place of the
+-- failed call names neither a queue nor a message.
 pub record IsUnchanged (old new : Past) : Type 0 where
   pub names : (name : List ℕ) → bound_queue new name ≡ bound_queue old name
   pub descriptors : (p d : ℕ) → held new p d ≡ held old p d
@@ -32,6 +34,6 @@ pub record IsUnchanged (old new : Past) : Type 0 where
   pub registrations : (q : ℕ) → registered new q ≡ registered old q
   pub pending : (p : ℕ) → notices new p ≡ notices old p
 
--- wherever an entry is refused, nothing is changed by it
+-- no entry with an error changes anything
 abbrev pub RefusalsChangeNothing : Past → Type 0
 RefusalsChangeNothing past = (k : ℕ) (r : Record) (fault : Fault) → record_at past k ≡ Some r → r.entry.reply ≡ Refused fault → IsUnchanged (first k past) (first (k + 1) past)

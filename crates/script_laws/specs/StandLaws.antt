@@ -1,4 +1,4 @@
--- A run of a script that comes to a stand, and the orders of its calls.
+-- How a run of a script that deadlocks relates to the interleavings of its calls.
 use Rattle.std.specs.Prelude.{◌≡◌, ℕ, true, Option, None, Some, List, [], ◌∷◌, ◌++◌}
 use Rattle.std.specs.List.{All, AllZip}
 use Rattle.fast_mutex.specs.Items.{Ticket, tickets_from}
@@ -14,12 +14,13 @@ use Rattle.script_text.specs.Script.{Whole, WrittenCall}
 use Rattle.script_text.specs.declared.reply.Completion.{Completion}
 use Rattle.script_laws.specs.RunLaws.{AreAmplePhases, AreToldBefore, HadMemory, phase_replies}
 
--- no call that the process made was refused for want of memory; where it waits for ever, none of those before that wait
+-- No call that the process made failed with `NoMemory`. If it waits for ever, this is said of the
+-- calls before that wait.
 abbrev pub IsAmpleEnd : (blocked : Option ℕ) (calls : List WrittenCall) (completions : List Completion) (old new : Ticket Record) → EndsIn blocked calls completions old new → Type 0
 IsAmpleEnd None calls completions old new ends = All HadMemory completions
 IsAmpleEnd (Some line) calls completions old new ends = All HadMemory ends.completions
 
--- no call of a phase that came to a stand was
+-- the same for a phase that deadlocked
 abbrev pub AreAmpleEnds : (calls : List WrittenCall) (before : List (Ticket Record)) (ended : List (Worked (Ticket Record))) → AllZip (EndsPhase calls) before ended → Type 0
 AreAmpleEnds calls [] [] each = Unit {0}
 AreAmpleEnds calls [] (worked ∷ ended) each = Unit {0}
@@ -28,32 +29,34 @@ AreAmpleEnds calls (old ∷ before) (worked ∷ ended) each =
     IsAmpleEnd worked.blocked (calls_of old.number calls) worked.completions.items old worked.process each.0.ends
     × AreAmpleEnds calls before ended each.1
 
--- no call of a run that came to a stand was
+-- the same for a run that deadlocked
 abbrev pub IsAmpleStop : {script : Whole} {lines : List ℕ} {old new : Option (List ℕ)} → StopsInDeadlock script lines old new → Type 0
 IsAmpleStop {script} stop =
     AreAmplePhases stop.stops.first (tickets_from stop.system 1 script.processes) stop.stops.between stop.stops.replies stop.stops.ran
     × AreAmpleEnds stop.stops.last stop.stops.between stop.stops.stands.ended stop.stops.stands.each
 
--- what is printed of the calls of these lines, which wait for ever
+-- what is printed for the calls in these lines, which wait for ever
 abbrev pub stand_text : List ℕ → List ℕ
 stand_text [] = []
 stand_text (line ∷ lines) = wait_text line ++ stand_text lines
 
--- what is told of a phase that comes to a stand in the calls of these lines
+-- the outcome of a phase that deadlocks in the calls of these lines
 abbrev pub stand_told : ℕ → List ℕ → Told
 stand_told phase lines = record { stage = phase; stuck = true; text = stand_text lines }
 
--- in one order of the calls from this stage on, the phase of this number comes to a stand in the calls of these lines
+-- in some interleaving of the calls from this stage, the phase with this number deadlocks in the
+-- calls of these lines
 abbrev pub Stands : List ℕ → Stage → ℕ → Type 0
 Stands lines from phase =
     (schedule : List ℕ) × (to : Stage) × LeadsToGoal next_stage stands_still from schedule to × (told to ≡ stand_told phase lines)
 
--- in one order of the calls from this stage on, phases end one after the other, each with its replies, and then the next one comes to a
--- stand in the calls of these lines; the first of them has this number
+-- In some interleaving of the calls from this stage, phases end one after the other, each with its
+-- replies, and then the next one deadlocks in the calls of these lines. `phase` is the number of
+-- the first.
 abbrev pub ComesToStand : Stage → ℕ → List (List ℕ) → List ℕ → Type 0
 ComesToStand from phase texts lines = AreToldBefore (Stands lines) from phase texts
 
--- the replies of each phase of a run that ended before the one that came to a stand
+-- the replies of each phase of a run that ended before the one that deadlocked
 abbrev pub replies_before : {script : Whole} {lines : List ℕ} {old new : Option (List ℕ)} → StopsInDeadlock script lines old new → List (List ℕ)
 replies_before {script} stop =
     phase_replies stop.stops.first (tickets_from stop.system 1 script.processes) stop.stops.between stop.stops.replies stop.stops.ran

@@ -1,4 +1,5 @@
-//! What a run of a script and every order of its calls have to do with each other. Each function does nothing: its contract is the law.
+//! How a run of a script relates to the interleavings of its calls. Each function does nothing: its
+//! contract is the law.
 #![tactic(auto)]
 
 ghost use Rattle.std.specs.Prelude.{◌≡◌, ◌≤◌, ◌++◌, ℕ, true, List, Option, length};
@@ -13,15 +14,16 @@ ghost use Rattle.script_runner.specs.Stops.{StopsInDeadlock};
 ghost use Rattle.script_laws.specs.RunLaws.{AreFound, AreTold, IsAmple, IsAmpleAfter, replies_after, whole_replies};
 ghost use Rattle.script_laws.specs.StandLaws.{ComesToStand, IsAmpleStop, replies_before, stand_told};
 
-/// What a run prints of each phase is what is told of that phase in one order of the calls, from where the processes of the script begin. No call
-/// of the run may have been refused for want of memory.
+/// What a run prints for each phase is the outcome of that phase in some interleaving of the calls,
+/// from the start of the script's processes. No call of the run may have failed with `NoMemory`.
 pub fn prints_outcomes()
     ensures { (script : Whole) (replies : List ℕ) (journal : Past) (from : Stage)
         (ran : RunsWhole script replies journal) → IsAmple ran → Begins script from →
         AreTold from 0 (whole_replies ran) }
 {}
 
-/// Where every order of the calls was tried, what a run prints of each phase is among what was found.
+/// If every interleaving of the calls was tried, what a run prints for each phase is among the
+/// outcomes found.
 pub fn prints_what_is_found()
     ensures { (script : Whole) (replies : List ℕ) (journal : Past) (from : Stage)
         (found : List Witnessed) (ran : RunsWhole script replies journal) → IsAmple ran →
@@ -29,14 +31,15 @@ pub fn prints_what_is_found()
         AreFound found 0 (whole_replies ran) }
 {}
 
-/// A script that goes on from a journal leaves a journal that begins with it.
+/// A script that continues from a journal leaves a journal that starts with it.
 pub fn goes_on_from_its_past()
     ensures { (past : Past) (script : Whole) (replies : List ℕ) (journal : Past) →
         1 ≤ script.processes → RunsAfter past script replies journal →
         (later : Past) × (journal ≡ later ++ past) }
 {}
 
-/// The same of a run that goes on from a journal in which no process waits, where every order was tried from there on.
+/// The same for a run that continues from a journal in which no process waits, if every
+/// interleaving was tried from there.
 pub fn prints_what_is_found_after()
     ensures { (past : Past) (script : Whole) (replies : List ℕ) (journal : Past) (from : Stage)
         (found : List Witnessed) (ran : RunsAfter past script replies journal) →
@@ -45,17 +48,17 @@ pub fn prints_what_is_found_after()
         AreFound found 0 (replies_after ran) }
 {}
 
-/// Where a run came to a stand, so does one order of the calls, from where the processes of the script begin: what the run prints of
-/// the phases before is told of them, and the next one comes to a stand in the calls of the same lines. No call of the run may have
-/// been refused for want of memory.
+/// If a run deadlocks, so does some interleaving of the calls, from the start of the script's
+/// processes: what the run prints for the earlier phases are their outcomes, and the next phase
+/// deadlocks in the calls of the same lines. No call of the run may have failed with `NoMemory`.
 pub fn tells_deadlocks()
     ensures { (script : Whole) (lines : List ℕ) (old new : Option (List ℕ)) (from : Stage)
         (stop : StopsInDeadlock script lines old new) → IsAmpleStop stop → Begins script from →
         ComesToStand from 0 (replies_before stop) lines }
 {}
 
-/// Where every order of the calls was tried, what a run prints of each phase before its stand is among what was found, and so is the
-/// stand in the calls of the same lines.
+/// If every interleaving of the calls was tried, what a run prints for each phase before its
+/// deadlock is among the outcomes found, and so is the deadlock in the calls of the same lines.
 pub fn finds_deadlocks()
     ensures { (script : Whole) (lines : List ℕ) (old new : Option (List ℕ)) (from : Stage)
         (found : List Witnessed) (stop : StopsInDeadlock script lines old new) → IsAmpleStop stop →
