@@ -1,4 +1,4 @@
-//! Programs that a number gives.
+//! Generated programs.
 
 use crate::interleavings::{Every, try_all};
 use crate::program::{Op, Threads};
@@ -10,7 +10,7 @@ use exploration::search::Limits;
 use std::alloc::{AllocError, Global};
 use std::collections::HashSet;
 
-/// Numbers that a seed gives.
+/// Pseudorandom numbers from a seed.
 #[derive(Clone, Copy, Debug)]
 pub struct Numbers {
     seed: u64,
@@ -23,7 +23,7 @@ impl Numbers {
         }
     }
 
-    // A number below this one, which is not 0.
+    // A number below `most`, which is not 0.
     fn below(&mut self, most: u32) -> u32 {
         self.seed = next_seed(self.seed);
         let n = (self.seed >> 33) as u32;
@@ -102,7 +102,7 @@ fn options(bounds: Option<u32>) -> Options {
 #[derive(Clone, Copy, Debug, PartialEq, Eq)]
 pub enum Comparison {
     Same,
-    /// Not all orders were tried.
+    /// Not every order was tried.
     NotAll,
     /// Random runs had orders that were not tried.
     Unseen,
@@ -110,9 +110,10 @@ pub enum Comparison {
     Lost,
     /// An outcome was found that no interleaving has.
     Invented,
-    /// The first deadlock was found within another bound than the fewest preemptions of one.
+    /// The first deadlock was found within another bound than the fewest preemptions of any
+    /// deadlock.
     OtherBound,
-    /// There are too many interleavings to be compared.
+    /// There are too many interleavings to compare with.
     TooLarge,
 }
 
@@ -120,7 +121,7 @@ fn are_within(some: &HashSet<u64>, all: &HashSet<u64>) -> bool {
     some.iter().all(|key| all.contains(key))
 }
 
-// The first deadlock was found within the bound of the fewest preemptions.
+// Whether the first deadlock was found within the bound of the fewest preemptions.
 fn is_simplest(every: &Every, found: Option<u32>, bounds: u32) -> bool {
     match (every.fewest, found) {
         (None, None) => true,
@@ -129,7 +130,7 @@ fn is_simplest(every: &Every, found: Option<u32>, bounds: u32) -> bool {
     }
 }
 
-/// Explores a program within bounds, if there are any, and then without, and compares.
+/// Explores a program within bounds, if there are any, and then without, and compares the result.
 pub fn compare(alloc: Global, seed: u64, bounds: Option<u32>) -> Result<Comparison, Fault> {
     let threads = threads_of(alloc, seed)?;
     let all = try_all(alloc, &threads, 40_000)?;

@@ -5,14 +5,14 @@ use exploration::operation::{Ability, Parked};
 use std::alloc::{AllocError, Global};
 use std::collections::HashSet;
 
-/// What all interleavings come to.
+/// The outcomes of all interleavings.
 #[derive(Drop)]
 pub struct Every {
     pub outcomes: HashSet<u64>,
     pub deadlocks: HashSet<u64>,
     /// The fewest preemptions of a deadlock.
     pub fewest: Option<u32>,
-    /// All were tried.
+    /// Whether all were tried.
     pub is_whole: bool,
     pub runs: u64,
 }
@@ -24,7 +24,7 @@ struct Moment {
     cost: u32,
 }
 
-// What it costs to let a thread go on.
+// The cost of letting a thread go on.
 fn cost(parked: &[Parked], last: u32, it: &Parked) -> u32 {
     let can = |it: &Parked| matches!(it.ability, Ability::Can);
     let takes = it.thread != last
@@ -51,7 +51,7 @@ impl Every {
     }
 }
 
-/// Tries all interleavings, in so many steps at most.
+/// Tries all interleavings, in at most `most` steps.
 pub fn try_all(alloc: Global, threads: &Threads, most: u32) -> Result<Every, AllocError> {
     let mut all = Every {
         outcomes: HashSet::new(alloc),
@@ -85,7 +85,7 @@ pub fn try_all(alloc: Global, threads: &Threads, most: u32) -> Result<Every, All
     Ok(all)
 }
 
-// The moment after a thread went on.
+// The state after a step of a thread.
 fn stepped(
     alloc: Global,
     threads: &Threads,

@@ -1,4 +1,4 @@
-//! The exploration of small programs, against all their interleavings.
+//! The exploration of small programs, compared with all their interleavings.
 #![tactic(auto)]
 
 pub mod generated;

@@ -4,7 +4,7 @@ use exploration::kind::Kind;
 use exploration::operation::{Ability, Also, Operation, Parked};
 use std::alloc::{AllocError, Global};
 
-/// What a thread does next.
+/// The next operation of a thread.
 #[derive(Clone, Copy, Debug)]
 pub enum Op {
     Send { queue: u32, priority: u32 },
@@ -14,11 +14,11 @@ pub enum Op {
     TimedReceive { queue: u32 },
     Count { queue: u32 },
     Lock { mutex: u32 },
-    /// It belongs to the step before.
+    /// It belongs to the step before it.
     Unlock { mutex: u32 },
 }
 
-/// The operations of each thread, and how many messages a queue takes.
+/// The operations of each thread, and how many messages a queue can hold.
 #[derive(Debug, Drop)]
 pub struct Threads {
     pub ops: Vec<Vec<Op>>,
@@ -36,18 +36,18 @@ struct Queue {
     held: Vec<Message>,
 }
 
-/// What a thread was told.
+/// What the operations of a thread returned.
 #[derive(Debug, Drop)]
 struct Told {
     letters: Vec<u32>,
 }
 
-/// A moment of a run.
+/// A state of a run.
 #[derive(Debug, Drop)]
 pub struct State {
     at: Vec<usize>,
     queues: Vec<Queue>,
-    // The thread that holds each mutex, from 1 on, or 0.
+    // The thread that holds each mutex, counted from 1, or 0.
     owners: Vec<u32>,
     told: Vec<Told>,
 }
@@ -61,13 +61,13 @@ pub struct Made {
 
 const QUEUES: u32 = 2;
 
-// What a thread is told that is no letter.
+// What an operation returns that is not a message.
 const NOTHING: u32 = 1000;
 
 const COUNT: u32 = 2000;
 
 impl Queue {
-    // Puts a message behind those of its priority and higher ones.
+    // Inserts a message after those of its priority and of higher ones.
     fn send(&mut self, message: Message) -> Result<(), AllocError> {
         let found = self
             .held
@@ -131,7 +131,7 @@ impl State {
         })
     }
 
-    /// What a thread does next, unless it is done.
+    /// The next operation of a thread, unless it has finished.
     fn op(&self, threads: &Threads, thread: usize) -> Option<Op> {
         let at = *self.at.get(thread)?;
         threads.ops.get(thread)?.get(at).copied()
@@ -162,7 +162,7 @@ impl State {
         if can { Ability::Can } else { Ability::Cannot }
     }
 
-    /// Who is parked before what.
+    /// The threads that are parked, and their operations.
     pub fn parked(&self, alloc: Global, threads: &Threads) -> Result<Vec<Parked>, AllocError> {
         let mut parked = Vec::new(alloc);
         for thread in 0..threads.ops.len() {
@@ -197,7 +197,7 @@ impl State {
         }
     }
 
-    // Receives a message, or tells that there is none.
+    // Receives a message, or notes that there is none.
     fn receive(&mut self, thread: usize, queue: u32) -> Result<u32, AllocError> {
         let found = match self.queues.get_mut(queue as usize) {
             Some(it) => it.receive(),
@@ -207,7 +207,7 @@ impl State {
         Ok(if found.is_some() { 0 } else { 11 })
     }
 
-    // Makes an operation that can be made. Gives its error.
+    // Does an operation that can be done. Returns its error.
     fn make(&mut self, room: usize, thread: usize, op: Op) -> Result<u32, AllocError> {
         match op {
             Op::Send { queue, priority } => self.send(thread, queue, priority)?,
@@ -243,7 +243,7 @@ impl State {
         }
     }
 
-    /// Makes the next step of a thread, if it has one: its operation, and the unlocks behind it.
+    /// Takes the next step of a thread, if it has one: its operation, and the unlocks after it.
     pub fn step(
         &mut self,
         alloc: Global,
@@ -269,8 +269,8 @@ impl State {
         Ok(Made { error, also })
     }
 
-    /// A number for what the run came to: what each thread was told, where it stands, and what the
-    /// queues hold.
+    /// A hash of the outcome of the run: what the operations of each thread returned, its position,
+    /// and the messages in the queues.
     pub fn outcome(&self) -> u64 {
         let mut key = 1u64;
         for at in &self.at {
@@ -291,7 +291,7 @@ impl State {
         key
     }
 
-    /// Each thread is done.
+    /// Whether each thread has finished.
     pub fn is_done(&self, threads: &Threads) -> bool {
         for thread in 0..threads.ops.len() {
             if self.op(threads, thread).is_some() {
@@ -307,7 +307,7 @@ fn mixed(key: u64, value: u64) -> u64 {
     x ^ (x >> 29)
 }
 
-/// Threads are counted from 1.
+/// Threads are numbered from 1.
 fn number_of(thread: usize) -> u32 {
     u32::try_from(thread).unwrap_or(0).saturating_add(1)
 }

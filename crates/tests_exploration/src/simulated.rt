@@ -1,4 +1,4 @@
-//! A program that runs in the test itself.
+//! A program that the test itself runs.
 ghost use Rattle.std.specs.Prelude.{true};
 
 use crate::program::{Made, State, Threads};
@@ -10,7 +10,7 @@ use exploration::trace::Room;
 use std::alloc::{AllocError, Global};
 use std::collections::HashSet;
 
-/// Threads, and what their runs came to.
+/// Threads, and the outcomes of their runs.
 #[derive(Drop)]
 pub struct Simulated {
     pub threads: Threads,
@@ -26,10 +26,10 @@ pub struct Simulated {
 // No bound.
 const ALL: u32 = 1000;
 
-// The most steps of a run.
+// The maximum number of steps of a run.
 const MOST: u32 = 64;
 
-// Who is to go on.
+// Which thread goes on.
 #[derive(Drop)]
 struct Rule<'r> {
     choices: &'r [Choice],
@@ -62,7 +62,7 @@ impl Simulated {
         })
     }
 
-    // Notes what a run came to.
+    // Notes the outcome of a run.
     fn note(&mut self, state: &State, end: End) -> Result<(), Fault> {
         if matches!(end, End::Slept | End::Unfit) {
             return Ok(());
@@ -133,7 +133,7 @@ impl Rule<'_> {
         self.sleepers.iter().any(|it| it.thread == thread)
     }
 
-    // The choice at a place, if any can be made.
+    // The choice at a place, if one can be made.
     fn choose(&mut self, parked: &[Parked], place: usize) -> Option<Choice> {
         if let Some(choice) = self.choices.get(place) {
             let it = parked_of(parked, choice.thread)?;
@@ -181,7 +181,7 @@ impl Rule<'_> {
         Some(it.thread)
     }
 
-    // Why nobody goes on.
+    // Why no thread goes on.
     fn end_of(&self, state: &State, threads: &Threads, parked: &[Parked]) -> End {
         if state.is_done(threads) {
             End::Done
@@ -192,7 +192,8 @@ impl Rule<'_> {
         }
     }
 
-    // Wakes whom a step that the rule made touches, or the last of the choices.
+    // Wakes the sleepers of the objects that a step accesses, if the rule chose the step or it is
+    // the last of the given choices.
     fn wake(&mut self, parked: &[Parked], choice: Choice, place: usize, made: &Made) {
         self.last = choice.thread;
         if place.saturating_add(1) < self.choices.len() {
@@ -206,7 +207,7 @@ impl Rule<'_> {
         }
     }
 
-    // Wakes the threads that sleep until a step touches this object.
+    // Wakes the threads that sleep until a step accesses this object.
     fn wake_by(&mut self, object: u32) {
         for _ in 0..self.sleepers.len() {
             let Some(woken) = self.sleepers.iter().copied().find(|it| it.object == object) else {

@@ -1,5 +1,6 @@
-//! Tests of Lamport's machine and of the locks, by what `lamport_core` and `fast_mutex` show. They stand here and not in those crates, so
-//! that neither is proved once more for them.
+//! Tests of Lamport's machine and of the locks, through the public items of `lamport_core` and
+//! `fast_mutex`. They are in a crate of their own, so that neither of those is proved again for
+//! them.
 #![tactic(auto)]
 
 #[cfg(test)]

@@ -1,4 +1,4 @@
-//! Each lock over a state of its own list, by functions that are generic over the lock.
+//! Each lock over a state with a list, by functions that are generic over the lock.
 ghost use Rattle.std.specs.Prelude.{◌≡◌, ◌≤◌, ℕ, List, [], ◌∷◌, false, refl, map, IfOk, IfSome, MatchResult};
 ghost use Rattle.fast_mutex.specs.Items.{Grows, tickets_from};
 
@@ -13,7 +13,8 @@ mod looks;
 mod threads;
 mod walks;
 
-/// Notes under a title. Each is the number of its process with a value, and the latest stands last in the vector.
+/// Notes with a title. Each note is the number of its process with a value, and the latest is last
+/// in the vector.
 #[derive(Drop)]
 pub struct Notes {
     title: u32,
@@ -47,7 +48,7 @@ impl Logged for Notes {
     ghost stays = { λ p more before others h. h };
 }
 
-// One allocation may be refused from outside.
+// One allocation may be made to fail from outside.
 fn no_notes<R: Print>(rt: &R, alloc: Global, title: u32, room: usize) -> Result<Notes, AllocError>
     ensures { IfOk result (λ s. s.items.items ≡ []) }
 {
@@ -61,7 +62,7 @@ fn no_notes<R: Print>(rt: &R, alloc: Global, title: u32, room: usize) -> Result<
     Ok(Notes { title, items })
 }
 
-/// What a process saw in one stay.
+/// What a process saw in one critical section.
 #[derive(Clone, Copy, Debug, PartialEq, Eq)]
 struct Stay {
     latest: Option<(u32, u32)>,
@@ -69,7 +70,7 @@ struct Stay {
     steps: u64,
 }
 
-/// One stay, which adds a note.
+/// One critical section, which adds a note.
 fn add<L: Lock<Notes>, R: Wait>(
     rt: &R,
     lock: &L,
@@ -97,7 +98,7 @@ fn add<L: Lock<Notes>, R: Wait>(
     }
 }
 
-/// One stay, which adds nothing, and gives the latest note found.
+/// One critical section, which adds nothing and returns the latest note found.
 fn look<L: Lock<Notes>, R: Wait>(rt: &R, lock: &L, seat: L::Seat) -> (L::Seat, Option<(u32, u32)>)
     requires { (L.ticket seat).lock ≡ L.id lock.now }
     ensures seat { (L.ticket result.0).lock ≡ L.id lock.now }
@@ -109,8 +110,8 @@ fn look<L: Lock<Notes>, R: Wait>(rt: &R, lock: &L, seat: L::Seat) -> (L::Seat, O
     (lock.leave(inside, notes), latest)
 }
 
-/// A lock for so many processes. One allocation may be refused from outside: then the state that comes back is as it was, and is
-/// tried once more.
+/// A lock for n processes. One allocation may be made to fail from outside. Then the state comes
+/// back unchanged, and `new` is tried again.
 fn lock_for<L: Lock<Notes>, R: Print>(
     rt: &R,
     alloc: Global,
@@ -133,7 +134,7 @@ fn lock_for<L: Lock<Notes>, R: Print>(
     }
 }
 
-// One stay, which adds a note and sees this.
+// One critical section, which adds a note and must see this.
 fn expect_stay<L: Lock<Notes>, R: Wait + Abort>(
     rt: &R,
     lock: &L,
@@ -149,7 +150,8 @@ fn expect_stay<L: Lock<Notes>, R: Wait + Abort>(
     seat
 }
 
-// Process 1 adds 10, and process 2 adds 20, each by this path and in so many steps. Gives their seats, that of process 1 first.
+// Process 1 adds 10, and process 2 adds 20, each by this path and in this number of steps. Returns
+// their seats, that of process 1 first.
 fn expect_two_stays<L: Lock<Notes>, R: Wait + Abort>(
     rt: &R,
     lock: &L,
@@ -191,7 +193,7 @@ fn expect_two_stays<L: Lock<Notes>, R: Wait + Abort>(
     (one, two)
 }
 
-// With both seats `finish` gives the notes of both processes.
+// With both seats, `finish` returns the notes of both processes.
 fn expect_notes<L: Lock<Notes>, R: Abort>(
     rt: &R,
     lock: L,
@@ -210,7 +212,8 @@ fn expect_notes<L: Lock<Notes>, R: Abort>(
     assert_eq!(rt; notes.items.as_slice(), [(1, 10), (2, 20)].as_slice());
 }
 
-// `finish` lacks the seat of process 2, and hands all back: process 1 looks once more, and then both seats are there.
+// Without the seat of process 2, `finish` returns everything. Process 1 reads once more, and then
+// both seats are given.
 fn expect_end<L: Lock<Notes>, R: Wait + Abort>(
     rt: &R,
     lock: L,
@@ -232,7 +235,7 @@ fn expect_end<L: Lock<Notes>, R: Wait + Abort>(
     expect_notes(rt, whole, parts, one, two);
 }
 
-// Two processes in turn, each by this path and in so many steps.
+// Two processes take turns, each by this path and in this number of steps.
 fn expect_turns<L: Lock<Notes>, R: Wait + Print + Abort>(
     rt: &R,
     alloc: Global,
@@ -251,7 +254,7 @@ fn a_word_lock_hands_its_state_over_in_turn(rt: HostRuntime) {
     expect_turns::<WordLock<Notes>, _>(&rt, rt.alloc(), Path::Fast, 1);
 }
 
-/// As many stays of one process, which adds the values from 0 on.
+/// This number of critical sections of one process, which adds the values from 0 on.
 fn add_many<L: Lock<Notes>, R: Wait>(rt: &R, lock: &L, seat: L::Seat, stays: u32) -> L::Seat
     requires { (L.ticket seat).lock ≡ L.id lock.now }
     ensures { (L.ticket result).lock ≡ L.id lock.now }
@@ -264,7 +267,7 @@ fn add_many<L: Lock<Notes>, R: Wait>(rt: &R, lock: &L, seat: L::Seat, stays: u32
     seat
 }
 
-// A lock for each number of processes, which has as many seats.
+// A lock for each number of processes, with as many seats.
 fn expect_made<L: Lock<Notes>, R: Print + Abort>(rt: &R, alloc: Global) {
     for n in 1..=32 {
         let notes = no_notes(rt, alloc, 7, 0).expect(rt, "memory");

@@ -1,4 +1,4 @@
-//! Worked schedules, with all that a world shows after them.
+//! Worked schedules, with everything that a world shows after them.
 ghost use Rattle.std.specs.Prelude.{◌≡◌, ◌≤◌, IfOk, length};
 ghost use Rattle.lamport_core.specs.Machine.{count};
 
@@ -9,7 +9,7 @@ use std::process::Abort;
 use std::test::Fail;
 use tests_refusals::{refuse_all, say_refused};
 
-// The start. One allocation may be refused from outside, and after the start every one.
+// The start. One allocation may be made to fail from outside, and after the start every one.
 fn start<R: Print>(rt: &R, alloc: Global, n: u32) -> Result<World, AllocError>
     requires { 1 ≤ n }
     ensures { IfOk result (λ world. count world ≡ n) }
@@ -28,7 +28,8 @@ fn start<R: Print>(rt: &R, alloc: Global, n: u32) -> Result<World, AllocError>
 // The point, the flag and the steps of a process.
 type Seen = (At, bool, u64);
 
-// The n processes stand so, and the words x and y and the process inside are these.
+// These are the points, flags and steps of the n processes, the words x and y, and the process in
+// its critical section.
 fn expect_world<A: Abort>(
     rt: &A,
     world: &World,
@@ -75,7 +76,7 @@ fn scan_stops_at_the_flag_of_the_process_inside(rt: HostRuntime) -> Result<(), F
     Ok(())
 }
 
-// Process 2 sets y to 0 while process 1 stands at its test of x.
+// Process 2 sets y to 0 while process 1 is at its test of x.
 #[test]
 fn third_process_goes_in_while_the_second_leaves(rt: HostRuntime) -> Result<(), Fail> {
     let mut world = start(&rt, rt.alloc(), 3)?;

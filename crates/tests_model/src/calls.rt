@@ -1,4 +1,4 @@
-//! Journals, names, faults and the table of processes, each called with ample memory.
+//! Journals, names, errors and the table of processes, each called with enough memory.
 ghost use Rattle.std.specs.Prelude.{◌<◌};
 ghost use Rattle.mq_model.specs.OwnersNoted.{FitsSlots};
 
@@ -35,7 +35,7 @@ const OPEN: Entry = Entry {
     },
 };
 
-// What stands at a place of a journal.
+// The entry at a place of a journal.
 fn expect_at<A: Abort>(rt: &A, journal: &Journal, place: u64, wanted: Option<(Entry, &[u8])>) {
     same(
         rt,
@@ -78,7 +78,7 @@ fn a_reservation_stands_until_it_is_used(rt: HostRuntime) -> Result<(), Fail> {
     Ok(())
 }
 
-// The faults in the order of their numbers, from 1 on, with their texts.
+// The errors in the order of their numbers, from 1 on, with their texts.
 static FAULTS: [(Fault, &str); 13] = [
     (Fault::Again, "EAGAIN"),
     (Fault::BadDescriptor, "EBADF"),
@@ -160,7 +160,7 @@ fn a_name_is_a_slash_and_up_to_255_bytes(rt: HostRuntime) -> Result<(), Fail> {
     Ok(())
 }
 
-// Notes an entry in a table of three processes.
+// Updates a table of three processes for an entry.
 fn note(table: &mut [Owner; 4], here: u64, entry: Entry, queue: u64)
     requires process { entry.process < 4 }
     requires numbers { FitsSlots entry.call entry.reply }
@@ -180,7 +180,7 @@ fn expect_held<A: Abort>(rt: &A, table: &[Owner; 4], p: u32, d: u32, queue: Opti
     same(rt, found, queue, "the queue of the descriptor");
 }
 
-// The lowest free number and the lowest that is held, of process 1.
+// The lowest free number, and the lowest that is held, of process 1.
 fn expect_numbers<A: Abort>(rt: &A, table: &[Owner; 4], free: u32, held: Option<u32>) {
     same(
         rt,
@@ -255,7 +255,7 @@ const COLLECT: Entry = Entry {
     reply: Reply::Collected { by: 6 },
 };
 
-// The process that waits the longest on a queue, with the place of its wait.
+// The process that has waited longest on a queue, with the place of its wait.
 fn expect_first<A: Abort>(
     rt: &A,
     table: &[Owner; 4],
@@ -365,7 +365,7 @@ fn moments_are_ordered_by_seconds_and_then_by_nanoseconds(rt: HostRuntime) {
     same(&rt, zero <= zero, true, "a moment not after itself");
 }
 
-// The first moment is before the second.
+// The first time is before the second.
 fn expect_order<A: Abort>(rt: &A, before: Deadline, after: Deadline) {
     same(rt, before < after, true, "the earlier moment is less");
     same(rt, after > before, true, "the later moment is greater");
@@ -392,7 +392,7 @@ const SEND_NOTIFIES: Entry = Entry {
     reply: Reply::Queued { notified: Some(4) },
 };
 
-// What stands after an entry on the queue of the registration, or on another.
+// The registration after an entry, which is on its queue or on another.
 fn expect_after<A: Abort>(
     rt: &A,
     on_it: bool,

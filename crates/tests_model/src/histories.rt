@@ -1,4 +1,5 @@
-// Built journals, the checker's verdict on each, and the calls that no clause sees succeed.
+// Constructed journals, the checker's verdict on each, and calls of functions whose success no
+// clause states.
 use crate::same::same;
 use mq_core::checker::check_history;
 use mq_core::entries::{Access, Attr, Call, Deadline, Entry, OpenFlags, Reply, Status};
@@ -47,7 +48,7 @@ fn open(process: u32, d: u32, name: &'static [u8]) -> Line {
     open_for(2, process, d, name)
 }
 
-// An open of a queue for so many messages of 8 bytes.
+// An open of a queue for `maxmsg` messages of 8 bytes.
 fn open_for(maxmsg: i64, process: u32, d: u32, name: &'static [u8]) -> Line {
     let flags = flags(true);
     let attr = Some(Attr { maxmsg, msgsize: 8 });
@@ -200,7 +201,7 @@ fn unlink_has_a_name(rt: HostRuntime) {
     );
 }
 
-// An open of the queue that is there, by a process that holds none.
+// An open of the queue that exists, by a process that holds none.
 fn open_too(process: u32) -> Line {
     let call = Call::MqOpen {
         flags: flags(false),
@@ -285,7 +286,7 @@ fn withdraw(process: u32, now: Deadline, wait: u64) -> Line {
     )
 }
 
-// Two processes and a queue for one message, whose send with a deadline waits at place 5.
+// Two processes and a queue for one message. A send with a deadline waits at place 5.
 fn waiting_send() -> [Line; 6] {
     [
         open_for(1, 1, 0, b"/q"),

@@ -1,5 +1,6 @@
-//! Tests of the types, the definitions, the laws and the checker of journals, by what `mq_core` shows. They stand here and not in
-//! those crates, so that none is proved once more for them.
+//! Tests of the types, the definitions, the laws and the checker of journals, through the public
+//! items of `mq_core`. They are in a crate of their own, so that none of those crates is proved
+//! again for them.
 #![tactic(auto)]
 
 #[cfg(test)]

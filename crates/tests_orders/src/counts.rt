@@ -1,4 +1,5 @@
-// Scripts with many orders that come to few states. How much they come to was counted by a search of its own over lists.
+// Scripts with many interleavings that lead to few states. The numbers of outcomes were counted by
+// a separate search over lists.
 use schedules::outcomes::Collected;
 use script_orders::orders::{outcomes_of, play_of};
 use script_text::script::read_script;
@@ -6,14 +7,14 @@ use std::alloc::Global;
 use std::process::Abort;
 use std::test::Fail;
 
-// All that a script comes to, within so many steps.
+// All outcomes of a script, within this number of steps.
 fn collected_of(alloc: Global, script: &str, budget: u64) -> Result<Collected, Fail> {
     let script = read_script(alloc, script.as_bytes())?;
     let mut play = play_of(alloc, &script)?;
     Ok(outcomes_of(alloc, &mut play, budget)?)
 }
 
-// How many outcomes and deadlocks its third phase has.
+// The numbers of outcomes and of deadlocks of its third phase.
 fn counts(collected: &Collected) -> (usize, usize) {
     let last = collected.found.iter().filter(|w| w.outcome.stage == 2);
     let stuck = collected
@@ -39,7 +40,8 @@ fn has(
     Ok(())
 }
 
-// Sixteen sends to a queue with room for ten: 63,063,000 orders, in each of which all processes wait at the end.
+// Sixteen sends to a queue with room for ten: 63,063,000 interleavings, in each of which all
+// processes wait at the end.
 static SENDS: &str = "processes 4
 1 open /q bc 10 8
 --
@@ -70,7 +72,7 @@ fn sends_of_four_that_all_wait(rt: HostRuntime) -> Result<(), Fail> {
     has(&rt, rt.alloc(), SENDS, 100_000, (0, 68))
 }
 
-// Three processes that each send and receive by turns.
+// Three processes that send and receive alternately.
 static TURNS: &str = "processes 3
 1 open /q bc 10 8
 --
@@ -129,8 +131,8 @@ fn an_unlink_to_come_leaves_equivalent_states_merged(rt: HostRuntime) -> Result<
     has(&rt, rt.alloc(), SENDS_THEN_UNLINK, 100_000, (1, 0))
 }
 
-// Four processes that each create a queue of their own and send to it: wherever in the order a queue
-// was created, the states are equivalent if the same queues exist in the same order.
+// Four processes that each create a queue of their own and send to it. States are equivalent if the
+// same queues exist in the same order, however the creations interleaved with other calls.
 static CREATIONS: &str = "processes 4
 1 open /a bc 4 8
 2 open /b bc 4 8

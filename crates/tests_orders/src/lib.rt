@@ -1,5 +1,5 @@
-//! Tests of every order in which the calls of a script can come. They stand here and not in `script_orders`, so that it is not proved
-//! once more for them.
+//! Tests of trying every interleaving of a script's calls. They are in a crate of their own, so
+//! that `script_orders` is not proved again for them.
 #![tactic(auto)]
 
 #[cfg(test)]

@@ -1,4 +1,4 @@
-// Scripts whose orders are known.
+// Scripts whose interleavings are known.
 use script_orders::orders::{outcomes_of, play_of};
 use script_orders::report::report_text;
 use script_text::script::read_script;
@@ -6,7 +6,7 @@ use std::alloc::Global;
 use std::process::Abort;
 use std::test::Fail;
 
-// What is printed of a script is this.
+// This is printed for a script.
 fn prints(
     rt: &impl Abort,
     alloc: Global,
@@ -22,7 +22,7 @@ fn prints(
     Ok(())
 }
 
-// Two receives at one queue with two messages: either process may be first.
+// Two receives from one queue with two messages: either process may be first.
 static RACE: &str = "processes 2
 1 open /q bc 10 8
 --
@@ -57,7 +57,7 @@ fn either_process_receives_first(rt: HostRuntime) -> Result<(), Fail> {
     prints(&rt, rt.alloc(), RACE, 10000, RACE_ORDERS)
 }
 
-// A budget that is too small says so.
+// If the budget is too small, the report says so.
 #[test]
 fn budget_is_used_up(rt: HostRuntime) -> Result<(), Fail> {
     prints(
@@ -73,7 +73,8 @@ the budget of 0 steps was used up: there may be more
     )
 }
 
-// The process that does not wait is refused where it comes late; where it comes first, the other waits for ever.
+// The process that does not wait fails if it comes late. If it comes first, the other waits for
+// ever.
 static DEADLOCK: &str = "processes 2
 1 open /q bc 10 8
 --

@@ -1,4 +1,5 @@
-//! Tests of the processes, by what `mq` shows. They stand here and not in that crate, so that it is not proved once more for them.
+//! Tests of the processes, through the public items of `mq`. They are in a crate of their own, so
+//! that `mq` is not proved again for them.
 #![tactic(auto)]
 
 #[cfg(test)]

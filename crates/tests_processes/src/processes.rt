@@ -1,4 +1,5 @@
-//! Processes over a lock, by functions that are generic over it. What processes are told in one thread is a table of steps.
+//! Processes over a lock, by functions that are generic over it. What calls in one thread return is
+//! a table of steps.
 ghost use Rattle.std.specs.Prelude.{◌≡◌, length, []};
 ghost use Rattle.mq.specs.Calls.{IsFree};
 ghost use Rattle.fast_mutex.specs.Items.{tickets_from};
@@ -29,7 +30,7 @@ mod steps;
 mod threads;
 mod walks;
 
-/// Queues for two processes, and those.
+/// A system of two processes.
 #[derive(Drop)]
 struct Pair<L: Look<Guarded>> {
     mq: Mq<L>,
@@ -37,7 +38,8 @@ struct Pair<L: Look<Guarded>> {
     two: Process<L>,
 }
 
-// Queues for two processes, and those in a vector. One allocation may be refused from outside.
+// A system of two processes, which are in a vector. One allocation may be made to fail from
+// outside.
 fn make_two<L: Look<Guarded>, R: Abort + Print>(rt: &R, alloc: Global) -> (Mq<L>, Vec<Process<L>>)
     ensures { result.1.items ≡ tickets_from result.0 1 2 }
 {
@@ -60,7 +62,7 @@ fn make_pair<L: Look<Guarded>, R: Abort + Print>(rt: &R, alloc: Global) -> Pair<
     Pair { mq, one, two }
 }
 
-// Room for two processes. One allocation may be refused from outside.
+// Room for two processes. One allocation may be made to fail from outside.
 fn room<L: Look<Guarded>, R: Abort + Print>(rt: &R, alloc: Global) -> Vec<Process<L>>
     ensures { result.items ≡ [] }
 {
@@ -73,7 +75,7 @@ fn room<L: Look<Guarded>, R: Abort + Print>(rt: &R, alloc: Global) -> Vec<Proces
     }
 }
 
-// The end with both processes: the journal.
+// The end with both processes, which returns the journal.
 fn finish<L: Look<Guarded>, A: Abort>(
     rt: &A,
     mut processes: Vec<Process<L>>,
@@ -115,7 +117,7 @@ fn journal_after<R: Wait + Clock + Abort + Print>(
     after::<FastMutex<Guarded>, R>(rt, alloc, steps)
 }
 
-/// The journal is legal, and has just these processes and replies.
+/// The journal is legal, and has exactly these processes and replies.
 pub fn expect_journal<R: Abort>(rt: &R, journal: &Journal, wanted: &[(u32, Reply)]) {
     assert_eq!(rt; journal.len(), wanted.len() as u64);
     for (place, wanted) in (0..).zip(wanted) {
@@ -179,7 +181,8 @@ const OPENED: Reply = Reply::Opened {
 
 const QUEUED: Reply = Reply::Queued { notified: None };
 
-// The fourth entry hands a message to a waiting receive, and the last but one admits a waiting send.
+// The fourth entry hands a message to a waiting receive, and the last but one admits a waiting
+// send.
 static REPLIES: [(u32, Reply); 9] = [
     (1, CREATED),
     (2, OPENED),
@@ -242,7 +245,7 @@ fn exchanged<R: Print>(rt: &R, alloc: Global, journal: &Journal) -> Option<Journ
     Some(other)
 }
 
-// Two receives exchanged are no history.
+// A journal with two receives exchanged is not legal.
 fn expect_order<R: Abort + Print>(rt: &R, alloc: Global, journal: &Journal) {
     expect_journal(rt, journal, &REPLIES_IN_ORDER);
     assert_eq!(rt; journal.len(), 5);
@@ -272,7 +275,7 @@ fn a_verdict_is_that_of_the_rules_with_memory_or_without(rt: HostRuntime) {
     expect_verdicts(&rt, alloc, &journal_after(&rt, alloc, &IN_ORDER));
 }
 
-// How a system of so many processes is refused, if it is.
+// The error of making a system of n processes, if there is one.
 fn refusal<L: Look<Guarded>>(alloc: Global, n: u32) -> Option<Fault> {
     Mq::<L>::new(alloc, n).err()
 }

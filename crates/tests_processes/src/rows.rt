@@ -1,4 +1,4 @@
-//! Worked rows of one process, with their own limits and buffers, and with their own entries alone.
+//! Worked rows of one process, with their own limits and buffers, and with their own entries only.
 ghost use Rattle.std.specs.Prelude.{◌≡◌, []};
 ghost use Rattle.fast_mutex.specs.Items.{tickets_from};
 ghost use Rattle.mq.specs.Calls.{IsFree};
@@ -12,22 +12,22 @@ use std::process::Abort;
 use std::sync::Wait;
 use std::time::Clock;
 
-// What the process asks.
+// What the process calls.
 #[derive(Clone, Copy)]
 enum Ask {
-    // An open of /q, which creates it, for so many messages of so many bytes.
+    // An open of /q, which creates it, for this number of messages of this number of bytes.
     Open(i64, i64),
     Send(&'static [u8], u32),
-    // A receive, which gives this message.
+    // A receive, which must return this message.
     Receive(&'static [u8]),
-    // A receive that waits until one second after the first moment of its clock.
+    // A receive that waits until one second after the first time of its clock.
     ReceiveUntil,
     Getattr(Status),
     Close,
     Exit,
 }
 
-// Whether the call was done and gave what is said, or how it was refused.
+// Whether the call succeeded and returned what it must, or its error.
 fn told<L: Look<Guarded>, R: Wait + Clock>(
     rt: &R,
     mq: &Mq<L>,
@@ -74,7 +74,7 @@ fn told<L: Look<Guarded>, R: Wait + Clock>(
     }
 }
 
-// Takes the steps in turn.
+// Takes the steps in order.
 fn take_steps<L: Look<Guarded>, R: Wait + Clock + Abort>(
     rt: &R,
     mq: &Mq<L>,
@@ -108,7 +108,7 @@ fn make_one<L: Look<Guarded>, A: Abort>(
     made.ok().expect(rt, "memory")
 }
 
-// The end with the one process: the journal.
+// The end with the one process, which returns the journal.
 fn finish<L: Look<Guarded>, A: Abort>(
     rt: &A,
     mq: Mq<L>,

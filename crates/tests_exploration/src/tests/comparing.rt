@@ -4,7 +4,7 @@ use std::alloc::Global;
 use std::process::Abort;
 use std::test::Fail;
 
-// Compares programs with all their interleavings. Few are too large.
+// Compares programs with all their interleavings. Few have too many.
 fn all_same(
     rt: &impl Abort,
     alloc: Global,

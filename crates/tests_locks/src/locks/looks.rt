@@ -1,4 +1,5 @@
-//! Looks from outside: a bell that process 2 rings, and that process 1 waits for and hears.
+//! Polls from outside the critical section: process 2 rings a bell, and process 1 waits for the
+//! ring and hears it.
 ghost use Rattle.std.specs.Prelude.{◌≡◌, [], refl, map, IfSome};
 ghost use Rattle.fast_mutex.specs.Items.{tickets_from};
 
@@ -53,7 +54,7 @@ impl Logged for Bell {
     ghost stays = { call_stays };
 }
 
-// One stay: process 2 rings, and another hears what rang.
+// One critical section: process 2 rings, and the other hears it if the bell rang.
 fn visit<L: Look<Bell>, R: Wait>(rt: &R, lock: &L, seat: L::Seat) -> L::Seat
     requires { (L.ticket seat).lock ≡ L.id lock.now }
     ensures { (L.ticket result).lock ≡ L.id lock.now }
@@ -77,7 +78,8 @@ fn visit<L: Look<Bell>, R: Wait>(rt: &R, lock: &L, seat: L::Seat) -> L::Seat
     lock.leave(inside, bell)
 }
 
-// One allocation may be refused from outside: then the state that comes back is as it was, and is tried once more.
+// One allocation may be made to fail from outside. Then the state comes back unchanged, and `new`
+// is tried again.
 fn lock_for_two<L: Look<Bell>, R: Print>(rt: &R, alloc: Global) -> Option<(L, Vec<L::Seat>)>
     ensures { IfSome result (λ r. map L.ticket r.1.items ≡ tickets_from (L.id r.0) 1 2) }
 {
@@ -96,7 +98,8 @@ fn lock_for_two<L: Look<Bell>, R: Print>(rt: &R, alloc: Global) -> Option<(L, Ve
     }
 }
 
-/// Process 1 looks before the ring, twice after it, and once it has heard it. Process 2 looks after the ring.
+/// Process 1 polls before the ring, twice after it, and after it has heard it. Process 2 polls
+/// after the ring.
 fn expect_looks<L: Look<Bell>, R: Wait + Abort>(
     rt: &R,
     lock: &L,

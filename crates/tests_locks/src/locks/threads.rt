@@ -1,4 +1,4 @@
-//! Threads over each lock, each with many stays of one process.
+//! Threads over each lock, each with many critical sections of one process.
 ghost use Rattle.std.specs.Prelude.{◌≡◌, ◌≤◌, ◌∷◌, []};
 ghost use Rattle.fast_mutex.specs.Word.{ticket_of, lock_id, made_with};
 ghost use Rattle.fast_mutex.specs.Fast.{IsSeatOf};
@@ -13,7 +13,7 @@ use std::thread::{Threads, map_vec};
 
 const STAYS: u32 = 1000;
 
-/// The notes of so many threads over the lock of one word.
+/// The notes of this number of threads over the lock of one word.
 fn over_word_lock<R: Wait + Threads + Print + Abort + Sync>(
     rt: &R,
     alloc: Global,
@@ -41,7 +41,7 @@ fn over_word_lock<R: Wait + Threads + Print + Abort + Sync>(
     lock.finish(seats).ok().expect(rt, "all seats")
 }
 
-/// The notes of so many threads over Lamport's lock.
+/// The notes of this number of threads over Lamport's lock.
 fn over_fast_mutex<R: Wait + Threads + Print + Abort + Sync>(
     rt: &R,
     alloc: Global,
@@ -68,7 +68,7 @@ fn over_fast_mutex<R: Wait + Threads + Print + Abort + Sync>(
     lock.finish(seats).ok().expect(rt, "all seats")
 }
 
-// Each process's notes are all there, in its order.
+// The notes of each process are all there, in its order.
 fn expect_all<A: Abort>(rt: &A, notes: &Notes, threads: u32)
     requires { threads ≤ 32 }
 {

@@ -1,4 +1,5 @@
-//! Lamport's lock in one thread: two processes in turn, and their entries step by step in a fixed order.
+//! Lamport's lock in one thread: two processes take turns, and their acquisitions proceed step by
+//! step in a fixed order.
 ghost use Rattle.std.specs.Prelude.{◌≡◌, ◌∷◌, [], map};
 ghost use Rattle.fast_mutex.specs.Fast.{ticket_of, IsSeatOf};
 ghost use Rattle.fast_mutex.specs.Items.{tickets_from};
@@ -12,7 +13,7 @@ use std::io::Print;
 use std::process::Abort;
 use tests_refusals::refuse_all;
 
-// One step of an entry, which is not yet inside.
+// One step of an acquisition, which does not have the lock yet.
 fn step<A: Abort>(rt: &A, lock: &FastMutex<Notes>, walk: Walk<Notes>) -> Walk<Notes>
     requires { IsSeatOf (λ s. s.title ∷
         []) lock.now.table.shared.table_id lock.now.table.shared.key walk.seat }
@@ -25,7 +26,7 @@ fn step<A: Abort>(rt: &A, lock: &FastMutex<Notes>, walk: Walk<Notes>) -> Walk<No
     lock.step(walk)
 }
 
-// A step of process 1 or 2 for each number of the schedule, in turn.
+// A step of process 1 or 2 for each number in the schedule, in its order.
 fn by_schedule<A: Abort>(
     rt: &A,
     lock: &FastMutex<Notes>,
@@ -52,7 +53,7 @@ fn by_schedule<A: Abort>(
     (one, two)
 }
 
-// So many steps of one process.
+// This number of steps of one process.
 fn alone<A: Abort>(rt: &A, lock: &FastMutex<Notes>, walk: Walk<Notes>, steps: u32) -> Walk<Notes>
     requires { IsSeatOf (λ s. s.title ∷
         []) lock.now.table.shared.table_id lock.now.table.shared.key walk.seat }
@@ -65,7 +66,8 @@ fn alone<A: Abort>(rt: &A, lock: &FastMutex<Notes>, walk: Walk<Notes>, steps: u3
     walk
 }
 
-// A stay of an entry that has come in, at the point, by the path and with the steps that are wanted.
+// The critical section of an acquisition that has the lock, at this point, by this path and after
+// this number of steps.
 fn stay<A: Abort>(
     rt: &A,
     lock: &FastMutex<Notes>,
@@ -88,8 +90,9 @@ fn stay<A: Abort>(
     lock.leave(inside, notes)
 }
 
-// The entries of two processes in a fixed order: steps by a schedule and where they lead, twice; then the stay of the entry that
-// is inside, so many steps of the other, and its stay.
+// The acquisitions of two processes in a fixed order: steps by a schedule and the points that they
+// lead to, twice; then the critical section of the one that has the lock, a number of steps of the
+// other, and its critical section.
 #[derive(Clone, Copy)]
 struct Plan {
     before: &'static [u32],
@@ -102,7 +105,8 @@ struct Plan {
     second_stay: (At, Path, u64),
 }
 
-// The rest of a plan, from where one entry is inside: its stay, the steps and the stay of the other, and the end.
+// The rest of a plan, once one acquisition has the lock: its critical section, the steps and the
+// critical section of the other, and the end.
 fn expect_stays<A: Abort>(
     rt: &A,
     lock: FastMutex<Notes>,
@@ -126,7 +130,7 @@ fn expect_stays<A: Abort>(
     assert_eq!(rt; notes.title, 7);
 }
 
-// The steps of a schedule, which lead to these points.
+// The steps of a schedule, which must lead to these points.
 fn expect_points<A: Abort>(
     rt: &A,
     lock: &FastMutex<Notes>,
@@ -146,7 +150,7 @@ fn expect_points<A: Abort>(
     (one, two)
 }
 
-// Two entries that have not begun.
+// Two acquisitions that have not begun.
 fn begin_two<A: Abort>(
     rt: &A,
     lock: &FastMutex<Notes>,
@@ -182,7 +186,7 @@ fn expect_plan<A: Abort + Print>(rt: &A, alloc: Global, plan: Plan) {
     }
 }
 
-// Process 2 turns back at y and waits while process 1 goes in by the slow path.
+// Process 2 backs out at y and waits while process 1 acquires the lock by the slow path.
 #[test]
 fn slow_entry_goes_first_and_the_other_begins_again(rt: HostRuntime) {
     let plan = Plan {
@@ -198,8 +202,8 @@ fn slow_entry_goes_first_and_the_other_begins_again(rt: HostRuntime) {
     expect_plan(&rt, rt.alloc(), plan);
 }
 
-// Both processes load y while it is 0. An exchange of y in place of that load would let process 1 take y there, and
-// turn process 2 back.
+// Both processes load y while it is 0. An exchange of y instead of that load would let process 1
+// take y there, and make process 2 back out.
 #[test]
 fn both_pass_the_gate_and_the_second_goes_first(rt: HostRuntime) {
     let plan = Plan {

@@ -1,11 +1,13 @@
-//! Waits with a deadline that are begun and not waited for, and who is blocked meanwhile.
+//! Waits with a deadline that are started and not waited for, and which processes are blocked
+//! meanwhile.
 use super::journal_after;
 use super::steps::{Ask, CREATE, OPEN, Step, Told};
 use mq::{Collected, Received};
 
 const RECEIVED: Received = Received { len: 1, prio: 0 };
 
-// A process is blocked from the call that waits to the entry that names its wait, and not only to its collect. Questions add no entry.
+// A process is blocked from the call that waits to the entry that serves its wait, and not until
+// its collect. The calls that ask add no entry.
 static STEPS: [Step; 18] = [
     (1, Ask::JournalLen, Told::Entries(0)),
     (1, Ask::Open(CREATE, 1), Told::Opened(0)),

@@ -14,7 +14,8 @@ use std::sync::Wait;
 use std::time::Clock;
 use tests_refusals::{refuse_all, say_refused};
 
-// A system of one process with these bounds, and that process in a vector. One allocation may be refused from outside.
+// A system of one process with these bounds, and that process in a vector. One allocation may be
+// made to fail from outside.
 fn make_one<L: Look<Guarded>, R: Abort + Print>(
     rt: &R,
     alloc: Global,
@@ -34,7 +35,7 @@ fn make_one<L: Look<Guarded>, R: Abort + Print>(
     }
 }
 
-// Room for a process. One allocation may be refused from outside.
+// Room for a process. One allocation may be made to fail from outside.
 fn room_for_one<L: Look<Guarded>, R: Abort + Print>(rt: &R, alloc: Global) -> Vec<Process<L>>
     ensures { result.items ≡ [] }
 {
@@ -47,7 +48,7 @@ fn room_for_one<L: Look<Guarded>, R: Abort + Print>(rt: &R, alloc: Global) -> Ve
     }
 }
 
-// The end with the one process: how many entries the journal has.
+// The end with the one process. Returns the number of entries of the journal.
 fn finish_alone<L: Look<Guarded>, A: Abort>(
     rt: &A,
     mq: Mq<L>,
@@ -80,8 +81,8 @@ fn expect_alone<L: Look<Guarded>, R: Wait + Clock + Abort + Print>(
     }
 }
 
-// A system with these bounds, whose one process takes the steps while every allocation may be refused from outside. Gives how many
-// entries the journal has at the end.
+// A system with these bounds, whose one process takes the steps while every allocation may be made
+// to fail from outside. Returns the number of entries of the journal at the end.
 fn after<L: Look<Guarded>, R: Wait + Clock + Abort + Print>(
     rt: &R,
     alloc: Global,
@@ -117,7 +118,7 @@ const EMPTY: Status = Status {
     curmsgs: 0,
 };
 
-// Four entries, and four bytes: two of the name, and two of messages.
+// Four entries and four bytes: two of the name, and two of messages.
 static FOUR_OF_EACH: [Step; 12] = [
     (1, Ask::Open(CREATE, 2), Told::Opened(0)),
     (1, Ask::Send(0, b"ab", 0), Told::Done),
@@ -160,7 +161,7 @@ fn without_an_entry_each_call_that_has_one_is_refused(rt: HostRuntime) {
     assert_eq!(rt; alone(&rt, rt.alloc(), 0, 100, &NOTHING_FITS), 0);
 }
 
-// How a system of so many processes with these bounds is refused, if it is.
+// The error of making a system of n processes with these bounds, if there is one.
 fn refusal_of<L: Look<Guarded>>(alloc: Global, n: u32, entries: u64, bytes: u64) -> Option<Fault> {
     Mq::<L>::bounded(alloc, n, entries, bytes).err()
 }

@@ -16,8 +16,9 @@ const NONBLOCK: Status = Status {
     ..EMPTY
 };
 
-// A registration is notified once, by a message that comes to the empty queue. Where nothing is present, a descriptor with the flag
-// refuses a receive. A queue lives on without descriptors until its unlink.
+// A registration is notified once, by a message that enters the empty queue. If there is no
+// message, a receive by a nonblocking descriptor fails. A queue exists without descriptors until
+// its unlink.
 static EACH_CALL: [Step; 17] = [
     (1, Ask::Open(CREATE, 2), Told::Opened(0)),
     (1, Ask::Notify(0, Some(7)), Told::Done),

@@ -1,4 +1,4 @@
-//! Receives whose deadline comes, by a clock of the test and by the real one.
+//! Receives with a deadline that passes, by a clock of the test and by the real one.
 use super::steps::{Ask, CREATE, OPEN, Step, Told, expect_steps};
 use super::{Pair, finish, make_pair, room};
 use fast_mutex::{FastMutex, Look};
@@ -14,13 +14,13 @@ use std::sync::Wait;
 use std::sync::atomic::{AtomicBool, Ordering};
 use std::time::Clock;
 
-/// The first moment of the clock of the test.
+/// The first time of the clock of the test.
 pub const START: Deadline = Deadline { sec: 0, nsec: 0 };
 
-/// The second moment of the clock of the test.
+/// The second time of the clock of the test.
 pub const LATER: Deadline = Deadline { sec: 1, nsec: 0 };
 
-/// A clock that gives the start once, and then the moment one second later.
+/// A clock that returns the start once, and then the time one second later.
 #[derive(Drop)]
 pub struct Ticks {
     asked: AtomicBool,
@@ -65,7 +65,7 @@ static STEPS: [Step; 7] = [
     (1, Ask::Waiting, Told::Room(None)),
 ];
 
-// The journal of those steps, and how long they took.
+// The journal of these steps, and how long they took.
 fn steps_with_deadlines<L: Look<Guarded>, R: Wait + Clock + Abort + Print>(
     rt: &R,
     alloc: Global,

@@ -1,4 +1,4 @@
-//! The end of the queues: with nobody, with one process of two, and while one waits.
+//! The end of a system: with no process, with one process of two, and while one waits.
 ghost use Rattle.std.specs.Prelude.{◌≡◌, []};
 
 use super::steps::{Ask, CREATE, Step, Told, expect_steps};
@@ -15,7 +15,7 @@ use std::process::Abort;
 use std::sync::Wait;
 use std::time::Clock;
 
-// The end without a process: the queues come back.
+// The end without a process: the system comes back.
 fn finish_empty<L: Look<Guarded>, A: Abort>(rt: &A, alloc: Global, mq: Mq<L>) -> Mq<L>
     ensures { result ≡ mq }
 {
@@ -27,7 +27,7 @@ fn finish_empty<L: Look<Guarded>, A: Abort>(rt: &A, alloc: Global, mq: Mq<L>) ->
     whole
 }
 
-// The end with process 1 alone: the queues and the process come back, with the room for both.
+// The end with process 1 only: the system and the process come back, with the room for both.
 fn finish_early<L: Look<Guarded>, A: Abort>(
     rt: &A,
     mut processes: Vec<Process<L>>,

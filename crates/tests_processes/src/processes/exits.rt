@@ -1,4 +1,5 @@
-//! The exit of a process with 1 to 16 descriptors, where any one allocation may be refused from outside.
+//! The exit of a process with 1 to 16 descriptors, while any one allocation may be made to fail
+//! from outside.
 ghost use Rattle.std.specs.Prelude.{◌≡◌};
 
 use super::steps::{Ask, CREATE, Told, asked, asked_once};
@@ -16,7 +17,7 @@ use std::sync::Wait;
 use std::time::Clock;
 use tests_refusals::say_refused;
 
-// Whether descriptor d stands open.
+// Whether descriptor d is open.
 fn is_open<L: Look<Guarded>, R: Wait + Clock + Print>(
     rt: &R,
     mq: &Mq<L>,
@@ -29,7 +30,7 @@ fn is_open<L: Look<Guarded>, R: Wait + Clock + Print>(
     asked(rt, mq, p, Ask::Getattr(d), &mut [0; 8]) != Told::Refused(Fault::BadDescriptor)
 }
 
-// Opens so many descriptors.
+// Opens this number of descriptors.
 fn expect_opens<L: Look<Guarded>, R: Wait + Clock + Abort + Print>(
     rt: &R,
     mq: &Mq<L>,
@@ -45,7 +46,7 @@ fn expect_opens<L: Look<Guarded>, R: Wait + Clock + Abort + Print>(
     }
 }
 
-// How many descriptors are closed below those that stand open. Above the first that is open all are.
+// How many descriptors are closed below those that are open. Above the first that is open all are.
 fn closed<L: Look<Guarded>, R: Wait + Clock + Abort + Print>(
     rt: &R,
     mq: &Mq<L>,
@@ -64,7 +65,8 @@ fn closed<L: Look<Guarded>, R: Wait + Clock + Abort + Print>(
     first
 }
 
-// An exit closes all. Where an allocation is refused it has closed the lower ones alone, and the next exit closes the others.
+// An exit closes all descriptors. If an allocation fails, it has closed only the lower ones, and
+// the next exit closes the others.
 fn expect_exit<L: Look<Guarded>, R: Wait + Clock + Abort + Print>(
     rt: &R,
     mq: &Mq<L>,
@@ -83,7 +85,7 @@ fn expect_exit<L: Look<Guarded>, R: Wait + Clock + Abort + Print>(
     assert_eq!(rt; closed(rt, mq, p, count), count);
 }
 
-// The journal of a process that opens so many descriptors and exits.
+// The journal of a process that opens this number of descriptors and exits.
 fn opened_and_exited<L: Look<Guarded>, R: Wait + Clock + Abort + Print>(
     rt: &R,
     alloc: Global,

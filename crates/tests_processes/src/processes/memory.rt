@@ -1,4 +1,4 @@
-//! The calls of processes that take no memory, while every allocation may be refused from outside.
+//! Calls of processes that take no memory, while every allocation may be made to fail from outside.
 use super::steps::{Ask, CREATE, OPEN, Step, Told, expect_steps};
 use super::{CREATED, OPENED, Pair, expect_journal, finish, make_pair, room};
 use fast_mutex::{FastMutex, Look};

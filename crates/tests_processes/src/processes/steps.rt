@@ -1,4 +1,4 @@
-//! Steps of two processes over one buffer: what a process asks, and what it must be told.
+//! Steps of two processes over one buffer: the call of a process, and what it must return.
 ghost use Rattle.std.specs.Prelude.{◌≡◌, None};
 ghost use Rattle.mq.specs.Calls.{IsFree};
 
@@ -15,7 +15,7 @@ use std::sync::Wait;
 use std::time::{Clock, Duration};
 use tests_refusals::say_refused;
 
-/// Both accesses, to a queue that the open creates where it is not.
+/// For sending and receiving; creates the queue if there is none.
 pub const CREATE: OpenFlags = OpenFlags {
     access: Access::Both,
     create: true,
@@ -23,13 +23,13 @@ pub const CREATE: OpenFlags = OpenFlags {
     nonblock: false,
 };
 
-/// Both accesses, to a queue that is there.
+/// For sending and receiving, to a queue that exists.
 pub const OPEN: OpenFlags = OpenFlags {
     create: false,
     ..CREATE
 };
 
-/// What a process asks. The queue is /q, for so many messages of at most 8 bytes.
+/// What a process calls. The queue is /q, for this number of messages of at most 8 bytes.
 #[derive(Clone, Copy)]
 pub enum Ask<'a> {
     Open(OpenFlags, i64),
@@ -38,19 +38,19 @@ pub enum Ask<'a> {
     Exit,
     Send(u32, &'a [u8], u32),
     Receive(u32),
-    /// A send and a receive that wait so many milliseconds of real time at most.
+    /// A send and a receive that wait for at most this number of milliseconds of real time.
     TimedSend(u32, &'a [u8], u32, u64),
     TimedReceive(u32, u64),
-    /// A receive that waits until the second moment of a clock of the test.
+    /// A receive that waits until the second time of a clock of the test.
     ReceiveUntilTick(u32),
     StartSend(u32, &'a [u8], u32),
     StartReceive(u32),
-    /// The same with a deadline, the second moment of the clock of the test, at the first one.
+    /// The same with a deadline, the second time of the clock of the test, at its first time.
     StartTimedSend(u32, &'a [u8], u32),
     StartTimedReceive(u32),
     /// Whether these processes are blocked.
     AreBlocked(&'a [u32]),
-    /// How many entries the journal has.
+    /// The number of entries in the journal.
     JournalLen,
     Notify(u32, Option<u64>),
     NextNotice,
@@ -60,11 +60,11 @@ pub enum Ask<'a> {
     Number,
     Waiting,
     Answered,
-    /// What the buffer has.
+    /// The content of the buffer.
     Buffer,
 }
 
-/// What it is told.
+/// What the call returns.
 #[derive(Clone, Copy, PartialEq, Eq)]
 pub enum Told {
     Done,
@@ -81,11 +81,11 @@ pub enum Told {
     Entries(u64),
     Is(bool),
     Bytes([u8; 8]),
-    /// It may not ask that now.
+    /// The call is not allowed now.
     Nothing,
 }
 
-/// Process 1 or 2 asks, and must be told this.
+/// Process 1 or 2 makes this call, which must return this.
 pub type Step = (u32, Ask<'static>, Told);
 
 // The calls of a process that has no open wait.
@@ -154,7 +154,7 @@ fn begun(sent: bool) -> Told {
     if sent { Told::Done } else { Told::Waits }
 }
 
-// What the open wait came to, if there is one that fits the buffer.
+// The outcome of the open wait, if there is one that fits the buffer.
 fn collect<L: Look<Guarded>, R: Wait>(
     rt: &R,
     mq: &Mq<L>,
@@ -170,7 +170,7 @@ fn collect<L: Look<Guarded>, R: Wait>(
     }
 }
 
-/// What a process is told.
+/// What a call returns.
 pub fn asked_once<L: Look<Guarded>, R: Wait + Clock>(
     rt: &R,
     mq: &Mq<L>,
@@ -197,7 +197,8 @@ pub fn asked_once<L: Look<Guarded>, R: Wait + Clock>(
     }
 }
 
-/// What a process is told. Where an allocation was refused the buffer is as before, and it asks once more.
+/// What a call returns. If an allocation failed, the buffer is unchanged, and the call is made
+/// again.
 pub fn asked<L: Look<Guarded>, R: Wait + Clock + Print>(
     rt: &R,
     mq: &Mq<L>,
@@ -218,7 +219,7 @@ pub fn asked<L: Look<Guarded>, R: Wait + Clock + Print>(
     }
 }
 
-/// Two processes take the steps in turn, with one buffer.
+/// Two processes take the steps in order, with one buffer.
 pub fn expect_steps<L: Look<Guarded>, R: Wait + Clock + Abort + Print>(
     rt: &R,
     mq: &Mq<L>,

@@ -24,7 +24,7 @@ static OPENS: [Step; 2] = [
     (2, Ask::Open(OPEN, 2), Told::Opened(0)),
 ];
 
-// Sends as many messages, each with its number, through a queue that holds two.
+// Sends this number of messages, each with its number, through a queue that holds two.
 fn send_all<L: Look<Guarded>, R: Wait + Clock + Print>(
     rt: &R,
     mq: &Mq<L>,
@@ -41,8 +41,8 @@ fn send_all<L: Look<Guarded>, R: Wait + Clock + Print>(
     (p, all)
 }
 
-// Receives as many messages, every second one with a deadline that does not come, and sees that they come in the order of
-// their numbers.
+// Receives as many messages, every second one with a deadline that does not pass, and checks that
+// they come in the order of their numbers.
 fn receive_all<L: Look<Guarded>, R: Wait + Clock + Print>(
     rt: &R,
     mq: &Mq<L>,
@@ -115,7 +115,7 @@ where
     finish(rt, room(rt, alloc), mq, one, two)
 }
 
-// An open for each, and 400 calls at least, since a call that waited has two entries.
+// An open of each process, and at least 400 entries of calls, since a call that waited has two.
 fn expect_all<A: Abort>(rt: &A, journal: &Journal) {
     assert!(rt; journal.len() >= 402);
     assert_eq!(rt; check_history(journal), Ok(()));

@@ -1,4 +1,4 @@
-//! Processes that are taken into the lock step by step.
+//! Processes that acquire the lock step by step.
 ghost use Rattle.std.specs.Prelude.{◌≡◌, Some};
 ghost use Rattle.mq_model.specs.Waits.{wait_deadline};
 ghost use Rattle.mq_state.specs.Buffers.{waiting_room};
@@ -29,7 +29,7 @@ const OPEN: Call = Call::MqOpen {
     attr: Some(SMALL),
 };
 
-// The process that has tried to open a queue, and whether memory was refused.
+// The process after it tried to open a queue, and whether memory was refused.
 fn opens<L: Look<Guarded>, A: Abort>(rt: &A, mq: &Mq<L>, guard: Guard<L>) -> (Process<L>, bool)
     requires made { guard.process.lock ≡ mq.now }
     requires free { IsFree guard.process }
@@ -40,7 +40,7 @@ fn opens<L: Look<Guarded>, A: Abort>(rt: &A, mq: &Mq<L>, guard: Guard<L>) -> (Pr
     (process, opened == Err(Fault::NoMemory))
 }
 
-// The process that has opened a queue. An allocation may be refused from outside.
+// The process after it opened a queue. An allocation may be made to fail from outside.
 fn opened<L: Look<Guarded>, R: Abort + Print>(rt: &R, mq: &Mq<L>, guard: Guard<L>) -> Process<L>
     requires made { guard.process.lock ≡ mq.now }
     requires free { IsFree guard.process }
@@ -54,7 +54,7 @@ fn opened<L: Look<Guarded>, R: Abort + Print>(rt: &R, mq: &Mq<L>, guard: Guard<L
     opens(rt, mq, inside(rt, mq, process)).0
 }
 
-// The process comes in by its fifth step and not before.
+// The process acquires the lock by its fifth step and not before.
 fn in_by_the_fifth<L: Look<Guarded>, A: Abort>(rt: &A, mq: &Mq<L>, process: Process<L>) -> Guard<L>
     requires { process.lock ≡ mq.now }
     ensures { result.process ≡ process }
@@ -68,7 +68,7 @@ fn in_by_the_fifth<L: Look<Guarded>, A: Abort>(rt: &A, mq: &Mq<L>, process: Proc
         .expect(rt, "inside by five steps")
 }
 
-// The process does not come in.
+// The process does not acquire the lock.
 fn kept_out<L: Look<Guarded>, A: Abort>(rt: &A, mq: &Mq<L>, process: Process<L>) -> Acquisition<L>
     requires { process.lock ≡ mq.now }
     ensures { result.process ≡ process }
@@ -79,7 +79,7 @@ fn kept_out<L: Look<Guarded>, A: Abort>(rt: &A, mq: &Mq<L>, process: Process<L>)
     }
 }
 
-// The process comes in and leaves without a call.
+// The process acquires the lock and releases it without a call.
 fn in_and_out<L: Look<Guarded>, A: Abort>(rt: &A, mq: &Mq<L>, process: Acquisition<L>) -> Process<L>
     requires { process.process.lock ≡ mq.now }
     ensures { result.lock ≡ mq.now }
@@ -91,8 +91,8 @@ fn in_and_out<L: Look<Guarded>, A: Abort>(rt: &A, mq: &Mq<L>, process: Acquisiti
     guard.leave(mq)
 }
 
-// Process 1 comes in by its fifth step and not before, and opens a queue; meanwhile process 2 does not come in, and it leaves
-// without a call.
+// Process 1 acquires the lock by its fifth step and not before, and opens a queue. Meanwhile
+// process 2 does not acquire it; later it acquires it and releases it without a call.
 fn journal_of_walks<L: Look<Guarded>, R: Abort + Print>(rt: &R, alloc: Global) -> Journal {
     let Pair { mq, one, two } = make_pair::<L, R>(rt, alloc);
     let one = in_by_the_fifth(rt, &mq, one);
@@ -102,7 +102,7 @@ fn journal_of_walks<L: Look<Guarded>, R: Abort + Print>(rt: &R, alloc: Global) -
     finish(rt, room(rt, alloc), mq, one, two)
 }
 
-// The process that has read the entry at a place from inside.
+// The process after it read the entry at a place in its critical section.
 fn read<L: Look<Guarded>, A: Abort>(
     rt: &A,
     mq: &Mq<L>,
@@ -116,7 +116,8 @@ fn read<L: Look<Guarded>, A: Abort>(
     inside(rt, mq, process).entry(mq, place)
 }
 
-// What the process that made the only call finds inside: the verdict on the journal, its first entry, and that there is no second.
+// What the process that made the only call finds in its critical section: the verdict on the
+// journal, its first entry, and that there is no second.
 fn readings<L: Look<Guarded>, R: Abort + Print>(rt: &R, alloc: Global) -> Readings {
     let Pair { mq, one, two: _ } = make_pair::<L, R>(rt, alloc);
     let one = opened(rt, &mq, inside(rt, &mq, one));
@@ -129,7 +130,7 @@ fn readings<L: Look<Guarded>, R: Abort + Print>(rt: &R, alloc: Global) -> Readin
 
 type Readings = (Result<(), u64>, Option<Entry>, Option<Entry>);
 
-// The process inside, where nobody else is.
+// The process in its critical section, if no other process holds the lock.
 fn inside<L: Look<Guarded>, A: Abort>(rt: &A, mq: &Mq<L>, process: Process<L>) -> Guard<L>
     requires { process.lock ≡ mq.now }
     ensures { result.process ≡ process }
@@ -141,7 +142,7 @@ fn inside<L: Look<Guarded>, A: Abort>(rt: &A, mq: &Mq<L>, process: Process<L>) -
         .expect(rt, "nobody else inside")
 }
 
-// The process that has begun, at the start, to wait for a message until a moment.
+// The process after it started to wait for a message, at the start, with a deadline.
 fn waiting<L: Look<Guarded>, A: Abort>(
     rt: &A,
     mq: &Mq<L>,
@@ -177,7 +178,7 @@ fn both_opened<L: Look<Guarded>, R: Abort + Print>(rt: &R, alloc: Global) -> Pai
     Pair { mq, one, two }
 }
 
-// The process that has waited until the deadline, and what its wait came to.
+// The process after it waited until the deadline, and the outcome of its wait.
 fn waited<L: Look<Guarded>, A: Abort>(
     rt: &A,
     mq: &Mq<L>,
@@ -192,7 +193,7 @@ fn waited<L: Look<Guarded>, A: Abort>(
     inside(rt, mq, process).end_wait(mq, buf, LATER)
 }
 
-// The process that has sent a message.
+// The process after it sent a message.
 fn sent<L: Look<Guarded>, A: Abort>(rt: &A, mq: &Mq<L>, process: Process<L>) -> Process<L>
     requires made { process.lock ≡ mq.now }
     requires free { IsFree process }
@@ -208,7 +209,7 @@ fn sent<L: Look<Guarded>, A: Abort>(rt: &A, mq: &Mq<L>, process: Process<L>) -> 
         .0
 }
 
-// As `waited`, where process 2 sends before the deadline.
+// As `waited`, if process 2 sends before the deadline.
 fn met<L: Look<Guarded>, A: Abort>(
     rt: &A,
     mq: &Mq<L>,
@@ -227,7 +228,8 @@ fn met<L: Look<Guarded>, A: Abort>(
     (one, two, end)
 }
 
-// Process 1 waits twice, and ends each wait at its deadline. Process 2 sends before the second one's: it gives what both came to.
+// Process 1 waits twice, and ends each wait at its deadline. Process 2 sends before the second
+// deadline. Returns the outcomes of both waits.
 fn journal_of_ends<L: Look<Guarded>, R: Abort + Print>(
     rt: &R,
     alloc: Global,
