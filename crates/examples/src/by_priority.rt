@@ -1,4 +1,4 @@
-// A producer and two consumers, each in a thread of its own. The consumers take the work by its priority.
+// A producer and two consumers, each in its own thread. The consumers take jobs by priority.
 ghost use Rattle.std.specs.Prelude.{◌≡◌};
 ghost use Rattle.mq.specs.Calls.{IsFree};
 
@@ -10,10 +10,10 @@ use std::sync::Wait;
 use std::thread::{Threads, join};
 use std::time::Clock;
 
-/// How many jobs each consumer takes.
+/// The number of jobs each consumer takes.
 const SHARE: u32 = 50;
 
-// Sends the jobs, each with its number for a message; every fifth is urgent.
+// Sends the jobs, each with its number as the message. Every fifth job is urgent.
 fn produce<L: Look<Guarded>, R: Wait + Clock>(
     rt: &R,
     mq: &Mq<L>,
@@ -30,7 +30,7 @@ fn produce<L: Look<Guarded>, R: Wait + Clock>(
     Ok(())
 }
 
-// Takes as many jobs as it is to, and gives how many of them were urgent.
+// Takes its share of the jobs, and returns how many of them were urgent.
 fn consume<L: Look<Guarded>, R: Wait + Clock>(
     rt: &R,
     mq: &Mq<L>,
@@ -62,7 +62,7 @@ pub fn run(rt: &(impl Print + Wait + Clock + Threads + Sync), alloc: Global) -> 
     Ok(())
 }
 
-// Opens the queue of jobs, which it creates.
+// Creates the queue of jobs and opens it.
 fn open_jobs<L: Look<Guarded>>(
     rt: &impl Wait,
     mq: &Mq<L>,
@@ -80,7 +80,7 @@ fn open_jobs<L: Look<Guarded>>(
     producer.open(rt, mq, &name, flags, Some(limits))
 }
 
-// Lets each do its part, and gives how many jobs were urgent.
+// Runs the producer and the consumers, and returns how many jobs were urgent.
 fn share_jobs<L: Look<Guarded> + Sync>(
     rt: &(impl Wait + Clock + Threads + Sync),
     mq: &Mq<L>,

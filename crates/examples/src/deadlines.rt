@@ -1,4 +1,5 @@
-// Deadlines: a receive waits until a moment, and a message that comes before it is received.
+// Deadlines: a receive that waits until its deadline, and a receive that gets its message although
+// its deadline has passed.
 ghost use Rattle.std.specs.Prelude.{◌≡◌};
 ghost use Rattle.mq.specs.Calls.{IsFree};
 
@@ -15,7 +16,7 @@ pub fn run(rt: &(impl Print + Wait + Clock), alloc: Global) -> anyhow::Result<()
     take_alarms(rt, &mq, &mut process)
 }
 
-// Opens the queue of alarms, and takes none, and then one.
+// Opens the queue of alarms. The first receive gets no alarm, the second gets one.
 fn take_alarms<L: Look<Guarded>>(
     rt: &(impl Print + Wait + Clock),
     mq: &Mq<L>,

@@ -1,4 +1,4 @@
-// The journal at the end: every call with its reply, in the order in which they were made inside the lock.
+// The journal at the end: every call with its reply, in the order of the critical sections.
 ghost use Rattle.std.specs.Prelude.{◌≡◌, true};
 ghost use Rattle.fast_mutex.specs.Items.{tickets_from};
 ghost use Rattle.mq.specs.Calls.{IsFree, stored_in};
@@ -16,7 +16,7 @@ pub fn run(rt: &(impl Print + Wait + Clock), alloc: Global) -> anyhow::Result<()
     print(rt, &journal)
 }
 
-// The journal of the two processes, once they have talked.
+// The journal of the two processes after their calls.
 fn journal_of<L: Look<Guarded>>(
     rt: &(impl Print + Wait + Clock),
     mq: Mq<L>,
@@ -60,7 +60,7 @@ fn open_both<L: Look<Guarded>>(
     Ok(())
 }
 
-// One receives before there is a message, so its receive waits until two sends.
+// Process one receives before there is a message, so its receive waits until process two sends one.
 fn talk<L: Look<Guarded>>(
     rt: &(impl Print + Wait + Clock),
     mq: &Mq<L>,

@@ -1,4 +1,4 @@
-// Examples of the library, one a file. Each runs by itself and says what it saw.
+// Examples of the library, one per file. Each runs on its own and prints what it observed.
 #![tactic(auto)]
 
 mod by_priority;
@@ -34,7 +34,7 @@ fn main(rt: HostRuntime) -> ExitCode {
     match run_all(&rt, rt.alloc()) {
         Ok(()) => ExitCode::SUCCESS,
         Err(error) => {
-            // Nothing is left to do where this line cannot be written.
+            // If this line cannot be printed, there is nothing left to do.
             let _ = eprintln!(rt; "{error}");
             ExitCode::FAILURE
         }

@@ -1,4 +1,4 @@
-// Calls that never wait: a descriptor with O_NONBLOCK, and what each refusal is called.
+// Calls that never wait: a descriptor with O_NONBLOCK, and the error of each call that fails.
 ghost use Rattle.std.specs.Prelude.{◌≡◌};
 ghost use Rattle.mq.specs.Calls.{IsFree};
 
@@ -15,7 +15,7 @@ pub fn run(rt: &(impl Print + Wait + Clock), alloc: Global) -> anyhow::Result<()
     poll(rt, &mq, &mut process)
 }
 
-// Makes calls of an empty queue, of a full one, and of a name that is bound.
+// Receives from an empty queue, sends to a full one, and opens a name that exists.
 fn poll<L: Look<Guarded>>(
     rt: &(impl Print + Wait + Clock),
     mq: &Mq<L>,
@@ -39,7 +39,7 @@ fn poll<L: Look<Guarded>>(
     Ok(())
 }
 
-// Opens a queue that has to be new, for calls that never wait.
+// Opens a queue that must be new, with a descriptor whose calls never wait.
 fn open_new<L: Look<Guarded>>(
     rt: &impl Wait,
     mq: &Mq<L>,

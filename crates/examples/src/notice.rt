@@ -1,4 +1,4 @@
-// A notice: a process is told once when a message comes to its empty queue.
+// A notice: a process is notified once when a message arrives at its empty queue.
 ghost use Rattle.std.specs.Prelude.{◌≡◌};
 ghost use Rattle.mq.specs.Calls.{IsFree};
 
@@ -16,7 +16,7 @@ pub fn run(rt: &(impl Print + Wait + Clock), alloc: Global) -> anyhow::Result<()
     tell_once(rt, &mq, &mut sender, &mut reader)
 }
 
-// The reader is registered, and looks for a notice before the message and twice after it.
+// The reader registers, and asks for a notice once before the message and twice after it.
 fn tell_once<L: Look<Guarded>>(
     rt: &(impl Print + Wait + Clock),
     mq: &Mq<L>,

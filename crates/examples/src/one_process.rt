@@ -1,4 +1,5 @@
-// One process: a queue of its own, and the best message first.
+// One process: it sends to a queue of its own, and receives the message of the highest priority
+// first.
 ghost use Rattle.std.specs.Prelude.{◌≡◌};
 ghost use Rattle.mq.specs.Calls.{IsFree};
 
@@ -15,7 +16,7 @@ pub fn run(rt: &(impl Print + Wait + Clock), alloc: Global) -> anyhow::Result<()
     take_orders(rt, alloc, &mq, &mut process)
 }
 
-// Opens the queue, sends two orders, and receives the one that comes first.
+// Opens the queue, sends two orders, and receives the more urgent one.
 fn take_orders<L: Look<Guarded>>(
     rt: &(impl Print + Wait + Clock),
     alloc: Global,

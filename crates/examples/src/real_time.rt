@@ -1,5 +1,5 @@
-// A real-time system in virtual time: three periodic tasks report to a watchdog, in one thread. The clock is the simulation's own and
-// jumps from one event to the next, so each run has the same output.
+// A real-time system in virtual time: three periodic tasks report to a watchdog, in one thread. The
+// simulation keeps the clock, which jumps from one event to the next, so each run prints the same.
 ghost use Rattle.std.specs.Prelude.{◌≡◌, true};
 ghost use Rattle.fast_mutex.specs.Items.{tickets_from};
 ghost use Rattle.mq.specs.Calls.{IsFree, stored_in};
@@ -14,15 +14,15 @@ use std::io::Print;
 use std::sync::Wait;
 use text_io::output::write_all;
 
-/// How many events are simulated.
+/// The number of times at which something happens.
 const EVENTS: u32 = 16;
 
-/// While the sensor hangs it does not report.
+/// From this time until `HANGS_TO`, in milliseconds, the sensor hangs and sends no report.
 const HANGS_FROM: u32 = 60;
 
 const HANGS_TO: u32 = 150;
 
-// A clock that stands at one moment.
+// A clock that always shows the same time.
 #[derive(Clone, Copy)]
 struct Simulated {
     moment: Deadline,
@@ -37,7 +37,7 @@ impl Clock for Simulated {
     }
 }
 
-// The clock so many milliseconds after the start.
+// The clock this many milliseconds after the start.
 fn clock_at(millis: u32) -> Simulated {
     Simulated {
         moment: Deadline {
@@ -47,7 +47,7 @@ fn clock_at(millis: u32) -> Simulated {
     }
 }
 
-// What happens again and again.
+// Something that happens periodically. Times are in milliseconds.
 #[derive(Drop)]
 struct Periodic {
     period: u32,
@@ -62,7 +62,7 @@ impl Periodic {
         }
     }
 
-    // Whether it happens now; then the next time is a period later.
+    // Whether it happens now. If so, it happens next one period later.
     fn is_due(&mut self, now: u32) -> bool {
         let is_due = self.next == now;
         if is_due {
@@ -82,7 +82,7 @@ struct Plan {
 }
 
 impl Plan {
-    // When the next event is.
+    // The time of the next event.
     fn next(&self) -> u32 {
         let tasks = self
             .control
@@ -117,7 +117,7 @@ fn open_reports<L: Look<Guarded>>(
     Ok(())
 }
 
-// A task reports, with its name for a message.
+// A task sends a report. The message is its name.
 fn report<L: Look<Guarded>>(
     rt: &impl Wait,
     mq: &Mq<L>,
@@ -165,7 +165,7 @@ fn watch<L: Look<Guarded>>(
     Ok(())
 }
 
-// Goes from event to event.
+// Runs the simulation from event to event.
 fn simulate<L: Look<Guarded>>(
     rt: &(impl Print + Wait),
     mq: &Mq<L>,
@@ -208,7 +208,7 @@ fn simulate<L: Look<Guarded>>(
     Ok(())
 }
 
-// Opens the queue of reports for each.
+// Opens the queue of reports for each process.
 fn open_all<L: Look<Guarded>>(
     rt: &impl Wait,
     mq: &Mq<L>,
@@ -232,7 +232,6 @@ fn open_all<L: Look<Guarded>>(
     open_reports(rt, mq, watchdog)
 }
 
-// Prints the journal.
 fn print(rt: &impl Print, alloc: Global, journal: &Journal) -> anyhow::Result<()> {
     let text = write_journal(alloc, journal)?;
     write_all(&mut io::writer(rt), text.as_slice())?;
@@ -245,7 +244,7 @@ pub fn run(rt: &(impl Print + Wait), alloc: Global) -> anyhow::Result<()> {
     print(rt, alloc, &journal)
 }
 
-// The journal of the three tasks and the watchdog, once all events are simulated.
+// The journal of the three tasks and the watchdog after all events.
 fn journal_of<L: Look<Guarded>>(
     rt: &(impl Print + Wait),
     mq: Mq<L>,

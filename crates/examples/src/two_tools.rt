@@ -1,5 +1,7 @@
-// A test of somebody's code that no run has to be lucky for. Two writers share a pen and a sheet of paper, each the one message of a queue.
-// One takes the pen first, the other the paper. Almost each run ends well; every order of their calls is tried, and one is a deadlock.
+// A test of somebody's code that does not depend on a lucky run. Two writers share a pen and a
+// sheet of paper, each of them the only message of a queue. One writer takes the pen first, the
+// other the paper. Almost every run ends well. The search tries every order of their calls, so it
+// also finds the deadlock.
 use script_orders::orders::{outcomes_of, play_of};
 use script_orders::report::report_text;
 use script_text::script::read_script;

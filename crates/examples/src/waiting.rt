@@ -1,4 +1,4 @@
-// A call that would wait, begun by a thread that does other work meanwhile.
+// A call that would wait, started by a thread that does other work in the meantime.
 ghost use Rattle.std.specs.Prelude.{◌≡◌};
 ghost use Rattle.mq.specs.Calls.{IsFree};
 
@@ -16,7 +16,7 @@ pub fn run(rt: &(impl Print + Wait + Clock), alloc: Global) -> anyhow::Result<()
     send_meanwhile(rt, &mq, &mut sender, &mut reader)
 }
 
-// The reader begins to receive before there is a message, and collects it after it was sent.
+// The reader starts to receive before there is a message, and collects it once it is sent.
 fn send_meanwhile<L: Look<Guarded>>(
     rt: &(impl Print + Wait + Clock),
     mq: &Mq<L>,

@@ -1,5 +1,5 @@
-//! Tests of `lamport_progress`. They stand here and not in that crate, so that it is not proved
-//! once more for them.
+//! Tests of `lamport_progress`. They are in a crate of their own, so that it is not proved again
+//! for them.
 #![tactic(auto)]
 
 #[cfg(test)]

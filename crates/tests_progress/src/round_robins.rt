@@ -1,4 +1,4 @@
-//! Plain round robins until some process enters.
+//! Round robins until some process enters its critical section.
 ghost use Rattle.std.specs.Prelude.{◌≡◌, ◌≤◌};
 ghost use Rattle.lamport_core.specs.Machine.{count};
 ghost use Rattle.lamport_core.specs.State.{IsProcess};
@@ -20,7 +20,7 @@ fn is_contended(world: &World, n: u32) -> bool
     false
 }
 
-// One step of process i, and whether it led the process inside.
+// One step of process i. Returns whether the process entered its critical section.
 fn step_enters(world: &mut World, i: u32) -> bool
     requires { IsProcess (count world.old) i }
     ensures { count world.new ≡ count world.old }
@@ -30,7 +30,7 @@ fn step_enters(world: &mut World, i: u32) -> bool
     before != Some(i) && world.inside() == Some(i)
 }
 
-// One step of each process, and whether one led its process inside.
+// One step of each process in turn. Returns whether any entered its critical section.
 fn round_enters(world: &mut World, n: u32) -> bool
     requires { count world.old ≡ n }
     ensures { count world.new ≡ n }
@@ -42,7 +42,7 @@ fn round_enters(world: &mut World, n: u32) -> bool
     entered
 }
 
-// Whether some process enters in this many rounds.
+// Whether some process enters its critical section within this many rounds.
 fn enters_within(world: &mut World, n: u32, most: u32) -> bool
     requires { count world.old ≡ n }
 {

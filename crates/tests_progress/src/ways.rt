@@ -1,4 +1,4 @@
-//! Ways inside: worked ones, and those from worlds after pseudo-random schedules.
+//! Steps into the critical section: worked examples, and from worlds after pseudo-random schedules.
 ghost use Rattle.std.specs.Prelude.{◌≡◌, ◌≤◌};
 ghost use Rattle.lamport_core.specs.State.{IsSchedule};
 ghost use Rattle.lamport_core.specs.Machine.{count};
@@ -17,7 +17,7 @@ fn one_process_alone_takes_five_steps(rt: HostRuntime) -> Result<(), Fail> {
     Ok(())
 }
 
-// Process 1 is about to lower its flag for its scan, y names it, and process 2 awaits y = 0.
+// Process 1 is about to lower its flag for its scan, y names it, and process 2 waits for y = 0.
 #[test]
 fn process_that_y_names_ends_its_scan(rt: HostRuntime) -> Result<(), Fail> {
     let steps = way_inside(rt.alloc(), 2, &[1, 1, 1, 2, 2, 1, 1, 2, 2])?;
@@ -25,7 +25,7 @@ fn process_that_y_names_ends_its_scan(rt: HostRuntime) -> Result<(), Fail> {
     Ok(())
 }
 
-// Process 1 waits in its scan for the flag of process 2, which has not yet found y taken.
+// Process 1 waits in its scan for the flag of process 2, which has not yet seen that y is not 0.
 #[test]
 fn process_that_the_scan_waits_for_lowers_its_flag_first(rt: HostRuntime) -> Result<(), Fail> {
     let steps = way_inside(rt.alloc(), 2, &[1, 1, 1, 2, 2, 1, 1, 1, 1])?;
@@ -40,7 +40,8 @@ fn no_step_is_needed_if_a_process_is_inside(rt: HostRuntime) -> Result<(), Fail>
     Ok(())
 }
 
-// Each step finds nobody inside and moves its process, and the last leads some process inside.
+// Before each step no process is in its critical section, each step moves its process, and after
+// the last some process is in its critical section.
 fn expect_way<A: Abort>(rt: &A, world: &mut World, n: u32, steps: &[u32])
     requires count { count world.old ≡ n }
     requires processes { IsSchedule n steps.now }

@@ -6,10 +6,11 @@ ghost use Rattle.lamport_core.specs.Machine.{count};
 use lamport_core::World;
 use std::alloc::{AllocError, Global};
 
-/// How many worlds of n processes each test takes, for n from 1 to 8.
+/// The number of worlds of n processes that each test takes, for n from 1 to 8.
 pub const WORLDS: u32 = 25;
 
-/// As many steps of n processes as the seed says, fewer than 100, of processes that it chooses.
+/// A schedule of n processes with fewer than 100 steps. The seed determines its length and its
+/// processes.
 pub fn schedule_of(alloc: Global, n: u32, seed: u32) -> Result<Vec<u32>, AllocError>
     requires { 1 ≤ n }
     ensures { IfOk result (λ schedule. IsSchedule n schedule.items) }
@@ -34,7 +35,7 @@ pub fn world_of(alloc: Global, n: u32, seed: u32) -> Result<World, AllocError>
     Ok(world)
 }
 
-// One of n processes.
+// One of the processes 1 to n.
 fn process_of(n: u32, number: u32) -> u32
     requires { 1 ≤ n }
     ensures { IsProcess n result }

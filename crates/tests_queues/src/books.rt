@@ -1,6 +1,7 @@
-//! Calls that wait and what they come to, notices, the most queues and descriptors, and calls with numbers out of all bounds.
-//! Each test is a table of steps. It passes, too, where any one allocation is refused from outside: a refused call changes neither the
-//! journal nor the buffer, and is made once more.
+//! Calls that wait and their outcomes, notices, the greatest numbers of queues and descriptors, and
+//! calls with numbers out of range. Each test is a table of steps. It also passes if any one
+//! allocation is made to fail from outside: the call that fails changes neither the journal nor the
+//! buffer, and is repeated.
 ghost use Rattle.std.specs.Prelude.{◌≡◌, ◌≤◌, IsTrue, None};
 ghost use Rattle.mq_model.specs.Waits.{open_wait};
 
@@ -33,7 +34,7 @@ enum Ask<'a> {
     Close(u32),
     Send(u32, &'a [u8], u32),
     Receive(u32),
-    // A send and a receive that wait until a moment, made at another.
+    // A send and a receive, with the time until which they may wait and the time of the call.
     TimedSend(u32, &'a [u8], u32, Deadline, Deadline),
     TimedReceive(u32, Deadline, Deadline),
     Withdraw(Deadline),
@@ -49,13 +50,13 @@ enum Ask<'a> {
     LowestOpen,
     // The first byte of the buffer.
     Front,
-    // The reply at a place of the journal.
+    // The reply of the entry with this sequence number.
     ReplyAt(u64),
-    // How many entries the journal has.
+    // The number of entries in the journal.
     Entries,
 }
 
-// What came of it.
+// The outcome.
 #[derive(Clone, Copy, Debug, PartialEq, Eq)]
 enum Outcome {
     Replied(Reply),
@@ -65,7 +66,7 @@ enum Outcome {
     Lowest(Option<u32>),
     Byte(u8),
     Count(u64),
-    // The process may not ask that now.
+    // The process may not ask this now.
     Nothing,
 }
 
@@ -76,7 +77,7 @@ use Ask::{
 };
 use Outcome::{Byte, Came, Count, Is, Lowest, Nothing, Replied, Room};
 
-// A process asks, and this must come of it.
+// The process that asks, what it asks, and the outcome it must have.
 type Step = (u32, Ask<'static>, Outcome);
 
 // The queues of five processes.
@@ -115,7 +116,7 @@ fn may_call(trial: &Trial, p: u32) -> bool
     1 <= p && p <= 5 && trial.books.waiting(p).is_none()
 }
 
-// The reply to a call. Nothing where the name is none, and where this is no call.
+// The reply to a call. `None` if the name is invalid, or if this is not a call.
 fn call(trial: &mut Trial, p: u32, ask: Ask, buf: &mut [u8]) -> Option<Reply>
     requires process { (1 ≤ p) × (p ≤ 5) }
     requires free { open_wait trial.old p ≡ None }
@@ -138,7 +139,7 @@ fn call(trial: &mut Trial, p: u32, ask: Ask, buf: &mut [u8]) -> Option<Reply>
     })
 }
 
-// What the wait of process p came to, where it has one that fits the buffer.
+// The outcome of the wait of process p, if it has one that fits the buffer.
 fn collect(trial: &mut Trial, p: u32, buf: &mut [u8]) -> Outcome
     requires process { (1 ≤ p) × (p ≤ 5) }
 {
@@ -169,7 +170,7 @@ fn outcome_of(trial: &mut Trial, p: u32, ask: Ask, buf: &mut [u8]) -> Outcome {
     }
 }
 
-// The journal in a number, or how long it is if it is not stored.
+// A number for the journal, or its length if it is not stored.
 fn state_of(books: &Books) -> u64 {
     if books.is_stored() {
         fingerprint(books.journal())
@@ -178,7 +179,8 @@ fn state_of(books: &Books) -> u64 {
     }
 }
 
-// What came of it. Where an allocation was refused, the journal and the buffer are as before, and the same is asked once more.
+// The outcome. If memory was refused, the journal and the buffer are unchanged, and the same is
+// asked again.
 fn asked<A: Abort + Print>(
     rt: &A,
     trial: &mut Trial,
@@ -196,7 +198,7 @@ fn asked<A: Abort + Print>(
     outcome_of(trial, p, ask, buf)
 }
 
-// Takes the steps in turn, with one buffer.
+// Takes the steps in order, with one buffer.
 fn expect_steps<A: Abort + Print>(rt: &A, trial: &mut Trial, steps: &[Step]) {
     let mut buf = [0; 8];
     for (number, step) in steps.iter().enumerate() {
@@ -401,7 +403,7 @@ fn an_admission_to_an_emptied_queue_gives_a_notice(rt: HostRuntime) {
     expect(&rt, rt.alloc(), &ADMITTED);
 }
 
-// Once 64 queues exist.
+// When 64 queues exist.
 const NO_SPACE: Outcome = Replied(Reply::Refused(Fault::NoSpace));
 
 static FULL: [Step; 10] = [

@@ -1,9 +1,9 @@
-//! A number for a whole journal, by which two journals are compared without memory.
+//! A number for a whole journal, to compare two journals without taking memory.
 use mq_model::journals::Journal;
 use std::fmt;
 use std::fmt::Write;
 
-// A sum over a text that is written to it in parts.
+// A checksum of a text that is written in parts.
 #[derive(Drop)]
 struct Sum {
     sum: u64,
@@ -18,7 +18,8 @@ impl Write for Sum {
     }
 }
 
-/// A number for all entries of a journal with their payloads, which another journal has by chance alone. Takes no memory.
+/// A number for all entries of a journal with their payloads. Two different journals have the same
+/// number only by chance. Takes no memory.
 pub fn fingerprint(journal: &Journal) -> u64 {
     let mut sum = Sum {
         sum: 0xcbf2_9ce4_8422_2325,

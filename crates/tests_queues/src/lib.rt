@@ -1,5 +1,6 @@
-//! Tests of the messages of a queue and of the queues of one thread, by what `mq_slots` and `mq_state` show. They stand here and not in
-//! those crates, so that neither is proved once more for them.
+//! Tests of the messages of a queue and of the queues of one thread, through the public items of
+//! `mq_slots` and `mq_state`. They are in a crate of their own, so that neither of those is proved
+//! again for them.
 #![tactic(auto)]
 
 #[cfg(test)]

@@ -1,4 +1,5 @@
-//! What the making of queues with bounds takes. A tool from outside counts what is asked for between two marks.
+//! The memory that making queues with bounds takes. A tool outside counts the bytes requested
+//! between two marks.
 use mq_state::books::Books;
 use mq_state::memory::memory_of;
 use std::alloc::Global;
@@ -6,7 +7,7 @@ use std::io::Print;
 use std::process::Abort;
 use tests_refusals::mark;
 
-// A number of processes, of entries and of payload bytes.
+// Numbers of processes, of entries and of payload bytes.
 static SIZES: [(u32, u64, u64); 6] = [
     (1, 0, 0),
     (1, 1, 0),
@@ -16,7 +17,7 @@ static SIZES: [(u32, u64, u64); 6] = [
     (32, 20_000, 1),
 ];
 
-// Makes queues between two marks, and says how many bytes that takes.
+// Makes queues between two marks, and prints the number of bytes that `memory_of` predicts.
 fn make<A: Abort + Print>(rt: &A, alloc: Global, n: u32, entries: u64, bytes: u64) {
     let bytes_taken = memory_of(n, entries, bytes).expect(rt, "a number");
     let n = n.clamp(1, 32);

@@ -1,5 +1,6 @@
-//! Worked journals, each of its own number of processes and with its own entries alone. A row says what is called, with the name or the
-//! message that the call has or gives, and the reply in its entry.
+//! Worked journals, each with its own number of processes and with its own entries only. A row says
+//! what is called, with the name or message that the call has or returns, and the reply in its
+//! entry.
 ghost use Rattle.std.specs.Prelude.{◌≡◌, ◌≤◌, IsTrue, None, IfOk};
 ghost use Rattle.mq_model.specs.Waits.{open_wait};
 
@@ -15,16 +16,16 @@ use tests_refusals::say_refused;
 
 mod worked;
 
-/// What is done in turn.
+/// One step of a row.
 #[derive(Clone, Copy)]
 enum Step {
-    /// A call that has the next entry, with its name or message, or the message that it gives.
+    /// A call that makes the next entry, with its name or message, or the message that it returns.
     Made(u32, Call, &'static [u8], Reply),
-    /// A call that is refused and has no entry.
+    /// A call that fails and has no entry.
     Refused(u32, Call, Fault),
-    /// A collect or a withdrawal of a wait that goes on.
+    /// A collect or a withdrawal of a wait that continues.
     GoesOn(u32, Call),
-    /// How long a buffer the process waits with, if it waits.
+    /// The buffer length with which the process waits, if it waits.
     Waits(u32, Option<usize>),
     /// Whether its wait is answered.
     Answered(u32, bool),
@@ -78,7 +79,7 @@ fn may_call(row: &Row, p: u32) -> bool
     1 <= p && p <= row.n && row.books.waiting(p).is_none()
 }
 
-// The reply to a call, if it is one and has its name.
+// The reply to a call. `None` if the name is invalid, or if this is not a call.
 fn call(books: &mut Books, p: u32, call: Call, given: &[u8], buf: &mut [u8]) -> Option<Reply>
     requires process { (1 ≤ p) × (p ≤ books.old.n) }
     requires free { open_wait books.old.records p ≡ None }
@@ -132,7 +133,7 @@ fn collect(books: &mut Books, p: u32, buf: &mut [u8]) -> Option<Reply>
     }
 }
 
-// The reply in the entry of a withdrawal, if the wait ends by it.
+// The reply in the entry of a withdrawal, if it ends the wait.
 fn withdraw(books: &mut Books, p: u32, now: Deadline) -> Option<Reply>
     requires { (1 ≤ p) × (p ≤ books.old.n) }
     ensures { books.new.n ≡ books.old.n }
@@ -144,7 +145,7 @@ fn withdraw(books: &mut Books, p: u32, now: Deadline) -> Option<Reply>
     }
 }
 
-// What a process is told that makes this call, if it may.
+// The reply to this call, if the process may make it.
 fn told(row: &mut Row, p: u32, asked: Call, given: &[u8], buf: &mut [u8]) -> Option<Reply> {
     match asked {
         Call::Collect if 1 <= p && p <= row.n => collect(&mut row.books, p, buf),
@@ -154,7 +155,7 @@ fn told(row: &mut Row, p: u32, asked: Call, given: &[u8], buf: &mut [u8]) -> Opt
     }
 }
 
-// The same, once more where one allocation was refused from outside.
+// The same, repeated if memory was refused.
 fn told_at_last<P: Print>(
     rt: &P,
     row: &mut Row,
@@ -171,7 +172,7 @@ fn told_at_last<P: Print>(
     told(row, p, asked, given, buf)
 }
 
-// The call has the next entry, and gives this message where it gives one.
+// The call makes the next entry, and returns this message if it returns one.
 fn expect_made<A: Abort + Print>(
     rt: &A,
     row: &mut Row,
@@ -218,7 +219,7 @@ fn expect_step<A: Abort + Print>(rt: &A, row: &mut Row, step: Step) {
     }
 }
 
-// Takes the steps in turn. The journal then has just their entries, and is legal.
+// Takes the steps in order. Then the journal has exactly their entries, and is legal.
 fn expect<A: Abort + Print>(rt: &A, row: &mut Row, steps: &[Step]) {
     let mut entries = 0u64;
     for step in steps {

@@ -1,4 +1,5 @@
-//! The messages of one queue in and out, in the order of priority and place. Their making alone takes memory.
+//! The messages of one queue go in, and come out by priority and sequence number. Only making the
+//! slots takes memory.
 ghost use Rattle.std.specs.Prelude.{◌≡◌, ◌≤◌, IfOk, []};
 
 use crate::same::same;
@@ -8,7 +9,8 @@ use std::io::Print;
 use std::test::Fail;
 use tests_refusals::{refuse_all, say_refused};
 
-// No message, and room for so many. One allocation may be refused from outside, and after the making every one.
+// Room for `cap` messages. One allocation may be made to fail from outside, and once the slots are
+// made, every allocation.
 fn make<R: Print>(rt: &R, alloc: Global, cap: u32) -> Result<Slots, AllocError>
     requires cap { (1 ≤ cap) × (cap ≤ 4096) }
     ensures { IfOk result (λ slots. (slots.messages ≡ []) × (slots.cap ≡ cap)) }

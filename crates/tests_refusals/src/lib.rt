@@ -1,23 +1,25 @@
-//! What tests say where an allocation of memory was refused from outside, which shows that nothing changed by it.
+//! Lines that a test prints when an allocation was made to fail from outside and the test has
+//! checked that nothing changed by it.
 #![tactic(auto)]
 
 use std::alloc::Global;
 use std::io::Print;
 
-/// Says that an allocation was refused, and where, once it was found that nothing had changed.
+/// Prints that an allocation failed at this place. The caller has checked that nothing changed.
 pub fn say_refused<R: Print>(rt: &R, place: &str) {
     let _ = println!(rt; "refused: {place}");
 }
 
-// An allocation of so many bytes is the mark after which a tool from outside may refuse every further one, also a second mark.
+// An allocation of this many bytes is a mark. After it, a tool outside may make every allocation
+// fail, a second mark included.
 const MARK: usize = 16_777_213;
 
-/// A mark for a tool from outside, which may count what is asked for between two.
+/// A mark. A tool outside may count the bytes requested between two marks.
 pub fn mark(alloc: Global) {
     let _ = Vec::<u8>::with_capacity(alloc, MARK);
 }
 
-/// From here on a tool from outside may refuse every allocation. Says so where it does.
+/// From here on a tool outside may make every allocation fail. Prints a line if it does.
 pub fn refuse_all<R: Print>(rt: &R, alloc: Global) {
     mark(alloc);
     if Vec::<u8>::with_capacity(alloc, MARK).is_err() {

@@ -1,5 +1,5 @@
-//! Tests of the bytes, words and numbers that `text_io` reads and writes. They stand here and not there, so that it is not proved once
-//! more for them.
+//! Tests of the bytes, words and numbers that `text_io` reads and writes. They are in a crate of
+//! their own, so that it is not proved again for them.
 #![tactic(auto)]
 
 #[cfg(test)]

@@ -1,8 +1,8 @@
-//! An assertion of its own, so that no test carries what was known of the values.
+//! An assertion in a function of its own, so that no test carries facts about the values.
 use std::fmt::Debug;
 use std::process::Abort;
 
-/// What was found is what was wanted. `what` says of which value, where it is not.
+/// The value found is the one wanted. If not, `what` says which value it is.
 pub fn same<A: Abort, T: PartialEq + Debug + Drop>(rt: &A, found: T, wanted: T, what: &str) {
     assert_eq!(rt; found, wanted, "{what}");
 }

@@ -7,7 +7,7 @@ use std::test::Fail;
 use text_io::input::{ReadFault, read_all};
 use text_io::output::{WriteFailed, write_all};
 
-// Gives its bytes one by one, and fails at one read.
+// Gives its bytes one at a time, and fails at one read.
 #[derive(Drop)]
 struct OneByOne {
     rest: &'static [u8],
@@ -32,7 +32,7 @@ impl Read for OneByOne {
     }
 }
 
-// The bytes of a reader that fails at this read.
+// The bytes from a reader that fails at this read.
 fn bytes_until(alloc: Global, fails_at: usize, most: usize) -> Result<Vec<u8>, ReadFault> {
     let mut input = OneByOne {
         rest: b"abc",
@@ -81,7 +81,7 @@ fn pieces_of_an_input_are_put_together(rt: HostRuntime) -> Result<(), Fail> {
     Ok(())
 }
 
-// Takes one byte a write. When there is no room left, it takes nothing, or fails.
+// Takes one byte per write. If there is no room left, it takes nothing or fails.
 #[derive(Drop)]
 struct Narrow {
     taken: Vec<u8>,

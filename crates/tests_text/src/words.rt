@@ -14,7 +14,7 @@ fn words_are_what_spaces_and_the_feed_leave(rt: HostRuntime) -> Result<(), Fail>
     Ok(())
 }
 
-// Words, and the numbers that they are.
+// Words, with the numbers they stand for.
 static NUMBERS: [(&str, Option<u64>); 9] = [
     ("007", Some(7)),
     ("18446744073709551615", Some(18_446_744_073_709_551_615)),
@@ -49,7 +49,7 @@ fn counts_begin_at_one(rt: HostRuntime) {
     same(&rt, count_of(32, b"0"), None, "none");
 }
 
-// Words, and the integers that they are.
+// Words, with the integers they stand for.
 static INTEGERS: [(&str, Option<i64>); 8] = [
     ("-9223372036854775808", Some(-9_223_372_036_854_775_808)),
     ("9223372036854775807", Some(9_223_372_036_854_775_807)),

@@ -1,5 +1,5 @@
-//! Queues whose journal has bounds. All their memory is taken at the making, so these tests pass, too, where each allocation after it is
-//! refused.
+//! Queues whose journal has bounds. All their memory is taken when they are made, so these tests
+//! also pass if every later allocation fails.
 use super::Ask::{
     Close, Collect, Entries, Getattr, NextNotice, Notify, Open, Receive, ReplyAt, Send, Setattr,
     TimedReceive, TimedSend, Unlink, Withdraw,
@@ -20,7 +20,8 @@ use std::io::Print;
 use std::process::Abort;
 use tests_refusals::{refuse_all, say_refused};
 
-// The queues of five processes with these bounds. One allocation may be refused from outside, and after the making every one.
+// The queues of five processes with these bounds. One allocation may be made to fail from outside,
+// and once they are made, every allocation.
 fn make_bounded<A: Abort + Print>(rt: &A, alloc: Global, entries: u64, bytes: u64) -> Trial {
     let books = match Books::bounded(alloc, 5, entries, bytes) {
         Ok(books) => books,
@@ -46,7 +47,7 @@ const ONE_OF_ONE: Status = Status {
     curmsgs: 0,
 };
 
-// The open wait of process 1 keeps the last of six places for its collect.
+// The open wait of process 1 keeps the last of six entries for its collect.
 static SIX_ENTRIES: [Step; 11] = [
     (1, Open(b"/q", CREATE, ONE), CREATED),
     (2, Open(b"/q", OPEN, None), OPENED),
@@ -74,7 +75,9 @@ const NOON: Deadline = Deadline { sec: 12, nsec: 0 };
 
 const REFUSED_LATE: Outcome = Replied(Reply::Refused(Fault::TimedOut));
 
-// Six bytes: two of the name, and four of messages. A message counts only where its send is not refused, but a deadline refuses none.
+// Six bytes: two of the name, and four of messages. A send that fails takes no room for its bytes.
+// A send whose deadline has passed fails with `JournalFull`, not with `TimedOut`, if its bytes do
+// not fit.
 static SIX_BYTES: [Step; 12] = [
     (1, Open(b"/q", CREATE, ONE), CREATED),
     (1, Send(0, b"abc", 0), QUEUED),
@@ -109,7 +112,8 @@ fn bytes_are_counted_where_nothing_refuses_the_send(rt: HostRuntime) {
 
 const MORNING: Deadline = Deadline { sec: 6, nsec: 0 };
 
-// A call that may wait needs two places, and any other one. A withdrawal has the room that was kept.
+// A call that may wait needs two entries, and any other call one. A withdrawal uses the entry that
+// its wait kept.
 static FOUR_ENTRIES: [Step; 9] = [
     (1, Open(b"/q", CREATE, TWO), CREATED),
     (1, TimedReceive(0, NOON, MORNING), WAITS),
@@ -147,7 +151,8 @@ fn without_an_entry_each_call_finds_the_journal_full(rt: HostRuntime) {
     expect(&rt, rt.alloc(), 0, 100, &NOTHING_FITS);
 }
 
-// A queue of the most messages comes, has one, gives a notice of it, and goes with it.
+// The greatest limits of a queue. In each round below two queues with the same name come to exist
+// and cease to.
 const LARGEST: Option<Attr> = Some(Attr {
     maxmsg: 4096,
     msgsize: 65_536,

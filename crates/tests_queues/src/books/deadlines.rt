@@ -1,4 +1,5 @@
-//! Calls with a deadline, with the moments at which they are made and their waits withdrawn, up to the ends of their range.
+//! Calls with a deadline, at the times at which they are made and their waits withdrawn, up to the
+//! ends of their range.
 use super::Ask::{
     Collect, Front, Getattr, Open, Receive, ReplyAt, Send, TimedReceive, TimedSend, Waiting,
     Withdraw,
@@ -108,12 +109,12 @@ const FIRST: i64 = i64::MIN;
 
 const LAST_SECOND: i64 = i64::MAX;
 
-// The last nanosecond of a second, and one that no second has.
+// The last nanosecond of a second, and one past it.
 const END: i64 = 999_999_999;
 
 const BEYOND: i64 = 1_000_000_000;
 
-// A second and a nanosecond.
+// Seconds and nanoseconds.
 type Moment = (i64, i64);
 
 fn moment(at: Moment) -> Deadline {
@@ -121,7 +122,7 @@ fn moment(at: Moment) -> Deadline {
     Deadline { sec, nsec }
 }
 
-// Until when a call that would wait is asked to, when it is asked, and the fault that it is refused with.
+// For a call that would wait: its deadline, the time at which it is made, and its error.
 static REFUSED: [(Moment, Moment, Fault); 10] = [
     ((FIRST, -1), (FIRST, 0), Fault::Invalid),
     ((FIRST, BEYOND), (LAST_SECOND, END), Fault::Invalid),
@@ -135,7 +136,8 @@ static REFUSED: [(Moment, Moment, Fault); 10] = [
     ((LAST_SECOND, END), (LAST_SECOND, END), Fault::TimedOut),
 ];
 
-// Until when a call waits, when it is asked, and the last moment before the first.
+// For a call that waits: its deadline, the time at which it is made, and the last time before its
+// deadline.
 static WAITING: [(Moment, Moment, Moment); 4] = [
     ((FIRST, END), (FIRST, 0), (FIRST, END - 1)),
     ((LAST_SECOND, 0), (FIRST, 0), (LAST_SECOND - 1, END)),
@@ -187,7 +189,7 @@ fn expect_wait<A: Abort + Print>(
     expect_end(rt, trial, until, true);
 }
 
-// Sends or receives that cannot be done at once are refused, and wait, as the tables say.
+// Sends or receives that cannot complete at once fail or wait as the tables say.
 fn expect_ends<A: Abort + Print>(rt: &A, trial: &mut Trial, sends: bool) {
     for row in &REFUSED {
         expect_refused(rt, trial, sends, *row);
@@ -197,7 +199,7 @@ fn expect_ends<A: Abort + Print>(rt: &A, trial: &mut Trial, sends: bool) {
     }
 }
 
-// What can be done at once is done, whatever the deadline.
+// What can complete at once does, whatever the deadline.
 static SENT_AT_ONCE: [Step; 1] = [(
     1,
     TimedSend(

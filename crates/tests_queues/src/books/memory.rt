@@ -1,4 +1,4 @@
-//! The calls that take no memory, while every allocation may be refused from outside.
+//! The calls that take no memory, while every allocation may be made to fail from outside.
 ghost use Rattle.std.specs.Prelude.{◌≤◌, OnOk};
 
 use super::Ask::{
@@ -26,7 +26,8 @@ const START: Deadline = Deadline { sec: 0, nsec: 0 };
 
 const LATER: Deadline = Deadline { sec: 1, nsec: 0 };
 
-// Process 1 waits in a receive that is answered, process 2 in a send until its deadline, process 3 in a receive.
+// Process 1 waits in a receive that is answered, process 2 in a send with a deadline, process 3 in
+// a receive.
 static WAITING: [Step; 10] = [
     (1, Open(b"/q", CREATE, ONE), CREATED),
     (2, Open(b"/q", OPEN, None), OPENED),
@@ -85,7 +86,8 @@ const UNLINK: Entry = Entry {
     reply: Reply::Refused(Fault::NoEntry),
 };
 
-// Room for one entry and two bytes. One allocation may be refused from outside, and then the journal is as before.
+// Room for one entry and two bytes. One allocation may be made to fail from outside; then the
+// journal is unchanged.
 fn make_room<A: Abort + Print>(rt: &A, journal: &mut Journal) -> Result<(), AllocError>
     ensures { OnOk result ((1 ≤ journal.new.entry_room) × (2 ≤ journal.new.byte_room)) }
 {

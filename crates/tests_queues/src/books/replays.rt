@@ -1,4 +1,4 @@
-//! Journals replayed: the queues' own, and each with one entry turned.
+//! Journals replayed: that of the queues, and copies of it with one entry changed.
 ghost use Rattle.std.specs.Prelude.{◌<◌, length};
 
 use super::Ask::{
@@ -42,7 +42,7 @@ const NONBLOCKING: Status = Status {
     ..EMPTY
 };
 
-// One entry each, of every call and of most replies.
+// One entry for every kind of call and for most kinds of reply.
 pub(super) static CALLS: [Step; 25] = [
     (1, Open(b"/q", CREATE, ONE), CREATED),
     (2, Open(b"/q", OPEN, None), OPENED),
@@ -111,14 +111,15 @@ fn journal_of<A: Abort + Print>(rt: &A, alloc: Global) -> Journal {
     books.into_journal()
 }
 
-// What is turned of an entry.
+// What is changed in an entry.
 #[derive(Clone, Copy, Debug)]
 enum Turn {
-    // A process beyond the last.
+    // A process above the last.
     Process,
-    // A call out of turn: of a process that does not wait one that ends a wait, and the other way round.
+    // A call that the process may not make now: one that ends a wait if the process does not wait,
+    // another if it does.
     Call,
-    // A byte more in the payload: a second slash of a name.
+    // A byte more in the payload, for example a second slash in a name.
     Payload,
     // A reply that the call never gets.
     Reply,
@@ -141,7 +142,7 @@ fn never_given(reply: Reply) -> Reply {
     }
 }
 
-// The entry turned, and why it may then not stand where it stands.
+// The changed entry, and why it is then not legal at its place.
 fn turned(entry: Entry, turn: Turn) -> (Entry, Cause) {
     match turn {
         Turn::Process => (
@@ -186,7 +187,7 @@ fn push(
     Ok(())
 }
 
-// The journal with one entry turned, and how it departs from the definitions.
+// The journal with one entry changed, and where and why it is then not legal.
 fn with_turn(
     alloc: Global,
     journal: &Journal,
@@ -210,7 +211,7 @@ fn with_turn(
     Ok((other, Departure { place, cause }))
 }
 
-// The turned entry is found by both.
+// Both `replay` and `check_history` find the changed entry.
 fn expect_found<A: Abort>(rt: &A, alloc: Global, journal: &Journal, place: u64, turn: Turn)
     requires { place < length journal.now.records }
 {

@@ -1,4 +1,5 @@
-//! Queues that go on from a journal: in place of those that made it, from a short one in its place, and not from one that does not fit.
+//! Queues that continue from a journal: in place of those that made it, and from a short journal in
+//! its place. They do not continue from a journal that does not fit.
 ghost use Rattle.std.specs.Prelude.{◌≤◌};
 
 use super::Ask::{Entries, Open, Receive, Send};
@@ -21,7 +22,8 @@ use std::io::Print;
 use std::process::Abort;
 use tests_refusals::say_refused;
 
-// The queues of five processes that go on from a journal. If an allocation is refused, the journal comes back and is given once more.
+// The queues of five processes that continue from a journal. If memory is refused, the journal
+// comes back and is used again.
 pub(super) fn resume<A: Abort + Print>(rt: &A, alloc: Global, journal: Journal) -> Trial {
     let before = fingerprint(&journal);
     let books = match Books::resume(alloc, 5, journal) {
@@ -38,7 +40,7 @@ pub(super) fn resume<A: Abort + Print>(rt: &A, alloc: Global, journal: Journal) 
     Trial { books }
 }
 
-// The same queues, in a new place.
+// The same queues, made again from their stored journal.
 fn resumed<A: Abort + Print>(rt: &A, alloc: Global, trial: Trial) -> Trial {
     if !trial.books.is_stored() {
         return trial;
@@ -46,7 +48,7 @@ fn resumed<A: Abort + Print>(rt: &A, alloc: Global, trial: Trial) -> Trial {
     resume(rt, alloc, trial.books.into_journal())
 }
 
-// Takes the steps in turn. In front of each the queues go on from their journal.
+// Takes the steps in order. Before each, the queues are made again from their journal.
 fn expect_resumed<A: Abort + Print>(rt: &A, alloc: Global, steps: &[Step]) {
     let mut trial = make_trial(rt, alloc);
     let mut buf = [0; 8];
@@ -75,7 +77,7 @@ fn waits_and_notices_go_on_from_every_journal(rt: HostRuntime) {
 
 static BY_PROCESS_5: [Step; 1] = [(5, Open(b"/q", CREATE, ONE), CREATED)];
 
-// Why queues of so many processes do not go on from a journal, which comes back.
+// Why queues of n processes cannot continue from a journal. It comes back unchanged.
 fn misfit<A: Abort + Print>(rt: &A, alloc: Global, n: u32, journal: Journal) -> Option<Misfit>
     requires { (1 ≤ n) × (n ≤ 32) }
 {
@@ -126,7 +128,7 @@ fn a_journal_that_is_not_legal_comes_back(rt: HostRuntime) {
     );
 }
 
-// A short journal in place of that of the queues, which must be of so many entries, and the queues that go on from it.
+// The queues that continue from a short journal, which must have this number of entries.
 fn rewritten<A: Abort + Print>(rt: &A, alloc: Global, trial: Trial, entries: u64) -> Trial {
     if !trial.books.is_stored() {
         return trial;
@@ -156,7 +158,9 @@ fn receives(place: u64) -> [Step; 1] {
     [(1, Receive(0), Replied(got))]
 }
 
-// One queue with a message: it is created and closed, opened for the message and closed, and opened by its process.
+// With one message in the queue the short journal has six entries: the queue is created and closed,
+// opened to send the message and closed, and opened by process 1. Without the message it has three;
+// each later call adds one.
 #[test]
 fn a_short_journal_has_what_is_alive(rt: HostRuntime) {
     let mut trial = make_trial(&rt, rt.alloc());
@@ -174,7 +178,7 @@ fn a_short_journal_has_what_is_alive(rt: HostRuntime) {
     expect_steps(&rt, &mut trial, &receives(3));
 }
 
-// The wait of process 1 is answered, and not yet collected.
+// The wait of process 1 is answered and not yet collected.
 #[test]
 fn an_answered_wait_is_collected_before_a_short_journal(rt: HostRuntime) {
     let mut trial = make_trial(&rt, rt.alloc());

@@ -1,4 +1,5 @@
-//! Queues that go on from a short journal reply as those that it stands for, but for places: after random calls, to random calls.
+//! Queues that continue from a short journal give the same replies as the original queues, up to
+//! sequence numbers: random calls before it, random calls after it.
 ghost use Rattle.std.specs.Prelude.{◌≤◌};
 
 use super::Ask::{
@@ -13,14 +14,15 @@ use std::alloc::Global;
 use std::io::Print;
 use std::process::Abort;
 
-// How many journals there are, how many calls make each, and how many are made after it.
+// The number of journals, the number of calls before each is shortened, and the number of calls
+// after that.
 const JOURNALS: u64 = 10_000;
 
 const BEFORE: u32 = 60;
 
 const AFTER: u32 = 50;
 
-// The next number below a limit that a seed gives.
+// The next pseudo-random number below a limit.
 fn next(seed: &mut u64, below: u64) -> u32 {
     *seed = seed
         .wrapping_mul(6_364_136_223_846_793_005)
@@ -53,7 +55,7 @@ fn moment(number: u32) -> Deadline {
     }
 }
 
-// What some process asks next. Times are 0 to 3.
+// What some process asks next. Times are from 0 to 3.
 fn drawn(seed: &mut u64) -> (u32, Ask<'static>) {
     let p = next(seed, 5).saturating_add(1);
     let d = next(seed, 3);
@@ -108,7 +110,7 @@ fn unplaced(place: Option<u64>) -> Option<u64> {
     }
 }
 
-// An outcome without its places.
+// An outcome without its sequence numbers.
 fn outline(outcome: Outcome) -> Outcome {
     let Replied(reply) = outcome else {
         return outcome;
@@ -131,7 +133,7 @@ fn outline(outcome: Outcome) -> Outcome {
     })
 }
 
-// The answered waits are collected.
+// Collects the waits that are answered.
 fn collect_all(trial: &mut Trial) {
     let mut buf = [0; 8];
     for p in 1..=5 {
@@ -141,7 +143,7 @@ fn collect_all(trial: &mut Trial) {
     }
 }
 
-// The queues that go on from a short journal of these.
+// The queues that continue from a short journal of these.
 fn shortened<A: Abort + Print>(rt: &A, alloc: Global, trial: &Trial) -> Option<Trial> {
     if !trial.books.is_stored() {
         return None;
@@ -150,7 +152,8 @@ fn shortened<A: Abort + Print>(rt: &A, alloc: Global, trial: &Trial) -> Option<T
     Some(resume(rt, alloc, journal))
 }
 
-// The same calls on both have outcomes that differ in places alone, and leave the buffers alike.
+// The same calls on both have outcomes that differ only in sequence numbers, and leave equal
+// buffers.
 fn expect_alike<A: Abort + Print>(rt: &A, seed: &mut u64, one: &mut Trial, other: &mut Trial) {
     let (mut buf, mut copy) = ([0; 8], [0; 8]);
     for number in 0..AFTER {

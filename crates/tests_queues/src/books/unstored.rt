@@ -1,4 +1,4 @@
-//! Systems whose journal is a history variable: the same replies, in memory that serves again.
+//! Systems whose journal is a history variable: the same replies, and memory that is used again.
 use super::Ask::{
     Close, Collect, Entries, NextNotice, Notify, Open, Receive, Send, TimedReceive, TimedSend,
     Unlink, Withdraw,
@@ -62,7 +62,7 @@ fn ten_thousand_messages_need_the_memory_of_the_first(rt: HostRuntime) {
     expect_steps(&rt, &mut trial, &[(1, Entries, Count(20_001))]);
 }
 
-// A queue with a message in it is opened, unlinked and closed.
+// A queue is created, gets a message, and is unlinked and closed.
 static ROUND: [Step; 4] = [
     (1, Open(b"/q", CREATE, ONE), CREATED),
     (1, Send(0, b"message", 1), QUEUED),
@@ -79,7 +79,7 @@ fn a_queue_is_lost_with_its_name_and_its_messages(rt: HostRuntime) {
     expect_steps(&rt, &mut trial, &[(1, Entries, Count(4_000))]);
 }
 
-// The queues of five processes, whose opens take the memory of later calls.
+// The queues of five processes, whose opens take the memory for later calls.
 fn make_prepaid<A: Abort + Print>(rt: &A, alloc: Global) -> Trial {
     let books = match Books::prepaid(alloc, 5) {
         Ok(books) => books,
@@ -135,12 +135,12 @@ fn once_the_queues_of_a_prepaid_system_are_open_no_call_takes_memory(rt: HostRun
     expect_steps(&rt, &mut trial, &[(1, Entries, Count(24_007))]);
 }
 
-// The place after so many entries more.
+// The sequence number this many entries later.
 fn after(start: u64, entries: u64) -> u64 {
     start.wrapping_add(entries)
 }
 
-// A message is handed over to a receive that waits.
+// A message is handed to a waiting receive.
 fn handed(start: u64) -> [Step; 3] {
     let collected = Collected::Got(Received { len: 8, prio: 3 });
     [

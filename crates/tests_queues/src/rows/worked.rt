@@ -117,7 +117,8 @@ const RECEIVE: Call = Call::MqReceive { d: 0, room: 8 };
 
 const CLOSE: Call = Call::MqClose { d: 0 };
 
-// A receive without an admission or a notice, of the message that was sent at a place.
+// A receive that neither admits a waiting send nor gives a notice, and returns the message that the
+// entry with this number sent.
 const GOT_4: Reply = Reply::Got {
     place: 4,
     admitted: None,
@@ -352,7 +353,7 @@ static DEADLINES: [Step; 14] = [
     Made(1, Call::Collect, b"c", Reply::Collected { by: 10 }),
 ];
 
-// The journal with another moment in its withdrawal. Nothing where memory was refused.
+// The journal with another time in its withdrawal. `None` if memory was refused.
 fn withdrawn_early(alloc: Global, journal: &Journal) -> Option<Journal> {
     let mut other = Journal::new(alloc);
     for place in 0..journal.len() {
@@ -367,7 +368,7 @@ fn withdrawn_early(alloc: Global, journal: &Journal) -> Option<Journal> {
     Some(other)
 }
 
-// The same, once more where one allocation was refused from outside.
+// The same, repeated if memory was refused.
 fn withdrawn_too_early<P: Print>(rt: &P, alloc: Global, journal: &Journal) -> Option<Journal> {
     match withdrawn_early(alloc, journal) {
         Some(other) => Some(other),
@@ -417,7 +418,7 @@ fn six_entries_of_two_processes(rt: HostRuntime) -> Result<(), Fail> {
     Ok(())
 }
 
-// The name of a number below 100 behind a slash, and its length.
+// The name of a number below 100 after a slash, and its length.
 fn name_of(number: u8) -> ([u8; 3], usize)
     ensures { result.1 ≤ 3 }
 {
@@ -429,7 +430,7 @@ fn name_of(number: u8) -> ([u8; 3], usize)
     }
 }
 
-// Process 1 to 4 create 16 queues each, /0 to /63.
+// Processes 1 to 4 create 16 queues each, /0 to /63.
 fn create_all<A: Abort + Print>(rt: &A, row: &mut Row) {
     for number in 0..64u8 {
         let (name, len) = name_of(number);
