@@ -18,7 +18,7 @@ use Rattle.exploration.specs.declared.deed.Deed.{Deed}
 use Rattle.exploration.specs.declared.deed.Effect.{Effect}
 use Rattle.exploration_laws.specs.Calls.{IsCall, IsReceive, IsSend, OwnThreads}
 
--- what is true of each element is true of one
+-- what holds of each element holds of one
 among : {X : Type 0} (p : X → Bool) (xs : List X) (x : X) → list_all p xs ≡ true → Contains xs x → p x ≡ true
 among {X} p xs x all (k, within, at) =
     let P : X → Type 0 = λ y. p y ≡ true in
@@ -72,7 +72,8 @@ calls-pass : (past : Past) (a b : Request) (x y : Effect) → IsSend past a x �
 calls-pass past a b x y s r low =
     rw (s.call, s.queued, r.got, s.unregistered, s.urgency, r.urgency, low) refl
 
--- the calls touch different queues, both only read, or one passes the other
+-- the calls are about different queues, or both only read, or a send and a receive on one queue do
+-- not affect each other
 abbrev Meet : Past → Request → Request → Type 0
 Meet past a b =
     (differ (queue_touched past a) (queue_touched past b) || only_reads a.call && only_reads b.call

@@ -171,7 +171,7 @@ module _ {S I : Type 0} (shows : S → List I) (fixes : S → List ℕ) (author 
   set_back (w ∷ ws) zero = refl
   set_back (w ∷ ws) (suc i) = λ j. w ∷ set_back ws i j
 
-  -- a line that loads, and admits nobody
+  -- a line that loads, and takes no process into its critical section
   loads : (slots id k word : ℕ) (old : At) (found : List I) (fixed : Fixed) (l : List I) (more : List (Claim I)) (plan : Plan I) (n : ℕ) → loads_line old ≡ true → word ≡ word_loaded old → is_inside old ≡ false → ((v : ℕ) → is_inside (after_load fixed.0 old v) ≡ false)
       → ((words marks : List ℕ) (at : ℕ → At) → IsSafeWorld about.count words marks at → at k ≡ old → IsSafeWorld about.count words marks (moved_to at k (after_load about.count old (get_or words word 0))))
       → Allows Rule slots id (seat old k found fixed l more plan n, []) word (λ n. n) (IsLoad (step slots word 0 0 none) (seat old k found fixed l more plan n, []))

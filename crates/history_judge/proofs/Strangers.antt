@@ -11,7 +11,7 @@ use Rattle.history_judge.specs.declared.line.Called.{Called}
 abbrev own : Called → Bool
 own c = is_process c.process
 
--- of calls that are seen alike
+-- the same for calls that look the same
 pub of-processes-alike : (xs ys : List Called) → AreSameCalls xs ys → AreOfProcesses ys → AreOfProcesses xs
 of-processes-alike xs ys same all =
     let seen : SeenCall → Bool = λ s. is_process s.process in

@@ -1,4 +1,4 @@
--- What explains a history explains each that is seen alike.
+-- An explanation of a history also explains each history that looks the same.
 use Rattle.std.proofs.Common.{◌≡◌, ℕ, ◌+◌, ◌<◌, zero, suc, Bool, true, false, not, ◌&&◌, List, [], ◌∷◌, length, IfSome, Option, Some, None, is_none, nat_lt, refl, ap, sym, ◌∙◌, subst, inl, inr, slice_get, get_or, Vec, ◌⊎◌}
 use Rattle.std.specs.Option.{option_and_then, option_map}
 use Rattle.std.specs.declared.alloc.Global.{Global}
@@ -28,7 +28,7 @@ use Rattle.history_judge.specs.declared.judgement.Answer.{Answer}
 use Rattle.history_judge.specs.declared.judgement.Answer.TheVariants as answer
 use Rattle.history_judge.proofs.Alike.{own_operations-alike, process_count-alike}
 
--- the current operations of two histories are seen alike
+-- the current operations of two histories look the same
 pub record AreAlike (a b : Histories) : Type 0 where
   pub count : length a ≡ length b
   pub current : (past : Past) (index : ℕ) → option_map seen (current_of a past index) ≡ option_map seen (current_of b past index)
@@ -230,7 +230,7 @@ explained-alike xs ys text same by = record {
   written = by.written;
 }
 
--- what uses up the budget with these calls does so with others that are seen alike
+-- what uses up the budget with these calls does so with calls that look the same
 pub uses-up-alike : (budget : ℕ) (xs ys : List Called) → AreSameCalls xs ys → UsesUp budget xs → UsesUp budget ys
 uses-up-alike budget xs ys same u = record { histories = u.histories; are = histories-alike xs ys same u.histories u.are; takes = u.takes }
 

@@ -232,7 +232,7 @@ ended_seen c line words p o given end fits cut is read came given_is pending ret
     built_seen c line words p (shown o) given end fits cut is read came given_is
     (end-is o c.operation.outcome c.operation.end written end fits.pending (ap (λ (s : SeenCall). s.operation.reply) seen) (ap (λ (s : SeenCall). s.operation.end) seen) pending returned)
 
--- ---- calls that are seen alike have one line
+-- ---- calls that look the same have the same line
 
 abbrev end_by : Option Reply → ℕ → Option ℕ
 end_by None end = None
@@ -259,7 +259,7 @@ line_by-is c = ap (λ end. line_by (seen_call c) end) (end_by-is c.operation.end
 pub one_line : (a b : Called) → seen_call a ≡ seen_call b → line_text a ≡ line_text b
 one_line a b same = line_by-is a ∙ ap (λ (c : SeenCall). line_by c (end_by c.operation.reply c.operation.end)) same ∙ sym (line_by-is b)
 
--- ---- calls with one line are seen alike
+-- ---- calls with the same line look the same
 
 pub same_line : (c d : Called) → Fits c → Fits d → line_text c ≡ line_text d → seen_call c ≡ seen_call d
 same_line c d c_fits d_fits same =

@@ -258,7 +258,7 @@ abbrev pub lines_text : ℕ → List Record → List ℕ
 lines_text place [] = []
 lines_text place (r ∷ later) = line_text place r ++ lines_text (suc place) later
 
--- a journal that goes on with these records
+-- the journal extended by these records
 abbrev pub onto : Past → List Record → Past
 onto past [] = past
 onto past (r ∷ later) = onto (r ∷ past) later
@@ -281,7 +281,7 @@ allfit-last : (later : List Record) (r : Record) → AllFit later → Fits r →
 allfit-last [] r all fits = (fits, tt)
 allfit-last (s ∷ later) r all fits = (all.0, allfit-last later r all.1 fits)
 
--- what a text goes on with after a journal
+-- the lines that follow those of a journal in a text
 pub record GoesOn (a b : Past) (rest : List ℕ) : Type 0 where
   pub later : List Record
   pub fits : AllFit later
@@ -306,7 +306,7 @@ next a r b rest (s ∷ later) small fits all is text =
     let same = one_line (length b) r s rest (lines_text (suc (length b)) later) small fits all.0 text in
     record { later = later; fits = all.1; is = is ∙ ap (λ t. onto (t ∷ b) later) (sym same.0); text = same.1 }
 
--- a journal whose text begins with another's goes on from it
+-- a journal whose text begins with that of another extends it
 pub goes_on : (a b : Past) (rest : List ℕ) → AllFit a → AllFit b → length b < 2 ^ 64 → journal_text a ≡ journal_text b ++ rest → GoesOn a b rest
 goes_on a [] rest a_fits b_fits small text =
     let start = from_start a a_fits in
@@ -369,7 +369,7 @@ stops_here line place text rest first others past so_far all count small number 
   none = λ r behind fits is. no_first place rest first others (omega arith) lines none r behind fits (is ∙ ap (λ n. line_text n r ++ behind) (sym count));
 }
 
--- ---- a text that goes on
+-- ---- a text with more after it
 
 -- bytes with a line feed: those before the first one, and those after it
 record Cut (bytes : List ℕ) : Type 0 where
@@ -419,7 +419,7 @@ unfolding line_text
 no_first_in place rest line others more small some lines none r behind fits is =
     none r fits (first_in rest line others more (join_with_byte 32 (record_words place r)) behind some lines (front-feedless place r small fits) is)
 
--- a text that stops at the next line, whatever it goes on with
+-- a text that stops at the next line, whatever follows
 pub stops_in : (line place : ℕ) (text rest first others more : List ℕ) (past : Past) → text ≡ journal_text past ++ rest → AllFit past → place ≡ length past → place < 2 ^ 63 → line ≡ place + 1 → has_feed rest ≡ true → lines_of rest ≡ first ∷ lines_of others → IsNoLine place first → StopsAt line (text ++ more)
 stops_in line place text rest first others more past so_far all count small number some lines none = record {
   past = past;

@@ -1,6 +1,6 @@
--- From each reachable world each process can still get inside: the others enter and leave, one
--- after another, until it is inside or can enter alone. No process is started for it, so the
--- processes that have begun become fewer.
+-- From each reachable world each process can still enter its critical section: the others enter and
+-- leave, one after another, until it is inside or can enter alone. No process starts for this, so
+-- the number of processes that are not at rest falls.
 use Rattle.std.proofs.Common.{◌≡◌, ◌≢◌, ◌<◌, ◌≤◌, ℕ, zero, suc, List, [], ◌∷◌, ◌++◌, length, replicate, refl, sym, ◌∙◌, subst, inl, inr, arith}
 use Rattle.std.specs.List.{sum_by}
 use Rattle.std.proofs.lemmas.Bool.{cases_eq}
@@ -18,7 +18,7 @@ use Rattle.lamport_progress.proofs.Entries.{occupied_or_not, leaves, schedule-ap
 use Rattle.lamport_core.specs.declared.At.{At}
 use Rattle.lamport_core.specs.declared.At.TheVariants.{Rest, Start, SetX, TestY, BackB, AwaitY, SetY, TestX, SlowB, Scan, SlowY, SlowAwait, Fast, Slow, Leaving}
 
--- how many processes are not at rest
+-- the number of processes that are not at rest
 abbrev begun : At → ℕ
 begun Rest = 0
 begun _ = 1
@@ -56,13 +56,13 @@ module _ (n : ℕ) (w : State) (j : ℕ) (s : IsSound n w) (p : IsProcess n j) w
   in_points : IsProcess (length w.points) j
   in_points = subst (λ m. IsProcess m j) (sym (s.safe.same_count ∙ s.counts)) p
 
-  -- the step of a process that has begun starts nobody
+  -- the step of a process that is not at rest starts no other
   starts_nobody : point_of w j ≢ Rest → begun_count (next w j) ≤ begun_count w
   starts_nobody ne = let q = points_from (point_of w j) w j in
       subst (λ ps. sum_by begun ps ≤ begun_count w) (sym q.1)
       (total_at_most begun w.points j q.0 in_points (omega (arith, begun-le q.0, begun_is (point_of w j) ne)))
 
-  -- and its last step leaves fewer that have begun
+  -- and its last step leaves fewer that are not at rest
   ends_one : point_of w j ≡ Leaving → begun_count (next w j) < begun_count w
   ends_one at = subst (λ P. sum_by begun (step_from P w j).points < begun_count w) (sym at)
       (total_less begun begun w.points j Rest in_points (λ q. omega arith) (subst (λ P. 0 < begun P) (sym at) (omega arith)))
@@ -71,7 +71,8 @@ run-append : (w : State) (is js : List ℕ) → run w (is ++ js) ≡ run (run w 
 run-append w [] js = refl
 run-append w (i ∷ is) js = run-append (next w i) is js
 
--- steps to a world with some process inside, in which no more processes have begun
+-- steps to a world with some process in its critical section, in which no more processes are not at
+-- rest
 record Driven (n : ℕ) (w : State) : Type 0 where
   steps : List ℕ
   processes : IsSchedule n steps
@@ -128,7 +129,7 @@ alone_in n i w s p y at = record {
   inside = inl (enters_alone w i s.safe.same_count (subst (λ m. IsProcess m i) (sym s.counts) p) y at);
 }
 
--- what a point of process i leaves to do
+-- what remains to be done at a point of process i
 data Stand (P : At) : Type 0 where
   resting : P ≡ Rest → Stand P
   leaving : P ≡ Leaving → Stand P
@@ -143,11 +144,11 @@ stand Slow = is_inside (inr refl)
 stand _ = coming tt
 
 module _ (n i : ℕ) (p : IsProcess n i) where
-  -- what is to be shown, if at most c processes have begun
+  -- the claim, if at most c processes are not at rest
   abbrev Fewer : ℕ → Type 0
   Fewer c = (w : State) → IsSound n w → begun_count w ≤ c → CanEnter n w i
 
-  -- process k, which is inside, goes out
+  -- process k, in its critical section, leaves it
   out : (c : ℕ) → Fewer c → (w : State) (k : ℕ) → IsSound n w → begun_count w ≤ suc c → IsInside w k → CanEnter n w i
   out c f w k s le h = elim (cases_eq k i) [
     | inl e ↦ at_once_in n i w (subst (λ j. IsInside w j) e h)
@@ -160,7 +161,7 @@ module _ (n i : ℕ) (p : IsProcess n i) where
         can_after n i w (k ∷ k ∷ []) (q, (q, tt)) (f (next (next w k) k) (sound_next n (next w k) k t q) (omega arith))
   ]
 
-  -- process j, in its entry, or another gets inside
+  -- process j, in its entry, or another enters its critical section
   driven : (c : ℕ) → Fewer c → (w : State) (j : ℕ) → IsSound n w → begun_count w ≤ suc c → IsEntering (point_of w j) → CanEnter n w i
   driven c f w j s le on = elim (occupied_or_not w) [
     | inl h ↦ out c f w h.0 s le h.1

@@ -1,6 +1,7 @@
--- How many fair rounds bring an entry. Let some process be in its entry, and nobody inside. Two rounds
--- settle the processes, n + 6 bring one to its store to y, two more bring it to its scan, and that
--- takes at most 5n - 6: its n flags, and 4 for each of the others but one, whose flag is spent.
+-- In how many fair rounds some process enters its critical section. Let some process be in its
+-- entry, and none in its critical section. After two rounds the processes are settled, after n + 6
+-- one stores to y, after two more it starts its scan, and the scan takes at most 5n - 6: its n
+-- flags, and 4 for each other process but one, whose flag is spent.
 use Rattle.std.proofs.Common.{◌≡◌, ◌≢◌, ◌<◌, ◌≤◌, ◌+◌, ◌*◌, ◌⊎◌, ℕ, zero, suc, List, [], ◌∷◌, length, get_or, subst, inl, inr, arith}
 use Rattle.std.proofs.lemmas.Bool.{cases_eq}
 use Rattle.std.specs.List.{concat, sum_by}
@@ -26,7 +27,7 @@ pending_some n p w c =
     let counts = c.sound.counts in
     omega arith
 
--- the rule of fair rounds, while y is taken
+-- the rule of fair rounds, while y is not 0
 measure_rounds : (n p : ℕ) (w : State) (rounds : List (List ℕ)) → Pending n p w → w.y ≢ 0 →
     AreFairRounds n w rounds → sum_by clear w.points + n < length rounds →
     Enters w (concat rounds)
@@ -74,7 +75,7 @@ first_rounds n p w (is ∷ rounds) c ne u t a some le = elim (pending_all n p is
       (taken_round n p is w all a.0 a.1 ne t) a.2 (omega arith))
 ]
 
--- what a stage says, by whether y is 0
+-- what holds at a stage, depending on whether y is 0
 stage_taken : (w : State) → w.y ≢ 0 → Stage w → Taken w
 stage_taken w ne (inl h) = absurd (ne h.0)
 stage_taken w ne (inr h) = h.1

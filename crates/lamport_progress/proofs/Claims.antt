@@ -1,5 +1,5 @@
 -- While y is 0 and each process is settled, the process that is closest to its store to y waits for
--- no flag. So each fair round brings a process one step closer to it.
+-- no flag. So each fair round takes a process one step closer to it.
 use Rattle.std.proofs.Common.{◌≡◌, ◌≢◌, ◌==◌, ◌<◌, ◌≤◌, ◌+◌, ◌-◌, ◌⊎◌, ℕ, suc, Bool, true, false, cond, List, [], ◌∷◌, length, refl, sym, ◌∙◌, subst, inl, inr, arith}
 use Rattle.std.specs.List.{Contains}
 use Rattle.std.proofs.lemmas.Bool.{cases_eq, eq-eqb, ne_eqb, true≢false}
@@ -33,7 +33,7 @@ Low n m w = (q : ℕ) × (claim_rank n (point_of w q) < m)
 abbrev pub AllSettled : State → Type 0
 AllSettled w = (j : ℕ) → unsettled (point_of w j) ≤ 0
 
--- a point from which a process goes on
+-- a point from which a process always moves
 abbrev IsGoing : (ℕ → Bool) → At → Type 0
 IsGoing b Start = Unit {0}
 IsGoing b SetX = Unit {0}
@@ -49,7 +49,7 @@ module _ (w : State) (i : ℕ) (there : IsProcess (length w.points) i) (z : w.y 
   abbrev n : ℕ
   n = process_count w
 
-  -- what a step of process i to v leaves, of at most m
+  -- what remains after a step of process i to v, of at most m
   abbrev Leaves : ℕ → State → Type 0
   Leaves m v = (v.y ≢ 0) ⊎ (claim_rank n (point_of v i) ≤ m)
 
@@ -78,7 +78,7 @@ module _ (w : State) (i : ℕ) (there : IsProcess (length w.points) i) (z : w.y 
   scan j true r = omega arith
   scan j false r = let h = down j r in omega arith
 
-  -- no step takes a process further away
+  -- no step increases the distance
   keeps_from : (P : At) → IsPoint n P → (IsInsidePoint P → ⊥) → Leaves (claim_rank n P) (step_from P w i)
   keeps_from Rest h out = inr (at_Q (n + 6) SetX (omega arith))
   keeps_from Start h out = inr (at_Q 3 SetX (omega arith))
@@ -96,7 +96,7 @@ module _ (w : State) (i : ℕ) (there : IsProcess (length w.points) i) (z : w.y 
   keeps_from Slow h out = absurd (out (inr refl))
   keeps_from Leaving h out = inr (at_Q (n + 6) Rest (omega arith))
 
-  -- and one that goes on comes closer
+  -- and a step that moves decreases it
   lowers_from : (P : At) → IsPoint n P → IsGoing (flag_of w) P →
       Leaves (claim_rank n P - 1) (step_from P w i)
   lowers_from Start h g = inr (at_Q 2 SetX (omega arith))
@@ -111,7 +111,7 @@ module _ (w : State) (i : ℕ) (there : IsProcess (length w.points) i) (z : w.y 
   lowers_from SlowAwait h g = inr (at_Q 3 _ (free_load Start SlowAwait 3 (omega arith)))
   lowers_from _ h g = absurd g
 
--- a process with its flag up that is settled is close to its store
+-- a settled process with its flag up is close to its store
 up_low : (n : ℕ) (P : At) → FlagFits P true → (IsInsidePoint P → ⊥) → unsettled P ≤ 0 →
     claim_rank n P < 3
 up_low n Rest f out u = absurd (true≢false f)
@@ -146,7 +146,7 @@ module _ (n p : ℕ) (m : ℕ) (most : suc m ≤ n + 6) where
           (λ h. c.outside (k, h)) (u k) in omega arith,
     )
 
-    -- a process of so low a rank goes on, or waits for one that is closer
+    -- a process of this rank moves, or waits for one that is closer
     going : (j : ℕ) (P : At) → IsPoint n P → claim_rank n P < suc m → Unblocked m w →
         Low n m w ⊎ IsGoing (flag_of w) P
     going j (Scan k) h lt u = scan_going j k (flag_of w k) refl h lt u
@@ -182,7 +182,7 @@ module _ (n p : ℕ) (m : ℕ) (most : suc m ≤ n + 6) where
     there : IsProcess (length w.points) i
     there = subst (λ k. IsProcess k i) (sym (c.0.sound.safe.same_count ∙ c.0.sound.counts)) q
 
-    -- the next world, in which y is taken or this holds
+    -- the next world, in which y is not 0 or this holds
     abbrev Or : Type 0 → Type 0
     Or A = ((next w i).y ≢ 0) ⊎ A
 
@@ -273,7 +273,7 @@ module _ (n p : ℕ) (m : ℕ) (most : suc m ≤ n + 6) where
     ]
   ]
 
-  -- a fair round leaves one step less, or y is taken
+  -- a fair round reduces the steps by one, or y is not 0
   pub advance_round : (is : List ℕ) (w : State) → StaysPending n p w is → IsSchedule n is →
       IsFairRound w is → w.y ≡ 0 → Unblocked m w → Low n (suc m) w → ((run w is).y ≢ 0) ⊎ Low n m (run w is)
   advance_round is w c s r z u l =

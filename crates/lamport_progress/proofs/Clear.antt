@@ -1,4 +1,4 @@
--- The measure of fair rounds while y is taken. For each process it adds the steps until its flag is
+-- The measure of fair rounds while y is not 0. For each process it adds the steps until its flag is
 -- down for good, and for the process that y names the flags that its scan has not yet passed.
 use Rattle.std.proofs.Common.{◌≡◌, ◌<◌, ◌≤◌, ◌+◌, ◌-◌, ◌⊎◌, ℕ, zero, suc, List, [], ◌∷◌, get_or, refl, inl, inr, arith}
 use Rattle.std.specs.List.{sum_by}
@@ -38,7 +38,7 @@ scan_rank n SlowB = n
 scan_rank n (Scan j) = n - (j - 1)
 scan_rank n _ = 0
 
--- while a process is about to store to y, as if that process were about to scan
+-- while a process is about to store to y: as if it were about to scan
 abbrev pub owner_part : ℕ → ℕ → At → ℕ
 owner_part zero n Q = scan_rank n Q
 owner_part (suc c) n Q = n

@@ -1,7 +1,7 @@
--- Of two processes none may enter for 16 fair rounds, one fewer than the bound. Process 1 is inside,
--- and process 2 is about to store to y. Process 1 leaves. Process 2 does not find itself in x, scans
--- both flags, finds y changed and starts again. Then process 1 starts too, and stores to x just before
--- process 2 tests it again.
+-- Two processes for which no process enters in 16 fair rounds, one fewer than the bound. Process 1
+-- is in its critical section, and process 2 is about to store to y. Process 1 leaves. Process 2
+-- does not find its number in x, scans both flags, finds y changed and starts again. Then process 1
+-- starts too, and stores to x just before process 2 tests it again.
 use Rattle.std.proofs.Common.{◌≡◌, ◌≢◌, ◌==◌, ℕ, zero, suc, Bool, true, false, cond, List, [], ◌∷◌, refl, sym, ap, ◌∙◌, subst, inl, inr, arith}
 use Rattle.std.proofs.lemmas.Bool.{cases_eq, true≢false}
 use Rattle.std.proofs.lemmas.Bool.Decides.{eqb_tells}
@@ -33,7 +33,7 @@ abbrev has : ℕ → List ℕ → Bool
 has i [] = false
 has i (j ∷ js) = cond (j == i) true (has i js)
 
--- each of the first k processes takes a step in the round, or rests when it begins
+-- each of the first k processes takes a step in the round, or is at rest when it begins
 abbrev covers : ℕ → State → List ℕ → Bool
 covers zero w is = true
 covers (suc k) w is =
@@ -43,7 +43,7 @@ abbrev cover_all : ℕ → State → List (List ℕ) → Bool
 cover_all n w [] = true
 cover_all n w (is ∷ rounds) = cond (covers n w is) (cover_all n (run w is) rounds) false
 
--- no step of the schedule ends inside
+-- after no step of the schedule is a process in its critical section
 abbrev stays_out : State → List ℕ → Bool
 stays_out w [] = true
 stays_out w (i ∷ is) = cond (is_inside (point_of (next w i) i)) false (stays_out (next w i) is)

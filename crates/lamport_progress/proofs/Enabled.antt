@@ -1,5 +1,5 @@
--- No world is a dead end. The process that y names has set y, so it does not wait for y to be 0.
--- A process whose flag it waits for in its scan has its flag up, so waits for nothing.
+-- No world is a dead end. The process that y names has set y, so it does not wait for y to be 0. If
+-- it waits for a flag in its scan, the process with that flag has it up, and so waits for nothing.
 use Rattle.std.proofs.Common.{[], ◌∷◌, ◌≡◌, ◌≢◌, ◌==◌, ◌+◌, ℕ, Bool, true, false, cond, List, length, refl, sym, ap, ◌∙◌, subst, inl, inr, arith}
 use Rattle.std.proofs.lemmas.Bool.{cases_eq, eq-eqb, true≢false}
 use Rattle.std.proofs.lemmas.List.{length-replicate}
@@ -60,12 +60,12 @@ pub owned_run : (w : State) (is : List ℕ) → IsSafe w → IsOwned w → IsSch
 owned_run w [] s o p = o
 owned_run w (i ∷ is) s o p = owned_run (next w i) is (next_safe w i s p.0) (owned_next w i s p.0 o) (subst (λ n. IsSchedule n is) (sym (count-next w i)) p.1)
 
--- the process whose flag a scan is at
+-- the process whose flag a scan tests next
 abbrev scan_of : At → ℕ
 scan_of (Scan j) = j
 scan_of _ = 0
 
--- a point with a step that goes on, whatever the words are
+-- a point whose step always changes the world
 abbrev pub IsSteady : At → Type 0
 IsSteady Rest = ⊥
 IsSteady AwaitY = ⊥
@@ -73,7 +73,7 @@ IsSteady (Scan j) = ⊥
 IsSteady SlowAwait = ⊥
 IsSteady _ = Unit {0}
 
--- a point of a process that has begun, and does not wait for y to be 0
+-- a point of a process that is not at rest and does not wait for y to be 0
 abbrev pub IsBegunFree : ℕ → At → Type 0
 IsBegunFree y Rest = ⊥
 IsBegunFree y AwaitY = y ≡ 0
@@ -100,7 +100,7 @@ steady_leaves n Fast Q h l e = let d : Leaving ≡ Fast = sym l ∙ e in cc
 steady_leaves n Slow Q h l e = let d : Leaving ≡ Slow = sym l ∙ e in cc
 steady_leaves n Leaving Q h l e = let d : Rest ≡ Leaving = sym l ∙ e in cc
 
--- whose flag is up stands at such a point
+-- a process with its flag up is at such a point
 pub up_steady : (P : At) → FlagFits P true → IsSteady P
 up_steady Rest f = absurd (true≢false f)
 up_steady Start f = tt
@@ -143,7 +143,7 @@ module _ (w : State) (s : IsSafe w) where
   pub goes_on : (i : ℕ) → point_of (next w i) i ≢ point_of w i → IsEnabled w i
   goes_on i ne e = ne (ap (λ v. point_of v i) e)
 
-  -- a process at a point that always goes on
+  -- a process at a point that always moves
   pub steady_enabled : (i : ℕ) → IsSteady (point_of w i) → IsEnabled w i
   steady_enabled i h = goes_on i (steady_leaves (process_count w) (point_of w i) (point_of (next w i) i) h (next_line w i s (s.safe.process i (steady-ne-Rest (point_of w i) h))))
 

@@ -1,5 +1,5 @@
--- Steps that lead inside, and schedules in which nobody enters. If some process is inside when a fair
--- round begins, it leaves in that round.
+-- Steps that take a process into its critical section, and schedules in which no process enters. If
+-- some process is in its critical section when a fair round begins, it leaves in that round.
 use Rattle.std.proofs.Common.{◌≡◌, ◌≢◌, ◌⊎◌, ℕ, zero, suc, List, [], ◌∷◌, ◌++◌, get_or, sym, ◌∙◌, subst, inl, inr, arith}
 use Rattle.std.proofs.lemmas.Bool.{cases_eq}
 use Rattle.std.specs.List.{Contains, concat}
@@ -42,7 +42,8 @@ occupied_or_not w = elim (find_point IsInsidePoint inside_or_not rest_outside w.
     nobody h zero g = rest_outside g
     nobody h (suc k) g = h k g
 
--- a process that is inside after a step that found nobody inside came in by it
+-- if a process is in its critical section after a step, and no process was before it, it entered by
+-- that step
 entry_of : (w : State) (i : ℕ) → (IsOccupied w → ⊥) → IsOccupied (next w i) → IsEntry w i
 entry_of w i out h = elim (cases_eq h.0 i) [
   | inl e ↦ (λ k. out (i, k), subst (λ k. IsInside (next w i) k) e h.1)
@@ -76,7 +77,7 @@ pub inside_steady : (P : At) → IsInsidePoint P → IsSteady P
 inside_steady P (inl e) = subst IsSteady (sym e) tt
 inside_steady P (inr e) = subst IsSteady (sym e) tt
 
--- from the point of one inside, a step leads to Leaving
+-- from a point in the critical section, a step leads to Leaving
 pub leaves : (n : ℕ) (P Q : At) → IsInsidePoint P → IsLine n P Q → Q ≡ Leaving
 leaves n P Q (inl e) l = subst (λ R. IsLine n R Q) e l
 leaves n P Q (inr e) l = subst (λ R. IsLine n R Q) e l
@@ -86,7 +87,7 @@ leaving_outside Q l (inl e) = let d : Leaving ≡ Fast = sym l ∙ e in cc
 leaving_outside Q l (inr e) = let d : Leaving ≡ Slow = sym l ∙ e in cc
 
 module _ (n p : ℕ) where
-  -- process p is in its entry after a step, unless the step is its entry
+  -- process p is still in its entry after a step, unless it enters by it
   entering_next : (w : State) (i : ℕ) → IsSound n w → IsEntering (point_of w p) → IsProcess n i → IsEntry w i ⊎ IsEntering (point_of (next w i) p)
   entering_next w i s on q = elim (cases_eq p i) [
     | inr ne ↦ inr (subst IsEntering (sym (others_next w i p ne)) on)
@@ -107,7 +108,7 @@ module _ (n p : ℕ) where
         | inr ne ↦ ne (one_inside w j.0 k s.safe (subst IsInsidePoint (others_next w k j.0 ne) j.1) h)
       ]
 
-  -- a round in which process k, which is inside, takes a step
+  -- a round in which process k, which is in its critical section, takes a step
   pub first_round : (is : List ℕ) (w : State) (k : ℕ) → IsSound n w → IsEntering (point_of w p) → IsInside w k → IsSchedule n is → Contains is k → Enters w is ⊎ Pending n p (run w is)
   first_round [] w k s on h a t = absurd (let lt = t.1 in omega arith)
   first_round (i ∷ is) w k s on h a t = elim (entering_next w i s on a.0) [

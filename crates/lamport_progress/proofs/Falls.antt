@@ -1,5 +1,5 @@
--- Each step of a process that is not inside waits, which leaves the world as it is, or lowers the
--- measure.
+-- Each step of a process that is not in its critical section waits, which leaves the world
+-- unchanged, or lowers the measure.
 use Rattle.std.proofs.Common.{◌≡◌, ◌==◌, ◌<◌, ◌+◌, ◌⊎◌, ℕ, zero, suc, Bool, true, false, cond, List, length, refl, sym, ap, ◌∙◌, subst, inl, inr, arith}
 use Rattle.std.specs.List.{sum_by}
 use Rattle.std.proofs.Math.ListN.{set}
@@ -19,11 +19,11 @@ pub with-of : {A : Type 0} (d : A) (xs : List A) (i : ℕ) (a : A) → of_proces
 with-of d xs zero a e = refl
 with-of d xs (suc k) a e = ap (λ v. set xs k v) (sym e) ∙ set-get_or xs k d
 
--- what such a step can have done to w
+-- what such a step can change in w
 abbrev pub Outcome : State → State → Type 0
 Outcome w v = (v ≡ w) ⊎ (measure v < measure w)
 
--- the ranks before and after a load of y, by whether it found 0
+-- the ranks before and after a load of y, depending on whether it found 0
 load_TestY : (t : Bool) (n : ℕ) → rank t n (cond t SetY BackB) < rank t n TestY
 load_TestY true n = omega arith
 load_TestY false n = omega arith
@@ -32,7 +32,7 @@ module _ (w : State) (i : ℕ) (s : IsSafe w) (p : IsProcess (process_count w) i
   there : IsProcess (length w.points) i
   there = subst (λ n. IsProcess n i) (sym s.same_count) p
 
-  -- process i goes on from P to Q, and y stays
+  -- process i moves from P to Q, and y does not change
   goes : (P Q : At) → point_of w i ≡ P → rank (w.y == 0) (process_count w) Q < rank (w.y == 0) (process_count w) P → sum_by (rank (w.y == 0) (process_count w)) (with_process w.points i Q) < measure w
   goes P Q at less = let r = rank (w.y == 0) (process_count w) in
       total_less r r w.points i Q there (λ q. omega arith) (subst (λ a. r Q < r a) (sym at) less)
@@ -69,7 +69,7 @@ module _ (w : State) (i : ℕ) (s : IsSafe w) (p : IsProcess (process_count w) i
     | inr e ↦ subst (λ t. Outcome w (with_point w i (cond t SlowY (Scan (j + 1))))) (sym e.0) (moved (Scan j) (Scan (j + 1)) at (omega arith) (omega arith))
   ]
 
-  -- y := i, which leaves each rank or lowers it
+  -- y := i, which raises no rank
   store_y : point_of w i ≡ SetY → sum_by (rank (i == 0) (process_count w)) (with_process w.points i TestX) < measure w
   store_y at = subst (λ t. sum_by (rank t (process_count w)) (with_process w.points i TestX) < measure w) (sym (ne_eqb i 0 (λ e. omega arith)))
       (total_less (rank (w.y == 0) (process_count w)) (taken_rank (process_count w)) w.points i TestX there

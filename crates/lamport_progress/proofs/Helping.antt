@@ -1,4 +1,4 @@
--- What each step does to the measure of fair rounds, and which processes are helpful.
+-- How each step changes the measure of fair rounds, and which processes are helpful.
 use Rattle.std.proofs.Common.{◌≡◌, ◌≢◌, ◌==◌, ◌<◌, ◌≤◌, ◌+◌, ◌⊎◌, ℕ, suc, Bool, true, false, cond, List, length, refl, sym, ◌∙◌, subst, inl, inr, arith}
 use Rattle.std.specs.List.{sum_by}
 use Rattle.std.proofs.lemmas.Bool.{cases_eq, eq-eqb, ne_eqb, true≢false}
@@ -13,7 +13,7 @@ use Rattle.lamport_progress.specs.Progress.{IsOccupied, IsEntering, HasSetY}
 use Rattle.lamport_core.specs.declared.At.{At}
 use Rattle.lamport_core.specs.declared.At.TheVariants.{Rest, Start, SetX, TestY, BackB, AwaitY, SetY, TestX, SlowB, Scan, SlowY, SlowAwait, Fast, Slow, Leaving}
 
--- the part of the process that y names does not rise from P to Q
+-- the part of the process that y names does not increase from P to Q
 abbrev pub Sinks : ℕ → At → At → Type 0
 Sinks n P Q = (scan_rank n Q ≤ scan_rank n P) × (storing Q ≤ storing P)
 
@@ -21,7 +21,7 @@ Sinks n P Q = (scan_rank n Q ≤ scan_rank n P) × (storing Q ≤ storing P)
 abbrev pub Leads : State → ℕ → Type 0
 Leads w i = (i ≡ w.y) × (storing_count w.points ≡ 0)
 
--- a point from which the leader goes on
+-- a point from which the leader moves
 abbrev pub GoesOn : (ℕ → Bool) → At → Type 0
 GoesOn b (Scan j) = b j ≡ false
 GoesOn b SlowY = Unit {0}
@@ -38,22 +38,22 @@ Blocks SlowB = Unit {0}
 Blocks Leaving = Unit {0}
 Blocks _ = ⊥
 
--- a process that can block a scan helps, and so does the leader if it can go on
+-- a process that can block a scan helps, and so does the leader if it can move
 abbrev pub Helps : State → ℕ → Type 0
 Helps w i = Blocks (point_of w i) ⊎ (Leads w i × GoesOn (flag_of w) (point_of w i))
 
--- a step that leaves y and the flags, and raises no part of the measure
+-- a step that changes neither y nor the flags, and increases no part of the measure
 pub record Quiet (w : State) (v : State) : Type 0 where
   pub le : fair_measure v ≤ fair_measure w
   pub y : v.y ≡ w.y
   pub flags : v.flags ≡ w.flags
   pub count : storing_count v.points ≤ storing_count w.points
 
--- what a step of process i, to v, does to the measure
+-- how a step of process i, to v, changes the measure
 abbrev pub Effect : State → ℕ → State → Type 0
 Effect w i v = IsInside v i ⊎ ((fair_measure v < fair_measure w) ⊎ Quiet w v)
 
--- and what it does if process i helps
+-- and how it does if process i helps
 abbrev pub Help : State → ℕ → State → Type 0
 Help w i v = IsInside v i ⊎ (fair_measure v < fair_measure w)
 
@@ -61,7 +61,7 @@ module _ (w : State) (i : ℕ) (s : IsSafe w) (q : IsProcess (process_count w) i
   there : IsProcess (length w.points) i
   there = subst (λ n. IsProcess n i) (sym s.same_count) q
 
-  -- the points after process i went on to Q, and the measure then
+  -- the points after process i moved to Q, and the measure then
   abbrev after : At → List At
   after Q = with_process w.points i Q
 
@@ -103,7 +103,7 @@ module _ (w : State) (i : ℕ) (s : IsSafe w) (q : IsProcess (process_count w) i
       (λ n. fair_measure_at n w.y (of_process Rest (after Q)) (after Q) < fair_measure w)
       (sym (length-with w.flags i v)) (less_to P Q at lt h))
 
-  -- the leader goes on from P to Q
+  -- the leader moves from P to Q
   lead_to : (P Q : At) → point_of w i ≡ P → clear Q ≤ clear P → storing Q ≤ storing P → Leads w i →
       scan_rank (process_count w) Q < scan_rank (process_count w) P →
       Help w i (with_point w i Q)
@@ -225,7 +225,7 @@ module _ (w : State) (i : ℕ) (s : IsSafe w) (q : IsProcess (process_count w) i
   help (inl b) = blocks_from (point_of w i) refl b
   help (inr l) = lead_from (point_of w i) refl (s.safe.point i) l.0 l.1
 
--- another than i helps on after a quiet step of i
+-- a process other than i still helps after a quiet step of i
 helps_on : (w v : State) (j : ℕ) → Quiet w v → point_of v j ≡ point_of w j → Helps w j → Helps v j
 helps_on w v j k at (inl b) = inl (subst Blocks (sym at) b)
 helps_on w v j k at (inr l) = inr (
@@ -240,7 +240,7 @@ goes_on-ne-Rest b P h e = subst (GoesOn b) e h
 blocks-ne-Rest : (P : At) → Blocks P → P ≢ Rest
 blocks-ne-Rest P h e = subst Blocks e h
 
--- a process with its flag up, which is not inside, can block a scan
+-- a process with its flag up, outside its critical section, can block a scan
 up_blocks : (P : At) → FlagFits P true → (IsInsidePoint P → ⊥) → Blocks P
 up_blocks Rest f out = absurd (true≢false f)
 up_blocks Start f out = absurd (true≢false f)
@@ -300,7 +300,7 @@ module _ (w : State) (s : IsSafe w) (out : IsOccupied w → ⊥) where
     | inl none ↦ led w.y (point_of w w.y) refl (refl, none) set_y (λ h. out (w.y, h))
   ]
 
--- the measure and the helpers are what the rule of fair rounds asks for
+-- the measure and the helpers satisfy the rule of fair rounds
 pub fair : (n p : ℕ) → Fair n p fair_measure Helps
 fair n p = record {
   falls = λ w i c q. elim (effect w i c.pending.sound.safe (counted n p w i c q) c.taken

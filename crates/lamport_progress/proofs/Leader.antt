@@ -1,5 +1,6 @@
--- The process that is driven on a way inside: process 1 while y is 0, else the one that y names; or,
--- if that one waits in its scan, the process whose flag it waits for.
+-- The process that takes the next step on the way into a critical section: process 1 while y is 0,
+-- else the process that y names; or, if that one waits in its scan, the process whose flag it waits
+-- for.
 use Rattle.std.proofs.Common.{◌≡◌, ◌≢◌, ◌<◌, ◌≤◌, ◌+◌, ◌⊎◌, ℕ, true, List, [], ◌∷◌, ◌++◌, length, refl, sym, ap, ◌∙◌, subst, inl, inr, arith, length-append}
 use Rattle.lamport_core.specs.State.{State, IsProcess, IsSchedule, process_count, point_of, flag_of, next, run, start}
 use Rattle.lamport_core.specs.Safe.{IsSafe, IsPoint}
@@ -54,7 +55,7 @@ scan_process w i j s at = subst (IsPoint (process_count w)) at (s.safe.point i)
 pub up_process : (w : State) (j : ℕ) → IsSafe w → flag_of w j ≡ true → IsProcess (process_count w) j
 up_process w j s up = s.safe.process j (up-ne-Rest w s j up)
 
--- one step more at the end of a schedule
+-- one more step at the end of a schedule
 pub run_push : (w : State) (is : List ℕ) (i : ℕ) → run w (is ++ i ∷ []) ≡ next (run w is) i
 run_push w [] i = refl
 run_push w (j ∷ is) i = run_push (next w j) is i
@@ -63,7 +64,7 @@ pub schedule_push : (n : ℕ) (is : List ℕ) (i : ℕ) → IsSchedule n is → 
 schedule_push n [] i s p = (p, tt)
 schedule_push n (j ∷ is) i s p = (s.0, schedule_push n is i s.1 p)
 
--- while nobody is inside, an enabled process lowers the measure
+-- while no process is in its critical section, an enabled process lowers the measure
 pub enabled_lowers : (n : ℕ) (w : State) (i : ℕ) → IsSound n w → IsProcess n i → (IsOccupied w → ⊥) → IsEnabled w i → measure (next w i) < measure w
 enabled_lowers n w i s p out r = elim (one_step n w i s p) [
   | inl h ↦ absurd (out h)
@@ -71,7 +72,7 @@ enabled_lowers n w i s p out r = elim (one_step n w i s p) [
   | inr (inr less) ↦ less
 ]
 
--- steps have led from the world after a schedule to w, and the measure has fallen with each
+-- steps have led from the world after a schedule to w, and each has lowered the measure
 pub record Led (n : ℕ) (schedule : List ℕ) (w : State) (steps : List ℕ) : Type 0 where
   pub reached : w ≡ run (run (start n) schedule) steps
   pub processes : IsSchedule n steps

@@ -1,5 +1,6 @@
--- The measure that falls with each step that changes the world, while nobody is inside. It is a sum
--- over the processes: of how far each can still go, while y is 0 and then while y is taken.
+-- The measure that each step that changes the world lowers while no process is in its critical
+-- section. It is a sum over the processes of how many steps each can still take, while y is 0 and
+-- then while y is not 0.
 use Rattle.std.proofs.Common.{◌≡◌, ◌==◌, ◌<◌, ◌≤◌, ◌+◌, ◌-◌, ◌*◌, ℕ, Bool, true, false, length, subst, arith}
 use Rattle.std.specs.List.{sum_by}
 use Rattle.lamport_core.specs.State.{State, process_count}
@@ -8,7 +9,7 @@ use Rattle.lamport_progress.proofs.Sums.{total_le}
 use Rattle.lamport_core.specs.declared.At.{At}
 use Rattle.lamport_core.specs.declared.At.TheVariants.{Rest, Start, SetX, TestY, BackB, AwaitY, SetY, TestX, SlowB, Scan, SlowY, SlowAwait, Fast, Slow, Leaving}
 
--- while y is 0: the steps of a process until it has stored to y, at most
+-- while y is 0: an upper bound of the steps of a process until it has stored to y
 abbrev pub free_rank : ℕ → At → ℕ
 free_rank n Rest = 4
 free_rank n Start = 4
@@ -26,7 +27,7 @@ free_rank n Fast = 0
 free_rank n Slow = 0
 free_rank n Leaving = 5
 
--- while y is taken: the steps of a process until it waits for y to be 0, at most
+-- while y is not 0: an upper bound of the steps of a process until it waits for y to be 0
 abbrev pub taken_rank : ℕ → At → ℕ
 taken_rank n Rest = 4
 taken_rank n Start = 4
@@ -44,7 +45,7 @@ taken_rank n Fast = 0
 taken_rank n Slow = 0
 taken_rank n Leaving = 5
 
--- by whether y is 0
+-- depending on whether y is 0
 abbrev pub rank : Bool → ℕ → At → ℕ
 rank true n p = n + 3 + free_rank n p
 rank false n p = taken_rank n p

@@ -1,6 +1,7 @@
--- The rule of fair rounds. Let a measure never rise while nobody is inside. Let some process help at
--- each moment: its step lowers the measure, and it keeps helping while steps of others leave the
--- measure as it is. Then each fair round lowers the measure or leads inside.
+-- The rule of fair rounds. Suppose that a measure never increases while no process is in its
+-- critical section, and that at each time some process helps: its step lowers the measure, and it
+-- keeps helping while steps of others leave the measure unchanged. Then each fair round lowers the
+-- measure, or some process enters its critical section in it.
 use Rattle.std.proofs.Common.{◌≡◌, ◌≢◌, ◌<◌, ◌≤◌, ◌⊎◌, ℕ, zero, suc, List, [], ◌∷◌, ◌++◌, length, get_or, refl, sym, subst, ap, inl, inr, arith}
 use Rattle.std.proofs.lemmas.Bool.{cases_eq}
 use Rattle.std.specs.List.{Contains, concat}
@@ -13,7 +14,7 @@ use Rattle.lamport_progress.proofs.Work.{IsSound, sound_next, at_once, inside_or
 use Rattle.lamport_core.specs.declared.At.{At}
 use Rattle.lamport_core.specs.declared.At.TheVariants.{Rest, Start, SetX, TestY, BackB, AwaitY, SetY, TestX, SlowB, Scan, SlowY, SlowAwait, Fast, Slow, Leaving}
 
--- a step leaves the points of the others
+-- a step does not change the points of the other processes
 pub others_from : (P : At) (w : State) (i j : ℕ) → j ≢ i → point_of (step_from P w i) j ≡ point_of w j
 others_from Rest w i j ne = of-with_other Rest w.points i j SetX ne
 others_from Start w i j ne = of-with_other Rest w.points i j SetX ne
@@ -34,7 +35,7 @@ others_from Leaving w i j ne = of-with_other Rest w.points i j Rest ne
 pub others_next : (w : State) (i j : ℕ) → j ≢ i → point_of (next w i) j ≡ point_of w j
 others_next w i = others_from (point_of w i) w i
 
--- a process in its entry stays in it until it is inside
+-- a process in its entry stays in it until it is in its critical section
 pub entering_line : (n : ℕ) (P Q : At) → IsEntering P → IsLine n P Q → (IsInsidePoint Q → ⊥) → IsEntering Q
 entering_line n Rest Q h l out = absurd h
 entering_line n Start Q h l out = subst IsEntering (sym l) tt
@@ -59,7 +60,7 @@ entering_line n Fast Q h l out = absurd h
 entering_line n Slow Q h l out = absurd h
 entering_line n Leaving Q h l out = absurd h
 
--- process p of n is in its entry, and nobody is inside
+-- process p of n is in its entry, and no process is in its critical section
 pub record Pending (n p : ℕ) (w : State) : Type 0 where
   pub sound : IsSound n w
   pub outside : IsOccupied w → ⊥
@@ -88,7 +89,7 @@ module _ (n p i : ℕ) (w : State) (c : Pending n p w) (q : IsProcess n i) where
     | inr out ↦ inr (record { sound = sound_next n w i c.sound q; outside = still_out out; entering = still_entering out })
   ]
 
--- a step while nobody is inside leaves y taken
+-- a step while no process is in its critical section does not set y to 0
 pub taken_from : (P : At) (w : State) (i : ℕ) → 0 < i → (IsInsidePoint P → ⊥) → w.y ≢ 0 →
     (step_from P w i).y ≢ 0
 taken_from SetY w i p out ne = λ e. omega arith
@@ -107,7 +108,7 @@ taken_from SlowY w i p out ne = ne
 taken_from SlowAwait w i p out ne = ne
 taken_from Leaving w i p out ne = ne
 
--- and y is taken
+-- and y is not 0
 pub record Held (n p : ℕ) (w : State) : Type 0 where
   pub pending : Pending n p w
   pub taken : w.y ≢ 0
@@ -141,7 +142,7 @@ pub record Helper (helps : State → ℕ → Type 0) (w : State) : Type 0 where
   pub started : point_of w process ≢ Rest
   pub does : helps w process
 
--- what the measure and the helpers owe
+-- the conditions on the measure and the helpers
 pub record Fair (n p : ℕ) (measure : State → ℕ) (helps : State → ℕ → Type 0) : Type 0 where
   pub falls : (w : State) (i : ℕ) → Held n p w → IsProcess n i → IsOccupied (next w i) ⊎ (measure (next w i) ≤ measure w)
   pub lowers : (w : State) (i : ℕ) → Held n p w → IsProcess n i → helps w i → IsOccupied (next w i) ⊎ (measure (next w i) < measure w)

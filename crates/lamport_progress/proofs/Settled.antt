@@ -1,4 +1,4 @@
--- After two fair rounds y is taken, or each process is settled: none is at TestX, SlowB, BackB or
+-- After two fair rounds y is not 0, or each process is settled: none is at TestX, SlowB, BackB or
 -- Leaving.
 use Rattle.std.proofs.Common.{◌≡◌, ◌≢◌, ◌==◌, ◌<◌, ◌≤◌, ◌+◌, ◌-◌, ◌⊎◌, ℕ, suc, Bool, true, false, cond, List, [], ◌∷◌, length, refl, sym, ◌∙◌, subst, inl, inr, arith}
 use Rattle.std.specs.List.{Contains}
@@ -23,7 +23,7 @@ unsettled _ = 0
 abbrev pub Settled : ℕ → State → Type 0
 Settled m w = (w.y ≢ 0) ⊎ ((j : ℕ) → unsettled (point_of w j) ≤ m)
 
--- process p is in its entry and nobody is inside, throughout the schedule
+-- process p is in its entry and no process is in its critical section, throughout the schedule
 abbrev pub StaysPending : ℕ → ℕ → State → List ℕ → Type 0
 StaysPending n p w [] = Pending n p w
 StaysPending n p w (i ∷ is) = Pending n p w × StaysPending n p (next w i) is
@@ -46,7 +46,7 @@ unsettled_steady Leaving h = tt
 unsettled_steady _ h = absurd (omega arith)
 
 module _ (w : State) (i : ℕ) (there : IsProcess (length w.points) i) where
-  -- what a step of process i to v leaves to settle, where it was k + 1 or 0
+  -- what remains to settle after a step of process i to v, if it was k + 1 or 0
   abbrev Settles : ℕ → State → Type 0
   Settles k v = IsInside v i ⊎ ((v.y ≢ 0) ⊎ (unsettled (point_of v i) ≤ k))
 
@@ -108,7 +108,7 @@ due_on f i j m w is ne (inr h) = elim (contains_head i j is h.1.0 h.1.1 h.1.2) [
   | inr u ↦ inr (subst (λ a. f a ≤ suc m) (sym (others_next w i j ne)) h.0, u)
 ]
 
--- and so it is in a fair round
+-- and so it is after a fair round
 pub due_now : (f : At → ℕ) (j m : ℕ) (w : State) (is : List ℕ) → IsSafe w → IsFairRound w is →
     (0 < f (point_of w j) → IsSteady (point_of w j)) → f (point_of w j) ≤ suc m → Due f j m w is
 due_now f j m w is s r steady le = elim (cases_lt m (f (point_of w j))) [
@@ -162,7 +162,7 @@ module _ (n p : ℕ) where
     ]
   ]
 
-  -- a fair round leaves one step less
+  -- a fair round reduces the steps by one
   pub settles_round : (m : ℕ) (is : List ℕ) (w : State) → StaysPending n p w is → IsSchedule n is →
       IsFairRound w is → Settled (suc m) w → Settled m (run w is)
   settles_round m is w c s r (inl ne) = inl (taken_run is w c s ne)

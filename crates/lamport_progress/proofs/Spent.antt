@@ -1,6 +1,6 @@
--- What x says once y is taken. The last process that stored to x is no further than its own store to
--- y, so either it is the process that y names, or the two of them have spent their flags: within two
--- fair rounds they keep no scan waiting for more than one step.
+-- What x says once y is not 0. The last process that stored to x has not moved past its own store
+-- to y, so either it is the process that y names, or the two of them have spent their flags: within
+-- two fair rounds they delay no scan for more than one step.
 use Rattle.std.proofs.Common.{◌≡◌, ◌≢◌, ◌==◌, ◌<◌, ◌≤◌, ◌+◌, ◌-◌, ◌*◌, ◌⊎◌, ℕ, zero, suc, Bool, true, false, cond, List, [], ◌∷◌, length, refl, sym, ap, ◌∙◌, subst, inl, inr, arith}
 use Rattle.std.specs.List.{Contains, sum_by}
 use Rattle.std.proofs.lemmas.Bool.{cases_eq, eq-eqb, ne_eqb}
@@ -17,13 +17,14 @@ use Rattle.lamport_progress.proofs.Settled.{StaysPending, Due, due-le, due_on, d
 use Rattle.lamport_core.specs.declared.At.{At}
 use Rattle.lamport_core.specs.declared.At.TheVariants.{Rest, Start, SetX, TestY, BackB, AwaitY, SetY, TestX, SlowB, Scan, SlowY, SlowAwait, Fast, Slow, Leaving}
 
--- a point after the own store to x, and before the own store to y
+-- a point after the process's store to x, and before its store to y
 abbrev pub IsClaim : At → Type 0
 IsClaim TestY = Unit {0}
 IsClaim SetY = Unit {0}
 IsClaim _ = ⊥
 
--- the steps of a process that has stored to x until its flag is down, while y is taken; 4 for others
+-- the steps of a process that has stored to x until its flag is down, while y is not 0; 4 for
+-- others
 abbrev pub level : At → ℕ
 level Rest = 4
 level Start = 4
@@ -45,7 +46,7 @@ level Leaving = 4
 abbrev pub Claimed : State → Type 0
 Claimed w = (j : ℕ) → IsClaim (point_of w j) → IsClaim (point_of w w.x)
 
--- the next step of the process that y names leads it inside
+-- the next step of the process that y names takes it into its critical section
 abbrev pub IsFirst : State → Type 0
 IsFirst w = (w.x ≡ w.y) × (point_of w w.y ≡ TestX)
 
@@ -68,7 +69,7 @@ claim_level TestY h = omega arith
 claim_level SetY h = omega arith
 claim_level _ h = absurd h
 
--- process i goes from P to Q, neither of which is a claim, and x stays
+-- process i moves from P to Q, neither of which is a claim, and x does not change
 keep_claimed : (w v : State) (i : ℕ) (P Q : At) → point_of w i ≡ P → point_of v i ≡ Q →
     ((j : ℕ) → j ≢ i → point_of v j ≡ point_of w j) → v.x ≡ w.x → (IsClaim P → ⊥) →
     (IsClaim Q → ⊥) → Claimed w → Claimed v
@@ -107,7 +108,7 @@ module _ (w : State) (i : ℕ) (there : IsProcess (length w.points) i) where
   at_Q : (Q : At) → of_process Rest (with_process w.points i Q) i ≡ Q
   at_Q Q = of-with_same Rest w.points i Q there
 
-  -- a step from P to Q that leaves x and y, while y is 0
+  -- a step from P to Q that changes neither x nor y, while y is 0
   plain : (P Q : At) → point_of w i ≡ P → w.y ≡ 0 → (IsClaim P → ⊥) → (IsClaim Q → ⊥) →
       point_of (step_from P w i) i ≡ Q → (step_from P w i).x ≡ w.x → (step_from P w i).y ≡ w.y →
       Claimed w → Stage (step_from P w i)
@@ -169,7 +170,7 @@ module _ (w : State) (i : ℕ) (there : IsProcess (length w.points) i) where
   free_from Fast at z out c = absurd (out (inl refl))
   free_from Slow at z out c = absurd (out (inr refl))
 
-  -- what a step leaves of the level of its process, while y is taken
+  -- the level of a process after its step, while y is not 0
   abbrev Leaves : ℕ → State → Type 0
   Leaves m v = IsInside v i ⊎ (level (point_of v i) ≤ m)
 
@@ -209,7 +210,8 @@ module _ (w : State) (i : ℕ) (there : IsProcess (length w.points) i) where
   level_from SlowAwait ne le = inr (level_Q 0 _ (taken_load Start SlowAwait 0 ne (omega arith)))
   level_from _ ne le = absurd (omega arith)
 
-  -- a step of another than the process that y names, which is about to go inside
+  -- a step of a process other than the one that y names, which is about to enter its critical
+  -- section
   abbrev AfterFirst : State → Type 0
   AfterFirst v = (IsFirst v × (v.y ≡ w.y)) ⊎ ((level (point_of v i) ≤ 2) × (point_of v w.y ≡ TestX))
 
@@ -248,7 +250,7 @@ level_steady TestX le lt = tt
 level_steady SlowB le lt = tt
 level_steady _ le lt = absurd (omega arith)
 
--- a process comes to Leaving only from inside
+-- a process comes to Leaving only from its critical section
 few_line : (n : ℕ) (P Q : At) → IsLine n P Q → (IsInsidePoint P → ⊥) → clear Q ≤ 4
 few_line n Rest Q l out = subst (λ a. clear a ≤ 4) (sym l) (omega arith)
 few_line n Start Q l out = subst (λ a. clear a ≤ 4) (sym l) (omega arith)

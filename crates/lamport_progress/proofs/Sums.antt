@@ -1,4 +1,4 @@
--- Sums over the processes, when one of them goes on to another point.
+-- Sums over the processes when one of them moves to another point.
 use Rattle.std.proofs.Common.{◌<◌, ◌≤◌, ◌≢◌, ◌+◌, ◌*◌, refl, ℕ, zero, suc, List, [], ◌∷◌, length, get_or, ap, ◌∙◌, ◌≡◌, inl, inr, arith}
 use Rattle.std.specs.List.{sum_by}
 use Rattle.std.proofs.lemmas.Bool.{cases_lt}
@@ -14,7 +14,7 @@ set_less f g [] k Q lt h l = absurd (omega arith)
 set_less f g (p ∷ ps) zero Q lt h l = omega (arith, sum_by-cons g Q ps, sum_by-cons f p ps, sum_by-le-sum_by g f ps h, l)
 set_less f g (p ∷ ps) (suc k) Q lt h l = omega (arith, sum_by-cons g p (set ps k Q), sum_by-cons f p ps, h p, set_less f g ps k Q (omega arith) h l)
 
--- if no term grows, and that of the process that goes on falls, the sum falls
+-- if no term increases, and that of the process that moves decreases, the sum decreases
 pub total_less : (f g : At → ℕ) (ps : List At) (i : ℕ) (Q : At) → IsProcess (length ps) i → ((q : At) → g q ≤ f q) → g Q < f (of_process Rest ps i) → sum_by g (with_process ps i Q) < sum_by f ps
 total_less f g ps zero Q p h l = absurd (omega arith)
 total_less f g ps (suc k) Q p h l = set_less f g ps k Q (omega arith) h l
@@ -40,7 +40,7 @@ one_less f m (p ∷ ps) (suc k) lt h =
     let first : f p ≤ m = h zero in
     omega (arith, sum_by-cons f p ps, one_less f m ps k (omega arith) (λ j. h (suc j)))
 
--- and if two are known
+-- the same if two are known
 pub two_less : (f : At → ℕ) (m : ℕ) (ps : List At) (j k : ℕ) → j < length ps → k < length ps →
     j ≢ k → ((l : ℕ) → f (get_or ps l Rest) ≤ m) →
     sum_by f ps + 2 * m ≤ length ps * m + f (get_or ps j Rest) + f (get_or ps k Rest)
@@ -64,12 +64,12 @@ set_at_most f [] k Q lt l = absurd (omega arith)
 set_at_most f (p ∷ ps) zero Q lt l = omega (arith, sum_by-cons f Q ps, sum_by-cons f p ps, l)
 set_at_most f (p ∷ ps) (suc k) Q lt l = omega (arith, sum_by-cons f p (set ps k Q), sum_by-cons f p ps, set_at_most f ps k Q (omega arith) l)
 
--- if the term of the process that goes on does not grow, the sum does not
+-- if the term of the process that moves does not increase, the sum does not
 pub total_at_most : (f : At → ℕ) (ps : List At) (i : ℕ) (Q : At) → IsProcess (length ps) i → f Q ≤ f (of_process Rest ps i) → sum_by f (with_process ps i Q) ≤ sum_by f ps
 total_at_most f ps zero Q p l = absurd (omega arith)
 total_at_most f ps (suc k) Q p l = set_at_most f ps k Q (omega arith) l
 
--- the term of each number, of a process or of none, is within the sum
+-- the term of each number, whether or not it is that of a process, is at most the sum
 pub term-le-total : (f : At → ℕ) (ps : List At) (i : ℕ) → f Rest ≡ 0 → f (of_process Rest ps i) ≤ sum_by f ps
 term-le-total f ps zero e = omega arith
 term-le-total f ps (suc k) e = elim (cases_lt k (length ps)) [

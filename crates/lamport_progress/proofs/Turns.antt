@@ -1,4 +1,4 @@
--- A round robin is a fair round from each world. And fair rounds can starve a process.
+-- A round robin is a fair round from each world. But fair rounds can starve a process.
 use Rattle.std.proofs.Common.{◌≡◌, ◌≢◌, ◌≤◌, ◌⊎◌, ℕ, zero, suc, false, List, [], ◌∷◌, ◌++◌, replicate, refl, sym, ◌∙◌, subst, inl, inr, arith}
 use Rattle.std.proofs.lemmas.Bool.{cases_eq}
 use Rattle.std.proofs.lemmas.List.{length-replicate}
@@ -42,8 +42,8 @@ round_robin_enters n w i r on =
     let long = length-replicate (round_bound n) (round_robin n) in
     rounds_enter n w i (replicate (round_bound n) (round_robin n)) r on (turns n (round_bound n) w s.safe s.counts) (omega arith)
 
--- Process 1 of two awaits y = 0, and process 2 is at rest. In a round process 2 enters and leaves,
--- process 1 finds y taken, and the world is the same again.
+-- Process 1 of two waits for y = 0, and process 2 is at rest. In a round process 2 enters and
+-- leaves, process 1 finds that y is not 0, and the world is the same again.
 hungry : State
 hungry = record { x = 2; y = 0; flags = false ∷ false ∷ []; points = AwaitY ∷ Rest ∷ [] }
 

@@ -1,5 +1,6 @@
--- While nobody is inside, each step that changes the world lowers the measure. So a schedule that
--- never waits leads some process inside, and there is a way inside from each world.
+-- While no process is in its critical section, each step that changes the world lowers the measure.
+-- So a schedule in which no step waits takes some process into its critical section, and such steps
+-- exist from each world.
 use Rattle.std.proofs.Common.{false, ◌≡◌, ◌≢◌, ◌<◌, ◌≤◌, ◌⊎◌, ℕ, zero, suc, List, [], ◌∷◌, length, refl, sym, ap, ◌∙◌, subst, inl, inr, arith}
 use Rattle.std.proofs.lemmas.List.{length-replicate}
 use Rattle.lamport_core.specs.State.{State, Reach, IsProcess, IsSchedule, IsInsidePoint, process_count, point_of, next, run, start}
@@ -17,7 +18,7 @@ inside_or_not Fast = inl (inl refl)
 inside_or_not Slow = inl (inr refl)
 inside_or_not _ = inr (λ h. elim h [ inl e ↦ cc | inr e ↦ cc ])
 
--- what is so from a reachable world on
+-- what holds from a reachable world on
 pub record IsSound (n : ℕ) (w : State) : Type 0 where
   pub safe : IsSafe w
   pub owned : IsOwned w
@@ -46,14 +47,14 @@ pub at_once : (w : State) (is : List ℕ) → IsOccupied w → LeadsInside w is
 at_once w [] h = h
 at_once w (i ∷ is) h = inl h
 
--- while nobody is inside, a step waits or lowers the measure
+-- while no process is in its critical section, a step waits or lowers the measure
 pub one_step : (n : ℕ) (w : State) (i : ℕ) → IsSound n w → IsProcess n i → IsOccupied w ⊎ ((next w i ≡ w) ⊎ (measure (next w i) < measure w))
 one_step n w i s p = elim (inside_or_not (point_of w i)) [
   | inl h ↦ inl (i, h)
   | inr out ↦ inr (outcome w i s.safe (subst (λ m. IsProcess m i) (sym s.counts) p) out)
 ]
 
--- more steps that change the world than the measure says lead inside
+-- if more steps than the measure change the world, some process enters its critical section
 steps_lead : (n : ℕ) (is : List ℕ) (w : State) → IsSound n w → IsSchedule n is → NeverWaits w is → measure w < length is → LeadsInside w is
 steps_lead n [] w s p b lt = absurd (omega arith)
 steps_lead n (i ∷ is) w s p b lt = elim (one_step n w i s p.0) [
@@ -91,7 +92,7 @@ mover n w some s = elim (rest_or_not (point_of w 1)) [
   }
 ]
 
--- a way inside of at most m steps
+-- at most m steps that take some process into its critical section
 record Way (n m : ℕ) (w : State) : Type 0 where
   steps : List ℕ
   processes : IsSchedule n steps

@@ -27,7 +27,7 @@ use Rattle.mq_commutation.proofs.Frames.{AnswersOn, acts-cases, acts_on, answere
 use Rattle.mq_commutation.proofs.Orders.{Order, apart-back, apart-clash, apart-off, both, commute-by, next-b, on_of, paid, paid-b, queue-back, queue-cases, the-place, touched-is}
 use Rattle.mq_commutation.proofs.Steps.{both-told, message-same, shapes, steps-at}
 
--- two covered calls, of different processes, on different queues or both only reading, that change
+-- two covered calls of different processes, on different queues or both only reading, that change
 -- the notices of different processes
 pub record AreSeparate (past : Past) (a b : Request) : Type 0 where
   pub processes : (a.process ≡ b.process) → ⊥
@@ -145,7 +145,7 @@ module _ (past : Past) (a b : Request) (t : Two past a b) where
       (λ n. ap (noted_by_call a k) (notices-off past b.process b.call (reply_of past b) k values t.apart.calls.1 says-b n)
       ∙ sym (notices-off past b.process b.call (reply_of past b) k (noted_by_call a k values) t.apart.calls.1 says-b n))
 
-  -- not both change the answer of one process
+  -- they do not both change the answer of one process
   abbrev AtWork : Request → ℕ → Type 0
   AtWork c k = ((c.process ≡ k) × (is_some (answered_by past k) ≡ true)) ⊎ AnswersOn past c.process c.call k
 
@@ -171,7 +171,7 @@ module _ (past : Past) (a b : Request) (t : Two past a b) where
           (acts-cases past t.legal b.process b.call (reply_of past b) k t.apart.calls.1 says-b t.second.turn eb)
       by (inr look) = let bad : false ≡ true = sym ((looks past a.process a.call (reply_of past a) look.0 says-a).answers past a.process a.call k) ∙ ea in absurd (cc)
 
--- at a queue that the second call is not made on
+-- at a queue that the second call is not about
 at-first : (past : Past) (a b : Request) (t : Two past a b) (k : ℕ) → k < length past → Quiet past b a (swap past a b t) k → SameAt (both past a b (order past a b t)) (both past b a (order past b a (swap past a b t))) k
 at-first past a b t k lt off =
     let s = swap past a b t in

@@ -1,4 +1,4 @@
--- What a call on one queue leaves of another, and what it adds to notices and answers.
+-- What a call on one queue leaves unchanged at another, and how it changes notices and answers.
 use Rattle.std.proofs.Common.{◌≡◌, ◌⊎◌, inl, inr, ℕ, ◌<◌, ◌==◌, Bool, true, false, ◌&&◌, not, List, ◌∷◌, drop, length, Option, Some, None, is_some, is_none, if◌then◌else◌, refl, sym, ◌∙◌, ap, subst, eqb-true}
 use Rattle.std.specs.Prelude.{slice_get}
 use Rattle.std.specs.Option.{option_map, option_and_then, unwrap_or}
@@ -37,7 +37,7 @@ use Rattle.mq_commutation.specs.Commuting.{is_covered}
 use Rattle.mq_commutation.proofs.Replies.{SameAt}
 use Rattle.mq_commutation.proofs.Registered.{closed-elsewhere}
 
--- a call on a queue by a descriptor, which it does not close
+-- a call on a queue by a descriptor that it does not close
 abbrev is_on_queue : Call → Bool
 is_on_queue (MqSend d prio len) = true
 is_on_queue (MqReceive d room) = true
@@ -238,7 +238,7 @@ registered-off p call (Refused f) (Some x) on safe = refl
 abbrev pub answered_at : Past → ℕ → Call → Reply → Option ℕ
 answered_at past p call reply = option_and_then (λ q. answers reply (senders past q) (receivers past q)) (called_queue past p call)
 
--- whether a call changes the answer of process k, and what it makes of it
+-- whether a call changes the answer of process k, and the answer then
 abbrev pub acts_on : ℕ → Reply → Option ℕ → ℕ → Bool
 acts_on p (Collected b) w k = p == k
 acts_on p reply w k = is_place k w
@@ -388,7 +388,8 @@ answers-on past legal p call (Notice v) k says e = absurd (none-then k (called_q
 answers-on past legal p call Done k says e = absurd (none-then k (called_queue past p call) e)
 answers-on past legal p call (Refused f) k says e = absurd (none-then k (called_queue past p call) e)
 
--- a call changes the answer of a process that waits unanswered on its queue, or collects its own
+-- a call changes the answer of a process that waits without an answer on its queue, or collects its
+-- own
 pub acts-cases : (past : Past) → Legal past → (p : ℕ) (call : Call) (reply : Reply) (k : ℕ) → is_covered call ≡ true → Says past p call reply → may_call past p call ≡ true → acts_on p reply (answered_at past p call reply) k ≡ true →
     ((p ≡ k) × (is_some (answered_by past k) ≡ true)) ⊎ AnswersOn past p call k
 acts-cases past legal p call (Opened o new) k on says turn e = inr (answers-on past legal p call (Opened o new) k says e)
@@ -504,7 +505,7 @@ module _ (past : Past) (legal : Legal past) (p : ℕ) (call : Call) (reply : Rep
   kept : is_withdrawn reply ≡ false
   kept = not-withdrawn past p call reply on says
 
-  -- a call on another queue leaves all at this queue
+  -- a call on another queue changes nothing at this queue
   pub stays-at : (k : ℕ) → k < length past → is_place k (called_queue past p call) ≡ false → SameAt past (r ∷ past) k
   stays-at k lt off = record {
     limits = attributes-older past r k lt;
@@ -517,7 +518,7 @@ module _ (past : Past) (legal : Legal past) (p : ℕ) (call : Call) (reply : Rep
       safe : (c : ℕ) → call ≡ MqClose c → (x : Registered) → registered_as past k ≡ Some x → (c == x.d && p == x.process) ≡ false
       safe c is x stands = closed-elsewhere past legal p call c k x is stands off
 
-  -- a call that only reads leaves all at each queue
+  -- a call that only reads changes nothing at any queue
   pub stays-look : only_reads call ≡ true → (k : ℕ) → k < length past → SameAt past (r ∷ past) k
   stays-look look k lt =
       let l = looks past p call reply look says in

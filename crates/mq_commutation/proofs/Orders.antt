@@ -1,4 +1,4 @@
--- Two calls, one after the other, in both orders.
+-- Two calls in both orders.
 use Rattle.std.proofs.Common.{◌≡◌, ◌⊎◌, inl, inr, ℕ, ◌<◌, ◌==◌, Bool, true, false, ◌&&◌, ◌||◌, List, [], ◌∷◌, length, map, Option, Some, None, is_some, if◌then◌else◌, refl, sym, ◌∙◌, ap, subst, arith, eqb-true, eq-eqb, ne_eqb}
 use Rattle.std.specs.Prelude.{IsTrue}
 use Rattle.std.specs.List.{filter}
@@ -120,7 +120,7 @@ apart-clash o u k j e ok uj same =
     let bad : true ≡ false = sym on ∙ off in
     absurd (cc)
 
--- a value of each process, which its own call alone changes
+-- a value of each process, which only a call of that process changes
 own-two : {Z : Type 0} (p q k : ℕ) → (p ≡ q → ⊥) → (va vb h : Z) → (if p == k then va else (if q == k then vb else h)) ≡ (if q == k then vb else (if p == k then va else h))
 own-two p q k ne va vb h = split (p == k)
     (λ t. split (q == k)
@@ -204,7 +204,7 @@ module _ (past : Past) (a b : Request) (t : Order past a b) where
         reply = same-reply mid b.process b.call b.given t.calls.1;
       }
 
-  -- a wait that is answered has the same answer after the call of another process
+  -- a wait that is answered has the same answer after a call of another process
   answer-b : is_some (answered_by past b.process) ≡ true → answer mid b.process ≡ answer past b.process
   answer-b some =
       answer-acted past t.legal a.process a.call (reply_of past a) (paid past a) t.first t.calls.0 b.process
@@ -233,7 +233,7 @@ module _ (past : Past) (a b : Request) (t : Order past a b) where
   abbrev pub both : Past
   both = record_for mid b ∷ mid
 
-  -- what the two calls make of each process
+  -- each process after the two calls
   pub held-two : (k d : ℕ) → held both k d ≡ (if b.process == k then flagged b.call (reply_of past b) d (held past k d) else (if a.process == k then flagged a.call (reply_of past a) d (held past k d) else held past k d))
   held-two k d =
       held-step mid b.process b.call (reply_of mid b) (paid mid b) t.calls.1 k d
@@ -267,7 +267,7 @@ module _ (past : Past) (a b : Request) (t : Order past a b) where
   pub deadlines-two : (k : ℕ) → wait_deadline both k ≡ (if b.process == k then until_for b (is_wait (reply_of past b)) else (if a.process == k then until_for a (is_wait (reply_of past a)) else wait_deadline past k))
   deadlines-two k = λ i. if b.process == k then until_for b (both-wait (reply_of past b) (reply_of mid b) t.reply i) else wait_deadline mid k
 
-  -- what a call makes of the notices of process k
+  -- the notices of process k after a call
   abbrev pub noting : Request → ℕ → List ℕ → List ℕ
   noting c k values = after_notices c.process (gives_notice (reply_of past c)) (notified_registration past c.process c.call (reply_of past c)) k values
 
@@ -305,7 +305,8 @@ module _ (past : Past) (a b : Request) (t : Order past a b) where
 
 -- both orders ------------------------------------------------------------------------------------------------------------------------
 
--- two calls commute if neither affects the other and all is the same at each queue after both
+-- two calls commute if neither affects the other and everything at each queue is the same after
+-- both orders
 held-same : (past : Past) (a b : Request) (t : Order past a b) (s : Order past b a) (k d : ℕ) → held (both past b a s) k d ≡ held (both past a b t) k d
 held-same past a b t s k d =
     held-two past b a s k d

@@ -1,4 +1,4 @@
--- A message that is queued behind the one that a receive gets: the send and the receive commute.
+-- A message is queued after the one that a receive gets: the send and the receive commute.
 use Rattle.std.proofs.Common.{◌≡◌, ℕ, suc, ◌<◌, ◌==◌, Bool, true, false, not, List, [], ◌∷◌, length, map, Option, Some, None, is_some, is_none, if◌then◌else◌, refl, sym, ◌∙◌, ap, subst, arith, eqb-true, eq-eqb}
 use Rattle.std.specs.Prelude.{ℤ, int_le, nat_le, pos, negsuc, ◌≤◌}
 use Rattle.std.specs.Option.{option_map, option_and_then, unwrap_or}
@@ -63,7 +63,7 @@ rest-length : (n : ℕ) (c : Option Message) (cs : List (Option Message)) → le
 rest-length n c [] = refl
 rest-length n c (d ∷ ds) = split (has n (d ∷ ds)) (λ t. rw t (ap suc (rest-length n d ds))) (λ f. rw f refl)
 
--- a message behind the best one leaves it the best
+-- the best message stays the best when a message is added after it
 pub record Behind (m : Option Message) (cs : List (Option Message)) : Type 0 where
   pub rest : unpicked (top (m ∷ cs)) (m ∷ cs) ≡ m ∷ unpicked (top cs) cs
   pub best : pick (top (m ∷ cs)) (m ∷ cs) ≡ pick (top cs) cs
@@ -152,7 +152,7 @@ got-of (Notice v) e = absurd (cc)
 got-of Done e = absurd (cc)
 got-of (Refused f) e = absurd (cc)
 
--- what such a call leaves at a queue
+-- the state of a queue after such a call
 pub record KeptAt (past : Past) (r : Record) (k : ℕ) : Type 0 where
   pub senders : senders (r ∷ past) k ≡ senders past k
   pub receivers : receivers (r ∷ past) k ≡ receivers past k
@@ -171,7 +171,7 @@ kept-at past p call reply payload legal next on calm k =
 
 -- the two calls ----------------------------------------------------------------------------------------------------------------------
 
--- a sends behind the message that b receives, on one queue
+-- a sends after the message that b receives, on one queue
 pub record Passing (past : Past) (a b : Request) : Type 0 where
   pub legal : Legal past
   pub first : IsLegalNext past (record_for past a)
@@ -256,7 +256,7 @@ module _ (x y : Past) (p : ℕ) (same : (d : ℕ) → held y p d ≡ held x p d)
   send-like (MqTimedSend d prio len until now) given sends on found = timed-shape until now _ _ (send-found d prio len on found)
   send-like call given sends on found = absurd (let bad : false ≡ true = sends in cc)
 
--- a message that was queued found room, and nobody who waits
+-- a message that was queued found room, and no waiting receive
 record QueuedSays (past : Past) (q : ℕ) : Type 0 where
   free : least (waiting_receives past q) ≡ None
   room : is_full_with (attributes past q) (length (present past q)) ≡ false

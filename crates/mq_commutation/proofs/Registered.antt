@@ -1,4 +1,5 @@
--- A registration stands on the queue of the descriptor that it was made by, which is still held.
+-- A registration is on the queue of the descriptor with which it was made, and that descriptor is
+-- still held.
 use Rattle.std.proofs.Common.{◌≡◌, ℕ, ◌==◌, Bool, true, false, ◌&&◌, List, [], ◌∷◌, length, Option, Some, None, is_none, refl, sym, ◌∙◌, ap, subst, eqb-true, eq-eqb}
 use Rattle.std.specs.Option.{option_map}
 use Rattle.std.proofs.lemmas.Bool.{and_parts}
@@ -18,7 +19,7 @@ use Rattle.mq_model.proofs.OpenReplies.{lowest_free-is, opened-says}
 use Rattle.mq_equivalence.specs.Views.{Registered, registered_as}
 use Rattle.mq_equivalence.proofs.Notified.{viewed}
 
--- the descriptor is held, and of this queue
+-- the descriptor is held, and is for this queue
 pub record HeldOn (o : Option Description) (q : ℕ) : Type 0 where
   pub description : Description
   pub is : o ≡ Some description
@@ -34,7 +35,7 @@ stood ended (Some m) n e = split (ended m)
     (λ t. let bad : None ≡ Some n = rw t at e in absurd (cc))
     (λ f. let is : Some m ≡ Some n = rw f at e in let same : m ≡ n = cc in record { before = is; kept = subst (λ (x : Registration). ended x ≡ false) same f })
 
--- an entry that does not end the registration leaves its descriptor
+-- an entry that does not end the registration does not close its descriptor
 keeps : (past : Past) (p : ℕ) (call : Call) (reply : Reply) (payload : List ℕ) (q : ℕ) (n : Registration) → IsLegalNext past (record { entry = record { process = p; call = call; reply = reply }; payload = payload }) → p ≡ n.process → ends (is_place q (called_queue past p call)) (record { process = p; call = call; reply = reply }) n ≡ false → HeldOn (held past p n.d) q → HeldOn (held_after past call payload reply n.d (held past p n.d)) q
 keeps past p (MqSend d prio len) (Opened e new) payload q n next own kept h = h
 keeps past p (MqReceive d room) (Opened e new) payload q n next own kept h = h
@@ -164,7 +165,7 @@ registered-held (r ∷ past) legal q n e = by (only_if (is_on past r.entry q) (r
         let there : HeldOn (held past n.process n.d) q = subst (λ (j : ℕ). HeldOn (held past j n.d) q) after_calls.own h in
         rw (t, after_calls.same r.payload (held past n.process n.d)) there
 
--- a close of a descriptor of another queue ends no registration here
+-- a close of a descriptor for another queue ends no registration on this one
 pub closed-elsewhere : (past : Past) → Legal past → (p : ℕ) (call : Call) (c k : ℕ) (x : Registered) → call ≡ MqClose c → registered_as past k ≡ Some x → is_place k (called_queue past p call) ≡ false → (c == x.d && p == x.process) ≡ false
 closed-elsewhere past legal p call c k x is stands off = split (c == x.d && p == x.process)
     (λ t. by (registered past k) refl stands (and_parts (c == x.d) (p == x.process) t))

@@ -1,4 +1,5 @@
--- After two journals in which all that stands at a queue is the same, the replies to a call on it differ in places alone.
+-- After two journals that agree on everything at a queue, the replies to a call on it differ only
+-- in sequence numbers.
 use Rattle.std.proofs.Common.{◌≡◌, ℕ, ◌==◌, Bool, true, false, ◌&&◌, List, length, Option, Some, None, is_some, if◌then◌else◌, refl, sym, ◌∙◌, ap, nat_le}
 use Rattle.std.proofs.lemmas.List.{length-map}
 use Rattle.std.specs.Prelude.{int_lt, pos, slice_get}
@@ -25,14 +26,14 @@ use Rattle.mq_equivalence.proofs.Replies.{registered-some}
 use Rattle.mq_equivalence.proofs.Replies.{SameQueue, any-map, best-any, found-shape, hidden-same, placed-some, receive-shape, receive_with, send-shape, send_with, shape-if, timed-shape}
 use Rattle.mq_commutation.specs.Commuting.{is_covered}
 
--- a receive when nobody waits to send
+-- a receive when no send waits
 pub receive-any : (room : ℕ) (d : Description) (a : Attr) (c j : ℕ) (b k n m : Option ℕ) → is_some b ≡ is_some k → outline (receive_reply room (Some (receive_with d a c b None n))) ≡ outline (receive_reply room (Some (receive_with d a j k None m)))
 receive-any room d a c j b k n m e =
     shape-if (is_write_only d.access) _ _ _ _ refl (
     shape-if (int_lt (pos room) a.msgsize) _ _ _ _ refl (
     found-shape d.nonblock b k None None None None e refl refl))
 
--- a send when nobody waits to receive, to a queue that is not full
+-- a send when no receive waits, to a queue that is not full
 pub send-any : (prio len : ℕ) (d : Description) (a : Attr) (c j : ℕ) (n m : Option ℕ) → is_full_with a c ≡ false → is_full_with a j ≡ false → is_some (if c == 0 then n else None) ≡ is_some (if j == 0 then m else None) →
     outline (send_reply prio len (Some (send_with d a c None n))) ≡ outline (send_reply prio len (Some (send_with d a j None m)))
 send-any prio len d a c j n m e f g =
@@ -43,7 +44,7 @@ send-any prio len d a c j n m e f g =
     ∙ ap (λ (o : Option ℕ). Queued o) (hidden-same (if c == 0 then n else None) (if j == 0 then m else None) g)
     ∙ sym (λ i. outline (if f i && d.nonblock then Refused Again else accepted_reply None (f i) (if j == 0 then m else None))))))
 
--- all that stands at a queue is the same
+-- everything at a queue is the same
 pub record SameAt (x y : Past) (k : ℕ) : Type 0 where
   pub limits : attributes y k ≡ attributes x k
   pub messages : contents y k ≡ contents x k
@@ -142,7 +143,7 @@ module _ (x y : Past) (p : ℕ) (same : (d : ℕ) → held y p d ≡ held x p d)
       by h (Some v) e = λ i. outline (if registered-some x y h.queue h.queue e i then Refused Busy else Done)
       by h None e = λ i. outline (if registered-of p h.queue e i then Done else Refused Invalid)
 
-  -- the replies differ in places alone
+  -- the replies differ only in sequence numbers
   pub reply-same : (call : Call) (given : List ℕ) → is_covered call ≡ true → (call ≡ NextNotice → notices y p ≡ notices x p) → ((k : ℕ) → called_queue x p call ≡ Some k → SameAt x y k) → outline (reply_to y p call given) ≡ outline (reply_to x p call given)
   reply-same (MqSend d prio len) given on next at = of-send d prio len at
   reply-same (MqReceive d room) given on next at = of-receive d room at

@@ -1,4 +1,5 @@
--- The same call after two journals, on a queue at which all is the same: it stays the same. And the message that it gives.
+-- The same call on a queue after two journals that agree on everything at it: they still agree. And
+-- the message that the call returns.
 use Rattle.std.proofs.Common.{◌≡◌, ℕ, ◌<◌, true, false, List, ◌∷◌, length, Option, Some, None, is_some, refl, sym, ◌∙◌, ap, subst}
 use Rattle.std.specs.Option.{unwrap_or}
 use Rattle.mq_model.specs.Record.{Record, Past}
@@ -43,7 +44,7 @@ gives-outline (Notice v) = refl
 gives-outline Done = refl
 gives-outline (Refused f) = refl
 
--- consequences of having one outline
+-- consequences of equal outlines
 pub shapes : (a b : Reply) → outline b ≡ outline a → shape b ≡ shape a
 shapes a b same = sym (shape-outline b) ∙ ap shape same ∙ shape-outline a
 
@@ -135,11 +136,11 @@ both-got x y legal_x legal_y p call m a n j c l px py says_x says_y called at =
     let one : gy.0 ≡ gx.0 = cc in
     gy.2 ∙ ap (λ (q : ℕ). pick (top (contents y q)) (contents y q)) one ∙ at gx.0 gx.1 ∙ sym gx.2
 
--- a reply with the outline of one that gives none gives none
+-- a reply with the same outline as one that returns no message returns none
 pub no-message : (past : Past) (a b : Reply) → outline b ≡ outline a → is_got a ≡ false → message_given past b ≡ None
 no-message past a b same e = none-given past b (sym (got-outline b) ∙ ap is_got same ∙ got-outline a ∙ e)
 
--- replies of one outline that give a message give the same
+-- replies with the same outline that return a message return the same one
 pub message-same : (x y : Past) → Legal x → Legal y → (p : ℕ) (call : Call) (a b : Reply) (px py : List ℕ) → Says x p call a → Says y p call b → called_queue y p call ≡ called_queue x p call → outline b ≡ outline a →
     ((k : ℕ) → called_queue x p call ≡ Some k → pick (top (contents y k)) (contents y k) ≡ pick (top (contents x k)) (contents x k)) → message_given (rec p call b py ∷ y) b ≡ message_given (rec p call a px ∷ x) a
 message-same x y legal_x legal_y p call a b px py says_x says_y called same at =

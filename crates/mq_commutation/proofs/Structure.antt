@@ -1,4 +1,4 @@
--- The names and descriptors after a call that opens nothing and unlinks nothing.
+-- The names and descriptors after a call that neither opens nor unlinks anything.
 use Rattle.std.proofs.Common.{◌≡◌, ℕ, ◌==◌, Bool, true, false, ◌&&◌, List, ◌∷◌, Option, None, if◌then◌else◌, refl, ne_eqb}
 use Rattle.std.specs.Option.{option_map}
 use Rattle.mq_model.specs.Record.{Past}
@@ -67,7 +67,7 @@ not-unlinked Collect Done on = refl
 not-unlinked (Withdraw now) Done on = let bad : false ≡ true = on in absurd (cc)
 not-unlinked call (Refused f) on = refl
 
--- what a descriptor is after such a call
+-- a descriptor after such a call
 abbrev pub flagged : Call → Reply → ℕ → Option Description → Option Description
 flagged (MqSetattr e nonblock) (Attrs s) d before = if e == d then option_map (with_nonblock nonblock) before else before
 flagged (MqClose e) Done d before = if e == d then None else before

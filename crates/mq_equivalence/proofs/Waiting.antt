@@ -29,7 +29,7 @@ use Rattle.mq_equivalence.specs.Equivalence.{EquivalentUnder}
 use Rattle.mq_equivalence.proofs.Withdrawals.{answer-withdrawn, receivers-withdrawn, receivers_but, senders-withdrawn, senders_but}
 use Rattle.mq_equivalence.proofs.Going.{called-both, contents-go, deadlines-go, notices-go, payloads, registrations-go, rooms-go, same-at, same-old, says_x, says_y, shapes, structure-goes, waits-go}
 
--- a call on no queue answers nobody
+-- a call on no queue answers no wait
 idle-answer : (past : Past) (p : ℕ) (call : Call) (reply : Reply) (payload : List ℕ) (ss : List (Option Sender)) (rs : List (Option ℕ)) (k : ℕ) (before : Option (Option (Option Message))) → Says past p call reply → called_queue past p call ≡ None →
     after_answer p call payload reply ss rs k before ≡ after_answer p call payload reply [] [] k before
 idle-answer past p call (Handed w) payload ss rs k before says none = let hands = handed-all past p call w says in let bad : None ≡ Some hands.queue = sym none ∙ hands.on in absurd (cc)

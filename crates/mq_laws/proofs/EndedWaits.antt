@@ -1,4 +1,4 @@
--- No wait ends twice: by an entry that names it, or by a withdrawal.
+-- No wait ends twice, whether an entry serves it or a withdrawal ends it.
 use Rattle.std.proofs.Common.{◌≡◌, ℕ, ◌<◌, ◌==◌, true, false, ◌&&◌, ◌||◌, [], ◌∷◌, length, List, Option, Some, None, if◌then◌else◌, refl, sym, ◌∙◌, ap, arith, eqb-true, eq-eqb, ◌⊎◌, inl, inr}
 use Rattle.std.specs.Option.{option_map, option_and_then}
 use Rattle.std.proofs.lemmas.Bool.{and_parts, false_from_ne_true}
@@ -62,7 +62,7 @@ has-admits past k w e = has-named past k w (has-also admits named_wait admits-na
 has-withdrawn : (past : Past) (k w : ℕ) → Has withdrawn_wait past k w → Has ended_wait past k w
 has-withdrawn = has-also withdrawn_wait ended_wait withdrawn-ends
 
--- what a legal record ends is the open wait of a process, which no entry answers
+-- a legal record ends only the open wait of a process that no entry answers
 record IsUnanswered (past : Past) (w : ℕ) : Type 0 where
   p : ℕ
   opened : open_wait past p ≡ Some w
@@ -100,7 +100,7 @@ ended-below (r ∷ past) legal k w e = has-cases ended_wait past r k w e
     (λ here is. let x = ended-open past r legal.0 legal.1 w is in let lt = open_wait-below past x.p w x.opened in omega (arith, lt))
     (λ old lt. let le = ended-below past legal.0 k w old in omega (arith, le))
 
--- a wait that ended is listed among the sends or the receives that did
+-- a wait that ended is in the list of sends or of receives that ended
 ended-listed : (past : Past) (k w : ℕ) → Has ended_wait past k w → (s : WaitKind) × (is_in (ended_waits past s) w ≡ true)
 ended-listed [] k w e = absurd (cc)
 ended-listed (r ∷ past) k w e = has-cases ended_wait past r k w e
@@ -137,7 +137,7 @@ ended-once = once ended_wait ended-fresh
 pub named-once : (past : Past) → Legal past → IsOnce named_wait past
 named-once past legal j k w hj hk = ended-once past legal j k w (has-named past j w hj) (has-named past k w hk)
 
--- no wait is both withdrawn and named
+-- no wait is both withdrawn and served
 pub withdrawn-unnamed : (past : Past) → Legal past → (j k w : ℕ) → Has withdrawn_wait past j w → Has named_wait past k w → ⊥
 withdrawn-unnamed past legal j k w hj hk =
     let x = has-record withdrawn_wait past j w hj in
@@ -177,7 +177,7 @@ ended-blocked (r ∷ past) legal k w e = has-cases ended_wait past r k w e
     older : w < length past → reply_at past w ≡ Some Waits → reply_at (r ∷ past) w ≡ Some Waits
     older lt e = ap (option_map (λ (x : Record). x.entry.reply)) (record_at-older past r w lt) ∙ e
 
--- an entry admitted each send whose wait ended, or withdrew it
+-- a send whose wait ended was admitted or withdrawn by an entry
 pub send-ended : (past : Past) (w : ℕ) → is_in (ended_sends past) w ≡ true → (k : ℕ) × (Has admits past k w ⊎ Has withdrawn_wait past k w)
 send-ended [] w h = absurd (cc)
 send-ended (r ∷ past) w h = by (λ old. send-ended past w old) (ends_send r.entry.reply) refl h
@@ -202,7 +202,7 @@ send-ended (r ∷ past) w h = by (λ old. send-ended past w old) (ends_send r.en
         (λ t. here (ways r.entry.reply (e ∙ ap Some (eqb-true _ _ t))))
         (λ f. let old : is_in (ended_sends past) w ≡ true = rw f at h in older (rest old))
 
--- what entered a queue was queued at once, or an entry names it
+-- a message that entered a queue was queued at once, or an entry names its send
 abbrev IsEntered : Past → ℕ → Type 0
 IsEntered past m = ((n : Option ℕ) × (reply_at past m ≡ Some (Queued n))) ⊎ ((k : ℕ) × Has named_wait past k m)
 
@@ -255,7 +255,7 @@ handed-at (r ∷ past) q m h = split (hands_over r.entry.call r.entry.reply && i
     older : (w : ℕ) × (reply_at past m ≡ Some (Handed w)) → (w : ℕ) × (reply_at (r ∷ past) m ≡ Some (Handed w))
     older x = (x.0, reply-older past r m (Handed x.0) x.1)
 
--- what entered a queue was not handed over
+-- a message that entered a queue was not handed over
 pub admitted-not_handed : (past : Past) → Legal past → (q m w : ℕ) → is_in (admitted past q) m ≡ true → reply_at past m ≡ Some (Handed w) → ⊥
 admitted-not_handed past legal q m w h e = by (admitted-entered past q m h)
   where

@@ -1,4 +1,4 @@
--- What no two entries of a legal journal share.
+-- No two entries of a legal journal have the same value in these parts of their replies.
 use Rattle.std.proofs.Common.{◌≡◌, ◌≢◌, ℕ, ◌<◌, ◌==◌, Bool, true, false, ◌&&◌, not, [], ◌∷◌, length, Option, Some, None, is_some, if◌then◌else◌, refl, sym, ◌∙◌, ap, subst, arith, eqb-true, eq-eqb}
 use Rattle.std.specs.Option.{option_map, option_and_then, unwrap_or}
 use Rattle.std.proofs.lemmas.Bool.{eqb-false, not-true}
@@ -40,7 +40,7 @@ given-reply (Notice v) m e = absurd (cc)
 given-reply Done m e = absurd (cc)
 given-reply (Refused f) m e = absurd (cc)
 
--- what a legal record gives was present in a queue
+-- a message that a legal record returns was present in a queue
 pub given-present : (past : Past) (r : Record) → IsLegalNext past r → (m : ℕ) → message_given r.entry.reply ≡ Some m → (q : ℕ) × (is_in (present past q) m ≡ true)
 given-present past r next m e =
     let is = given-reply r.entry.reply m e in
@@ -92,7 +92,7 @@ standing-if : (past : Past) (q k : ℕ) (b : Bool) (n : Option ℕ) → n ≡ (i
 standing-if past q k true n is e = place-of past q k (registered past q) refl (sym is ∙ e)
 standing-if past q k false n is e = absurd (let bad : None ≡ Some k = sym is ∙ e in cc)
 
--- what a legal record notifies stood
+-- a registration that a legal record notifies existed
 notified-standing : (past : Past) (r : Record) → IsLegalNext past r → (k : ℕ) → notified r.entry.reply ≡ Some k → IsStanding past k
 notified-standing past r next k e = by r.entry.call r.entry.reply (legal_says past r next) e
   where
@@ -158,7 +158,7 @@ quiet-made p here call (Attrs s) n e = absurd (cc)
 quiet-made p here call (Notice v) n e = absurd (cc)
 quiet-made p here call (Refused f) n e = absurd (cc)
 
--- a registration that stands was not notified
+-- a registration that exists was not notified
 standing-unnotified : (past : Past) → Legal past → (q j : ℕ) (n : Registration) → registered past q ≡ Some n → Has notified past j n.place → ⊥
 standing-unnotified [] legal q j n e h = absurd (cc)
 standing-unnotified (r ∷ past) legal q j n e h = by (only_if (is_on past r.entry q) (registration_of (length past) r.entry.process r.entry.call r.entry.reply)) refl e (λ old there. standing-unnotified past legal.0 q j n old there)
@@ -186,7 +186,7 @@ notified-fresh past r legal next j k e old =
 
 -- causes -----------------------------------------------------------------------------------------------------------------
 
--- what answers a wait names it
+-- an entry that answers a wait names it
 pub record IsNamedBy (past : Past) (p by : ℕ) : Type 0 where
   pub w : ℕ
   pub opened : open_wait past p ≡ Some w
@@ -214,7 +214,7 @@ answered-named (r ∷ past) p by e = split (r.entry.process == p)
         let P : ℕ → Type 0 = λ k. Has named_wait (r ∷ past) k w in
         record { w = w; opened = rw other is; named = subst P place (has-here named_wait past r w (is-named (named_wait r.entry.reply) w t)) }
 
--- a collect's cause answered its process
+-- the cause of a collect answered its process
 pub record IsCollected (past : Past) (r : Record) (by : ℕ) : Type 0 where
   pub answered : answered_by past r.entry.process ≡ Some by
   pub reply : r.entry.reply ≡ Collected by
@@ -266,7 +266,7 @@ cause-below (r ∷ past) legal j by e = has-cases cause past r j by e
 has-same : (part : Reply → Option ℕ) (past : Past) (k m n : ℕ) → Has part past k m → Has part past k n → m ≡ n
 has-same part past k m n e f = let same : Some m ≡ Some n = sym e ∙ f in cc
 
--- a wait whose answer was collected is open no longer
+-- a wait whose answer was collected is no longer open
 pub closed : (past : Past) → Legal past → (j by w p : ℕ) → Has cause past j by → Has named_wait past by w → open_wait past p ≡ Some w → ⊥
 closed [] legal j by w p e h o = absurd (cc)
 closed (r ∷ past) legal j by w p e h o = has-cases cause past r j by e

@@ -32,7 +32,7 @@ use Rattle.mq_model.specs.declared.entries.Reply.TheVariants.{Opened, Queued, Ha
 
 -- queues -----------------------------------------------------------------------------------------------------------------
 
--- a queue is needed after a record only where it was needed before
+-- a queue is needed after a record only if it was needed before
 needed-before : (past : Past) (r : Record) → Legal (r ∷ past) → (q : ℕ) → q < length past → (is_named (r ∷ past) q || is_held (r ∷ past) q) ≡ true → (is_named past q || is_held past q) ≡ true
 needed-before past r legal q lt e = split (is_named (r ∷ past) q)
     (λ t. by-name (bound_queue-before (name_of (r ∷ past) q) (named-bound (r ∷ past) q t)))
@@ -146,7 +146,7 @@ sent-first past k q m x lt le = record {
   reply = x.reply;
 }
 
--- the reply that takes a message: a receive's, or that of its own send
+-- the reply that takes a message: that of a receive, or that of the send itself
 pub taken-reply : (k m : ℕ) (reply : Reply) → taken_by k reply ≡ Some m → (message_given reply ≡ Some m) ⊎ (k ≡ m)
 taken-reply k m (Got j a n) e = inl e
 taken-reply k m (Handed w) e = let same : k ≡ m = cc in inr same

@@ -1,4 +1,5 @@
--- What a legal journal's sends, receives, collects and withdrawals held, what its receives got, and what others leave.
+-- What the processes held at the sends, receives, collects and withdrawals of a legal journal, and
+-- which messages its receives got.
 use Rattle.std.proofs.Common.{◌≡◌, ℕ, ◌<◌, ◌==◌, Bool, true, false, not, [], ◌∷◌, length, Option, Some, None, is_some, if◌then◌else◌, refl, sym, ◌∙◌, ap, arith}
 use Rattle.std.specs.Option.{unwrap_or}
 use Rattle.mq_model.specs.Record.{Past, first}
@@ -48,7 +49,7 @@ not-false : (b : Bool) → b ≡ false → not b ≡ true
 not-false true e = absurd (cc)
 not-false false e = refl
 
--- what the reply says to a send, or a receive, on a descriptor
+-- the reply tells a send, or a receive, what its descriptor is
 send-says : (past : Past) (p d : ℕ) (call : Call) (reply : Reply) → is_send call ≡ true → descriptor_of call ≡ Some d → Says past p call reply → (prio : ℕ) × (len : ℕ) × SendSays past (held past p d) prio len reply
 send-says past p d (MqSend x prio len) reply s e says = let same : x ≡ d = cc in (prio, len, rw (← same) says)
 send-says past p d (MqTimedSend x prio len until now) reply s e says = let same : x ≡ d = cc in (prio, len, rw (← same) says)
@@ -98,7 +99,7 @@ is_wait-Waits (Notice v) e = absurd (cc)
 is_wait-Waits Done e = absurd (cc)
 is_wait-Waits (Refused f) e = absurd (cc)
 
--- a process that waits holds what it held where its wait began
+-- a process that waits holds what it held when its wait began
 pub wait-holds : (past : Past) (p w : ℕ) → open_wait past p ≡ Some w → (d : ℕ) → held past p d ≡ held (first w past) p d
 wait-holds [] p w e d = absurd (cc)
 wait-holds (r ∷ past) p w e d = split (r.entry.process == p)
@@ -127,7 +128,7 @@ answered-waits past p t = by (open_wait past p) refl
     by None is = absurd (let none = answered_by-none past p is in let bad : false ≡ true = rw none at t in cc)
     by (Some w) is = (w, is)
 
--- the same of a wait that is open at a place
+-- the same for a wait that is open at a place
 wait-held : (past : Past) (k p w : ℕ) → k < length past → open_wait (first k past) p ≡ Some w → (d : ℕ) → held (first k past) p d ≡ held (first w past) p d
 wait-held past k p w below e d =
     let lt = open_wait-below (first k past) p w e in

@@ -1,4 +1,4 @@
--- A legal journal at each of its places.
+-- A legal journal at each place.
 use Rattle.std.proofs.Common.{◌≡◌, ℕ, suc, ◌-◌, ◌<◌, ◌≤◌, ◌==◌, [], ◌∷◌, length, Option, Some, None, refl, sym, ◌∙◌, ap, arith, eqb-true, eq-eqb, leb-true, leb-false}
 use Rattle.std.specs.Prelude.{nat_le, drop}
 use Rattle.std.specs.Option.{option_map, option_and_then}
@@ -9,7 +9,7 @@ use Rattle.mq_model.specs.declared.entries.Reply.{Reply}
 use Rattle.mq_model.proofs.Places.{split}
 use Rattle.mq_model.proofs.Prefixes.{record_at-below, first-all}
 
--- the first places of a longer journal
+-- the first records of a longer journal
 pub first-older : (past : Past) (r : Record) (k : ℕ) → k ≤ length past → first k (r ∷ past) ≡ first k past
 first-older past r k le = let less : suc (length past) - k ≡ suc (length past - k) = omega arith in rw less refl
 
@@ -40,7 +40,7 @@ legal-at (s ∷ past) legal k r e = split (k == length past)
     let same : first k (s ∷ past) ≡ first k past = first-older past s k (omega (arith, lt)) in
     record { before = rw same x.before; next = rw same x.next })
 
--- the record that has a reply
+-- the record with a reply
 pub record-of : (past : Past) (k : ℕ) (reply : Reply) → reply_at past k ≡ Some reply → (r : Record) × (record_at past k ≡ Some r) × (r.entry.reply ≡ reply)
 record-of past k reply e = by (record_at past k) refl e
   where
@@ -63,7 +63,7 @@ has-record part past k m e = by (record_at past k) refl e
 pub has-here : (part : Reply → Option ℕ) (past : Past) (r : Record) (m : ℕ) → part r.entry.reply ≡ Some m → Has part (r ∷ past) (length past) m
 has-here part past r m e = rw (eq-eqb (length past) (length past) refl) e
 
--- a reply is that of the newest record, or an older one
+-- a reply is that of the latest record, or of an earlier one
 pub has-cases : {C : Type 0} (part : Reply → Option ℕ) (past : Past) (r : Record) (k m : ℕ) → Has part (r ∷ past) k m → (k ≡ length past → part r.entry.reply ≡ Some m → C) → (Has part past k m → k < length past → C) → C
 has-cases part past r k m e newest older = split (k == length past)
     (λ t. newest (eqb-true _ _ t) (rw t at e))
@@ -71,7 +71,7 @@ has-cases part past r k m e newest older = split (k == length past)
     let x = has-record part past k m old in
     older old (record_at-below past k x.r x.at))
 
--- what no earlier reply has, where a legal record has it
+-- what no earlier reply has when a legal record has it
 pub once : (part : Reply → Option ℕ) → ((past : Past) (r : Record) → Legal past → IsLegalNext past r → (j m : ℕ) → part r.entry.reply ≡ Some m → Has part past j m → ⊥) → (past : Past) → Legal past → IsOnce part past
 once part fresh [] legal j k m hj hk = absurd (cc)
 once part fresh (r ∷ past) legal j k m hj hk =

@@ -1,4 +1,4 @@
--- What is kept stays enough: as entries are added, and where what is lost with a queue is forgotten.
+-- What is kept remains enough when entries are added and when what is lost with a queue is dropped.
 use Rattle.std.proofs.Common.{◌≡◌, ◌≢◌, ℕ, ◌<◌, ◌==◌, ◌||◌, true, false, [], ◌∷◌, length, Option, Some, None, refl, sym, ◌∙◌, ap, subst, arith, eqb-true}
 use Rattle.mq_model.specs.Record.{Record, Past, first}
 use Rattle.mq_model.specs.Names.{creates}
@@ -21,7 +21,7 @@ use Rattle.mq_laws.specs.Needed.{is_kept, ended_by, ended, ended_before, ended_l
 abbrev pub IsEnough : Past → (ℕ → Type 0) → Type 0
 IsEnough past Keeps = (k : ℕ) → IsNeeded past k → Keeps k
 
--- what was not ended with the latest entry was not ended before it
+-- an entry that has not ended had not ended before the latest entry either
 pub not-before : (past : Past) (k : ℕ) → is_in (ended past) k ≡ false → is_in (ended_before past) k ≡ false
 not-before [] k e = refl
 not-before (r ∷ past) k e = by (ended_by r.entry.reply) e
@@ -87,7 +87,8 @@ home-below (r ∷ past) legal k q e = split (k == length past)
     by Done e = absurd (cc)
     by (Refused f) e = absurd (cc)
 
--- one entry more: a store that drops what the latest entry ended, and keeps the new one if it is of a kind that is kept, has enough
+-- one more entry: a store that drops what the latest entry ended, and keeps the new entry if it is
+-- of a kind that is kept, still has enough
 pub enough-push : (past : Past) (r : Record) (Keeps Keeps' : ℕ → Type 0) → Legal (r ∷ past) →
     (is_kept r.entry.call r.entry.reply ≡ true → Keeps' (length past)) →
     ((k : ℕ) → is_place k (ended_last past) ≡ false → Keeps k → Keeps' k) →
@@ -104,7 +105,7 @@ enough-push past r Keeps Keeps' legal new old enough k needed = split (k == leng
     still None e there = there
     still (Some q) e there = alive-older past r legal q (home-below past legal.0 k q e) there
 
--- what is lost with a queue that exists no longer may be forgotten
+-- what is lost with a queue that no longer exists may be dropped
 pub enough-forget : (past : Past) (q : ℕ) (Keeps Keeps' : ℕ → Type 0) → is_in (alive past) q ≡ false →
     ((k : ℕ) → home past k ≢ Some q → Keeps k → Keeps' k) → IsEnough past Keeps → IsEnough past Keeps'
 enough-forget past q Keeps Keeps' gone others enough k needed =

@@ -1,4 +1,4 @@
--- What the code asks for is needed.
+-- Whatever the code asks for is needed.
 use Rattle.std.proofs.Common.{◌≡◌, ℕ, ◌<◌, ◌==◌, ◌||◌, not, ◌⊎◌, inl, inr, Bool, true, false, [], ◌∷◌, length, Option, Some, None, refl, sym, ◌∙◌, ap, arith, eqb-true, eq-eqb, ne_eqb}
 use Rattle.std.proofs.lemmas.Bool.{false_from_ne_true, not-true}
 use Rattle.std.specs.Option.{option_map}
@@ -59,7 +59,7 @@ ended-ways (r ∷ past) k h = by (λ old. ended-ways past k old) (ended_by r.ent
         (λ t. here r.entry.reply refl (e ∙ ap Some (eqb-true _ _ t)))
         (λ f. let old : is_in (ended past) k ≡ true = rw f at h in older (rest old))
 
--- what was given was taken
+-- a message that was returned was taken
 given-taken : (past : Past) (j m : ℕ) → Has message_given past j m → is_in (taken past) m ≡ true
 given-taken [] j m e = absurd (cc)
 given-taken (r ∷ past) j m e = has-cases message_given past r j m e
@@ -90,7 +90,7 @@ cause-named (r ∷ past) legal j k e = has-cases cause past r j k e
     (λ here is. let x = answered-named past r.entry.process k (collected past r legal.1 k is).answered in (x.w, has-older named_wait past r k x.w x.named))
     (λ old lt. let x = cause-named past legal.0 j k old in (x.0, has-older named_wait past r k x.0 x.1))
 
--- an entry that answers no wait, was not taken and not withdrawn, is going
+-- an entry that answers no wait, and was neither taken nor withdrawn, has not ended
 going : (past : Past) → Legal past → (k : ℕ) → ((w : ℕ) → Has named_wait past k w → ⊥) → is_in (taken past) k ≡ false → ((j : ℕ) → Has withdrawn_wait past j k → ⊥) → is_in (ended past) k ≡ false
 going past legal k unnamed untaken open_still = false_from_ne_true _ (λ h. by (ended-ways past k h))
   where
@@ -99,7 +99,7 @@ going past legal k unnamed untaken open_still = false_from_ne_true _ (λ h. by (
     by (j, inr (inl e)) = let x = cause-named past legal j k e in unnamed x.0 x.1
     by (j, inr (inr e)) = open_still j e
 
--- a send that entered a queue, or still waits, has that queue as its home
+-- a send that entered a queue, or still waits, is lost with that queue only
 home-sent : (past : Past) (m q : ℕ) (reply : Reply) → sent_to past m ≡ Some q → reply_at past m ≡ Some reply → (((n : Option ℕ) × (reply ≡ Queued n)) ⊎ (reply ≡ Waits)) → home past m ≡ Some q
 home-sent [] m q reply to at how = absurd (cc)
 home-sent (r ∷ past) m q reply to at how = split (m == length past)
@@ -143,7 +143,7 @@ kept-sent past q m x reply at how =
     by (inl y) = rw y.1 refl
     by (inr y) = rw y x.send
 
--- the reply of what entered a queue
+-- the reply of a send that entered a queue
 entered-reply : (past : Past) → Legal past → (q m : ℕ) → is_in (admitted past q) m ≡ true → (reply : Reply) × (reply_at past m ≡ Some reply) × (((n : Option ℕ) × (reply ≡ Queued n)) ⊎ (reply ≡ Waits))
 entered-reply past legal q m h = let x = admitted-sent past q m h in
     let at : reply_at past m ≡ Some x.r.entry.reply = ap (option_map (λ (r : Record). r.entry.reply)) x.at in
@@ -165,7 +165,7 @@ entered-reply past legal q m h = let x = admitted-sent past q m h in
 untaken : (past : Past) (q m : ℕ) → is_in (present past q) m ≡ true → is_in (taken past) m ≡ false
 untaken past q m h = not-true _ (is_in-filter (λ k. not (is_in (taken past) k)) (admitted past q) m h).1
 
--- a message that is present is going, also behind the latest entry
+-- a message that is present has not ended, even after the latest entry
 pub present-going : (past : Past) → Legal past → (q m : ℕ) → is_in (present past q) m ≡ true → is_in (ended past) m ≡ false
 present-going past legal q m h =
     let inside = present-admitted past q m h in
@@ -177,7 +177,7 @@ present-going past legal q m h =
     or-false false b e = refl
     or-false true b e = absurd (let bad : true ≡ false = e in cc)
 
--- a message in a queue that exists is needed: the best one, which a receive gives
+-- a message in a queue that exists is needed: the best one, which a receive returns
 pub present-needed : (past : Past) → Legal past → (q m : ℕ) → is_in (alive past) q ≡ true → is_in (present past q) m ≡ true → IsNeeded past m
 present-needed past legal q m exists h =
     let inside = present-admitted past q m h in
@@ -254,14 +254,14 @@ handed-needed past legal p b w answers at =
     by (j, inr (inl e)) = let x = answered-named past p b answers in closed past legal j b x.w p e x.named x.opened
     by (j, inr (inr e)) = let bad : Some Waits ≡ Some (Handed w) = sym (ended-blocked past legal j b (withdrawn-has past j b e)) ∙ at in cc
 
--- a receive leaves the queues that exist
+-- the queues that exist do not change in a receive
 got-alive : (past : Past) (r : Record) (m : ℕ) (a n : Option ℕ) → r.entry.reply ≡ Got m a n → alive (r ∷ past) ≡ alive past
 got-alive past r m a n is = alive-same_queues past r (rw is refl) (rw is (no-unlink r.entry.call)) (λ e. rw is refl)
   where
     no-unlink : (call : Call) → unlinks call (Got m a n) ≡ false
     no-unlink call = refl
 
--- what the latest entry gave can still be asked for
+-- the message of the latest entry may still be read
 pub given-needed : (past : Past) (r : Record) → Legal (r ∷ past) → (m : ℕ) (a n : Option ℕ) → r.entry.reply ≡ Got m a n → IsNeeded (r ∷ past) m
 given-needed past r legal m a n is =
     let says : Says past r.entry.process r.entry.call (Got m a n) = rw is at (legal_says past r legal.1) in

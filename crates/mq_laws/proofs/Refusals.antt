@@ -1,4 +1,4 @@
--- A refused entry changes nothing.
+-- An entry with an error changes nothing.
 use Rattle.std.proofs.Common.{◌≡◌, ℕ, ◌==◌, Bool, true, false, List, [], ◌∷◌, length, Option, Some, None, is_none, refl, sym, ◌∙◌, ap, subst, arith, append-nil, eq-eqb}
 use Rattle.std.specs.Prelude.{IsTrue, pos, int_le, drop}
 use Rattle.std.specs.List.{find, list_all}
@@ -24,11 +24,11 @@ use Rattle.mq_model.specs.declared.entries.Reply.{Reply}
 use Rattle.mq_model.specs.declared.entries.Reply.TheVariants.{Refused}
 use Rattle.mq_model.specs.declared.faults.Fault.{Fault}
 
--- the record of a refused call
+-- the record of a call that failed
 abbrev refused : ℕ → Call → Fault → List ℕ → Record
 refused p call f payload = record { entry = record { process = p; call = call; reply = Refused f }; payload = payload }
 
--- a call that is refused is no collect and no withdrawal, so its process had no open wait
+-- a call that fails is neither a collect nor a withdrawal, so its process had no open wait
 idle : (past : Past) (p : ℕ) (call : Call) (f : Fault) (payload : List ℕ) → IsTrue (may_call past p call) → Refused f ≡ reply_to past p call payload → is_none (open_wait past p) ≡ true
 idle past p (MqOpen flags attr) f payload turn e = grind arith
 idle past p (MqClose d) f payload turn e = grind arith
@@ -59,7 +59,7 @@ find-same s t (x ∷ xs) same =
     let rest : find s xs ≡ find t xs = find-same s t xs (λ y h. same y (split (x == y) (λ e. rw e refl) (λ n. rw (n, h) refl))) in
     rw (here, rest) refl
 
--- the order of messages that are present stays
+-- the order of the messages that are present does not change
 order-same : (past : Past) (r : Record) (q m n : ℕ) → is_in (present past q) m ≡ true → is_in (present past q) n ≡ true → goes_first (r ∷ past) m n ≡ goes_first past m n
 order-same past r q m n hm hn =
     let em : priority (r ∷ past) m ≡ priority past m = priority-older past r m (present-below past q m hm) in
@@ -71,17 +71,17 @@ best-same past r q same =
     ap (λ xs. find (λ m. list_all (goes_first (r ∷ past) m) xs) xs) same
     ∙ find-same _ _ (present past q) (λ m hm. all-same _ _ (present past q) (λ n hn. order-same past r q m n hm hn))
 
--- no reply names a wait where it is a refusal
+-- a reply that is an error names no wait
 names-none : (f : Fault) (o : Option ℕ) → names_wait (Refused f) o ≡ false
 names-none f None = refl
 names-none f (Some w) = refl
 
--- a refusal ends no registration
+-- an error ends no registration
 registered-kept : (on : Bool) (here p : ℕ) (call : Call) (f : Fault) (before : Option Registration) → registration_after on here (record { process = p; call = call; reply = Refused f }) before ≡ before
 registered-kept on here p call f None = refl
 registered-kept on here p call f (Some n) = refl
 
--- a refused record of a process without an open wait
+-- a record with an error, of a process without an open wait
 unchanged : (past : Past) (p : ℕ) (call : Call) (f : Fault) (payload : List ℕ) → open_wait past p ≡ None → IsUnchanged past (refused p call f payload ∷ past)
 unchanged past p call f payload idle = record {
   names = bound_queue-same past r keeps;

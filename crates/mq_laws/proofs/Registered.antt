@@ -1,4 +1,4 @@
--- The registration that the definition gives is the latest one that stands.
+-- The registration that the definition gives is the latest one that was made and not ended.
 use Rattle.std.proofs.Common.{◌≡◌, ℕ, ◌<◌, ◌==◌, Bool, true, false, ◌&&◌, ◌||◌, List, [], ◌∷◌, length, Option, Some, None, refl, sym, ◌∙◌, ap, subst, arith, eqb-true, eq-eqb, inl, inr}
 use Rattle.std.specs.Option.{option_map}
 use Rattle.std.proofs.lemmas.Bool.{and_parts, eqb-false, false_from_ne_true}
@@ -58,7 +58,7 @@ close-is NextNotice d e = absurd (let bad : false ≡ true = e in cc)
 close-is Collect d e = absurd (let bad : false ≡ true = e in cc)
 close-is (Withdraw now) d e = absurd (let bad : false ≡ true = e in cc)
 
--- a test that only a call that was done can pass
+-- a test that only a successful call can pass
 abbrev only_done : (Call → Bool) → Call → Reply → Bool
 only_done t call Done = t call
 only_done t call _ = false
@@ -192,7 +192,7 @@ first-here past r = first-older past r (length past) (omega arith) ∙ first-all
 at-here : (past : Past) (r : Record) (k : ℕ) → k ≡ length past → record_at (r ∷ past) k ≡ Some r
 at-here past r k e = rw (e, eq-eqb (length past) (length past) refl) refl
 
--- what stood stands where the newest record does not end it
+-- a registration that existed still exists unless the newest record ends it
 stands-older : (past : Past) (r : Record) (q : ℕ) (n : Registration) → (IsEndedBy past q n r → ⊥) → Stands past q n → Stands (r ∷ past) q n
 stands-older past r q n not x =
     let lt = record_at-below past n.place x.r x.at in
@@ -217,7 +217,8 @@ stands-older past r q n not x =
         let below = record_at-below past j s old in
         x.left j s later old (subst (λ b. IsEndedBy b q n s) (first-older past r j (omega (arith, below))) ended))
 
--- what stands and was made before the newest record stood before it, and that record does not end it
+-- a registration that exists and was made before the newest record existed before it, and that
+-- record does not end it
 stood : (past : Past) (r : Record) (q : ℕ) (n : Registration) → n.place < length past → Stands (r ∷ past) q n → Stands past q n
 stood past r q n lt x = record {
   r = x.r;
@@ -259,7 +260,7 @@ registered-stands (r ∷ past) q n e = by (only_if (is_on past r.entry q) (regis
           left = λ j s later at ended. let below = record_at-below (r ∷ past) j s at in let place = made.place in absurd (omega (arith, later, below, place));
         }
 
--- a registration is made only where none stands
+-- a registration is made only if there is none
 busy : (past : Past) (p d v q : ℕ) (n : Registration) (payload : List ℕ) → registered past q ≡ Some n → called_queue past p (MqNotify d (Some v)) ≡ Some q → Done ≡ reply_to past p (MqNotify d (Some v)) payload → ⊥
 busy past p d v q n payload stands on is = by (held past p d) refl on is
   where

@@ -1,4 +1,4 @@
--- Messages of one queue and one priority leave it in the order of their sends.
+-- Messages of one queue and one priority leave it in the order in which they were sent.
 use Rattle.std.proofs.Common.{◌≡◌, ◌≢◌, ℕ, ◌<◌, ◌≤◌, ◌==◌, Bool, true, false, ◌&&◌, ◌||◌, not, List, [], ◌∷◌, length, min, Option, Some, None, refl, sym, ◌∙◌, ap, subst, arith, eqb-true, eq-eqb, ne_eqb, ◌⊎◌, inl, inr}
 use Rattle.std.specs.Prelude.{ℤ, int_le, pos, negsuc, nat_lt, nat_le}
 use Rattle.std.specs.List.{list_all}
@@ -57,7 +57,7 @@ least-le (x ∷ xs) m k e h = by (λ j f g. least-le xs j k f g) (least xs) refl
         (λ t. let at : x ≡ k = eqb-true _ _ t in omega (arith, at, same))
         (λ n. let there : is_in xs k ≡ true = rw n at h in let le = rest j f there in omega (arith, le, same))
 
--- where a send is queued its queue has room, and where one is handed over a receive waits
+-- when a send is queued its queue has room, and when one is handed over a receive waits
 queued-room : (past : Past) (p q : ℕ) (call : Call) (n : Option ℕ) → Says past p call (Queued n) → is_on past (record { process = p; call = call; reply = Queued n }) q ≡ true → is_full past q ≡ false
 queued-room past p q (MqSend d prio len) n says on = let same : says.0.queue ≡ q = called-on past p d q says.0 says.1 on in rw same at says.3.1
 queued-room past p q (MqTimedSend d prio len until now) n says on = let same : says.0.queue ≡ q = called-on past p d q says.0 says.1 on in rw same at says.3.1
@@ -92,7 +92,7 @@ not-zero : (a : ℤ) → int_le (pos 1) a ≡ true → int_le a (pos 0) ≡ true
 not-zero (pos k) h g = let low : 1 ≤ k = grind (arith, nat_tests) in let high : k ≤ 0 = grind (arith, nat_tests) in omega (arith, low, high)
 not-zero (negsuc k) h g = let bad : false ≡ true = h in cc
 
--- where a receive waits no send waits
+-- when a receive waits no send waits
 pub not-both : (past : Past) → Legal past → (q v w : ℕ) → is_in (waiting_receives past q) v ≡ true → is_in (waiting_sends past q) w ≡ true → ⊥
 not-both past legal q v w h g =
     let empty = waiting-empty past legal q v h in
@@ -103,7 +103,7 @@ not-both past legal q v w h g =
 accepted-below : (past : Past) (q n : ℕ) → is_accepted past q n ≡ true → n < length past
 accepted-below past q n h = let x = accepted-sent past q n h in record_at-below past n x.r x.at
 
--- what waits after a send that blocked
+-- the sends that wait after a call that waits
 waits-more : (past : Past) (p : ℕ) (call : Call) (payload : List ℕ) (q w : ℕ) → is_in (waiting_sends (rec p call Waits payload ∷ past) q) w ≡ true → (length past ≡ w) ⊎ (is_in (waiting_sends past q) w ≡ true)
 waits-more past p call payload q w h =
     let parts = is_in-filter (λ v. not (is_in (ended_sends past) v)) (blocked_sends (rec p call Waits payload ∷ past) q) w h in
@@ -177,7 +177,7 @@ pub accepted-older : (past : Past) → Legal past → (q n w : ℕ) → is_accep
 accepted-older [] legal q n w h g = absurd (cc)
 accepted-older (r ∷ past) legal q n w h g = older-next past legal.0 r.entry.process r.entry.call r.entry.reply r.payload q (legal_says past r legal.1) (λ x y a b. accepted-older past legal.0 q x y a b) n w h g
 
--- a blocked send that was admitted entered its queue
+-- a waiting send that was admitted entered its queue
 admits-queues : (call : Call) (reply : Reply) (k : ℕ) → admits reply ≡ Some k → (queues call reply ≡ false) × (blocks_send call reply ≡ false)
 admits-queues call (Got m a n) k e = (refl, refl)
 admits-queues call (Opened d created) k e = absurd (cc)
@@ -210,7 +210,7 @@ admitted-enters (r ∷ past) legal q m k h e = has-cases admits past r k m e
 abbrev IsKept : Past → ℕ → Type 0
 IsKept past m = (k : ℕ) → Has withdrawn_wait past k m → ⊥
 
--- what became of a send to queue q after which a later one was accepted
+-- the message at place m was admitted to queue q, or taken
 abbrev Entered : Past → ℕ → ℕ → Type 0
 Entered past q m = (is_in (admitted past q) m ≡ true) ⊎ (is_in (taken past) m ≡ true)
 
@@ -250,7 +250,7 @@ not-first past m n lt same e = later (priority past m) (priority past n) lt same
     later : (a b : ℕ) → m < n → a ≡ b → (nat_lt a b || (b == a && nat_le n m)) ≡ true → ⊥
     later a b lt same e = grind (arith, nat_tests)
 
--- what was taken, an entry took
+-- a message that was taken was taken by an entry
 pub taken-at : (past : Past) (m : ℕ) → is_in (taken past) m ≡ true → (j : ℕ) × (j < length past) × IsTakenAt past m j
 taken-at [] m h = absurd (cc)
 taken-at (r ∷ past) m h = by (λ old. taken-at past m old) (taken_by (length past) r.entry.reply) refl h
@@ -281,7 +281,7 @@ sent-back past k q m x lt le = record {
 or-left : (b : Bool) → (true || b) ≡ true
 or-left b = refl
 
--- before a message is taken, an earlier one of its queue and priority was taken
+-- before a message is taken, each earlier one of its queue and priority was taken
 taken-first : (past : Past) → Legal past → (r : Record) → IsLegalNext past r → (q m n : ℕ) → IsSentTo past q m → IsKept past m → m < n → (n < length past → priority past m ≡ priority past n) →
     (message_given r.entry.reply ≡ Some n) × (is_accepted past q n ≡ true) ⊎ (length past ≡ n) × ((v : ℕ) × (is_in (waiting_receives past q) v ≡ true)) → is_in (taken past) m ≡ true
 taken-first past legal r next q m n sent kept lt prio (inl x) =
@@ -312,7 +312,7 @@ taken-first past legal r next q m n sent kept lt prio (inr x) =
         let empty = waiting-empty past legal q x.1.0 x.1.1 in
         let bad : false ≡ true = ap (λ xs. is_in xs m) (sym empty) ∙ there in absurd (cc))
 
--- the reply that takes a message: a receive's, or that of its own send
+-- the reply that takes a message: that of a receive, or that of the send itself
 taken-by-reply : (k m : ℕ) (reply : Reply) → taken_by k reply ≡ Some m → (message_given reply ≡ Some m) ⊎ ((k ≡ m) × ((w : ℕ) × (reply ≡ Handed w)))
 taken-by-reply k m (Got j a n) e = inl e
 taken-by-reply k m (Handed w) e = let same : k ≡ m = cc in inr (same, (w, refl))

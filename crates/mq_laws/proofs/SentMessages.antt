@@ -21,7 +21,7 @@ is_sent (Handed w) = true
 is_sent Waits = true
 is_sent _ = false
 
--- a send to queue q that was not refused stands at place m
+-- the entry at place m is a send to queue q that did not fail
 pub record IsSentTo (past : Past) (q m : ℕ) : Type 0 where
   pub r : Record
   pub at : record_at past m ≡ Some r
@@ -49,7 +49,7 @@ sent-newest past r q on send reply = record {
   reply = reply;
 }
 
--- the replies by which a send's message enters, is handed over or waits
+-- the replies by which the message of a send enters, is handed over or waits
 queues-sent : (call : Call) (reply : Reply) → queues call reply ≡ true → (is_send call ≡ true) × (is_sent reply ≡ true)
 queues-sent call (Queued n) e = (e, refl)
 queues-sent call (Opened d created) e = absurd (let bad : false ≡ true = e in cc)
@@ -145,7 +145,7 @@ handed-taken (r ∷ past) q m h = split (hands_over r.entry.call r.entry.reply &
     (λ n. with-more (taken_by (length past) r.entry.reply) (taken past) m (handed-taken past q m (rw n at new))))
     (λ f. with-more (taken_by (length past) r.entry.reply) (taken past) m (handed-taken past q m (rw f at h)))
 
--- what became of a send that was not refused
+-- the cases of a send that did not fail
 pub record SentStatus (past : Past) (q m : ℕ) (reply : Reply) : Type 0 where
   pub queued : (n : Option ℕ) → reply ≡ Queued n → is_in (admitted past q) m ≡ true
   pub handed : (w : ℕ) → reply ≡ Handed w → is_in (taken past) m ≡ true

@@ -1,4 +1,4 @@
--- Where a send waits, its queue is full.
+-- When a send waits, its queue is full.
 use Rattle.std.proofs.Common.{◌≡◌, ℕ, suc, ◌<◌, ◌==◌, Bool, true, false, ◌&&◌, not, List, [], ◌∷◌, length, Option, Some, None, refl, sym, ◌∙◌, ap, subst, arith, eqb-true, eq-eqb, ne_eqb}
 use Rattle.std.specs.Prelude.{ℤ, int_le, pos, negsuc}
 use Rattle.std.specs.List.{filter}
@@ -78,7 +78,7 @@ admitted-distinct (r ∷ past) legal q = distinct-with (entered past r.entry q) 
 pub present-distinct : (past : Past) → Legal past → (q : ℕ) → is_distinct (present past q) ≡ true
 present-distinct past legal q = distinct-filter (λ m. not (is_in (taken past) m)) (admitted past q) (admitted-distinct past legal q)
 
--- one place of distinct ones fewer
+-- distinct places without one of them are one fewer
 pub length-without : (m : ℕ) (xs : List ℕ) → is_distinct xs ≡ true → is_in xs m ≡ true → suc (length (without m xs)) ≡ length xs
 length-without m [] d h = absurd (cc)
 length-without m (x ∷ xs) d h =
@@ -98,7 +98,7 @@ FullWhereWaiting past q = (w : ℕ) → is_in (waiting_sends past q) w ≡ true 
 none-waits : (past : Past) (q : ℕ) → FullWhereWaiting past q → is_full past q ≡ false → (w : ℕ) → is_in (waiting_sends past q) w ≡ true → ⊥
 none-waits past q full room w h = clash (is_full past q) (full w h) room
 
--- a waiting send stands in a queue that was created
+-- the queue of a waiting send was created
 pub waiting-created : (past : Past) → Legal past → (q w : ℕ) → is_in (waiting_sends past q) w ≡ true → is_in (created past) q ≡ true
 waiting-created past legal q w h =
     let blocked = (is_in-filter (λ w. not (is_in (ended_sends past) w)) (blocked_sends past q) w h).0 in
@@ -107,7 +107,7 @@ waiting-created past legal q w h =
 same-full : (past : Past) (r : Record) (q : ℕ) → q < length past → length (present (r ∷ past) q) ≡ length (present past q) → is_full past q ≡ true → is_full (r ∷ past) q ≡ true
 same-full past r q lt same full = rw (attributes-older past r q lt, same) full
 
--- a record after which the same sends wait and as many messages are present
+-- a record after which the same sends wait and equally many messages are present
 full-same : (past : Past) → Legal past → (r : Record) (q : ℕ) → FullWhereWaiting past q → waiting_sends (r ∷ past) q ≡ waiting_sends past q → length (present (r ∷ past) q) ≡ length (present past q) → FullWhereWaiting (r ∷ past) q
 full-same past legal r q before waits same w h =
     let old : is_in (waiting_sends past q) w ≡ true = rw waits at h in
@@ -228,7 +228,7 @@ full-next past legal p call (Notice v) payload q says before = full-same past le
 full-next past legal p call Done payload q says before = full-same past legal (rec p call Done payload) q before refl refl
 full-next past legal p call (Refused f) payload q says before = full-same past legal (rec p call (Refused f) payload) q before refl refl
 
--- where a send waits, the queue is full
+-- when a send waits, the queue is full
 pub waiting-full : (past : Past) → Legal past → (q w : ℕ) → is_in (waiting_sends past q) w ≡ true → is_full past q ≡ true
 waiting-full [] legal q w h = absurd (cc)
 waiting-full (r ∷ past) legal q w h = full-next past legal.0 r.entry.process r.entry.call r.entry.reply r.payload q (legal_says past r legal.1) (λ v e. waiting-full past legal.0 q v e) w h
@@ -237,7 +237,7 @@ both-ways : (a : ℤ) (n : ℕ) → int_le (pos n) a ≡ true → int_le a (pos 
 both-ways (pos k) n h g = let same : n ≡ k = grind (arith, nat_tests) in ap pos same
 both-ways (negsuc k) n h g = absurd (let bad : false ≡ true = h in cc)
 
--- where a send waits, the queue holds as many messages as it may
+-- when a send waits, the queue holds mq_maxmsg messages
 pub waits-for-cause : (past : Past) → Legal past → WaitsForCause past
 waits-for-cause past legal = record {
   receives = λ q w h. waiting-empty past legal q w h;

@@ -1,4 +1,4 @@
--- Where a receive waits, nothing is in the queue.
+-- When a receive waits, its queue is empty.
 use Rattle.std.proofs.Common.{◌≡◌, ℕ, ◌==◌, true, false, ◌&&◌, ◌||◌, not, List, [], ◌∷◌, length, Option, Some, None, refl, sym, ◌∙◌, ap, subst, min, arith, eq-eqb, eqb-true, ne_eqb}
 use Rattle.std.specs.List.{filter}
 use Rattle.std.specs.Option.{option_map}
@@ -41,7 +41,7 @@ same_queue : (o : Option ℕ) (q k : ℕ) → is_place q o ≡ true → is_place
 same_queue None q k h g = absurd (cc)
 same_queue (Some j) q k h g = let a : j ≡ q = eqb-true _ _ h in let b : j ≡ k = eqb-true _ _ g in cc
 
--- a blocked send is to one queue
+-- a waiting send is to one queue
 blocked-one_queue : (past : Past) (q k w : ℕ) → is_in (blocked_sends past q) w ≡ true → is_in (blocked_sends past k) w ≡ true → q ≡ k
 blocked-one_queue [] q k w h g = absurd (cc)
 blocked-one_queue (r ∷ past) q k w h g =
@@ -66,7 +66,7 @@ blocked-one_queue (r ∷ past) q k w h g =
 abbrev rec : ℕ → Call → Reply → List ℕ → Record
 rec p call reply payload = record { entry = record { process = p; call = call; reply = reply }; payload = payload }
 
--- where a receive waits on queue q, the queue is empty
+-- when a receive waits on queue q, the queue is empty
 abbrev IsEmptyWhereWaiting : Past → ℕ → ℕ → Type 0
 IsEmptyWhereWaiting past q w = is_in (waiting_receives past q) w ≡ true → present past q ≡ []
 

@@ -1,4 +1,5 @@
--- A worked journal with deadlines, latest first: it is legal, by computation. Beside it stand withdrawals that are not.
+-- A worked journal with deadlines, latest entry first: it is legal, by computation. Withdrawals
+-- that are not legal follow.
 use Rattle.std.proofs.Common.{ℕ, [], ◌∷◌, refl, true, false, Some, None}
 use Rattle.std.specs.Prelude.{pos, negsuc, codes}
 use Rattle.mq_model.specs.Record.{Past}
@@ -11,11 +12,11 @@ use Rattle.mq_model.specs.declared.entries.Call.TheVariants.{MqSend, MqReceive, 
 use Rattle.mq_model.specs.declared.entries.Reply.TheVariants.{Opened, Queued, Handed, Waits, Got, Collected, Attrs, Refused, Withdrawn}
 use Rattle.mq_laws.proofs.WorkedJournals.{made, opening, opening_with}
 
--- a moment of whole seconds
+-- a time of whole seconds
 abbrev second : ℕ → Deadline
 second n = record { sec = pos n; nsec = pos 0 }
 
--- a send waits until its deadline: two processes, one message at most, which is there
+-- a send waits until its deadline: two processes, and the queue is full with one message
 abbrev send_waits : Past
 send_waits =
     made 2 (MqTimedSend 0 7 1 (second 10) (second 9)) Waits (codes "b") ∷
@@ -26,7 +27,7 @@ send_waits =
     made 1 (opening_with Both true false false (pos 1) (pos 8)) (Opened 0 true) (codes "/q") ∷
     []
 
--- a withdrawn send is accepted no more, and an answered wait is collected
+-- a withdrawn send is never accepted, and an answered wait is collected
 abbrev deadlines_pass : Past
 deadlines_pass =
     made 1 Collect (Collected 10) [] ∷
@@ -82,7 +83,7 @@ pub early_withdrawal-refused : IsLegalNext send_waits (made 2 (Withdraw (second 
 unfolding descriptor_numbers
 early_withdrawal-refused h = let wrong = h.turn in cc
 
--- a withdrawal where nothing waits
+-- a withdrawal by a process that does not wait
 pub idle_withdrawal-refused : IsLegalNext send_waits (made 1 (Withdraw (second 10)) (Withdrawn 5) []) → ⊥
 unfolding descriptor_numbers
 idle_withdrawal-refused h = let wrong = h.turn in cc

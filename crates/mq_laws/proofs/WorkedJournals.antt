@@ -1,4 +1,4 @@
--- Worked journals, latest first: each is legal, by computation.
+-- Worked journals, latest entry first: each is legal, by computation.
 use Rattle.std.proofs.Common.{ℕ, ℤ, List, [], ◌∷◌, refl, Bool, true, false, Some, None}
 use Rattle.std.specs.Prelude.{pos, negsuc, codes, replicate}
 use Rattle.mq_model.specs.Record.{Record, Past}
@@ -28,7 +28,7 @@ opening_with access create excl nonblock maxmsg msgsize = MqOpen (record { acces
 abbrev pub status : Bool → ℕ → ℕ → ℕ → Status
 status nonblock maxmsg msgsize curmsgs = record { nonblock = nonblock; maxmsg = pos maxmsg; msgsize = pos msgsize; curmsgs = pos curmsgs }
 
--- two messages of one priority leave in sending order
+-- two messages of one priority leave in the order in which they were sent
 abbrev two_of_one_priority : Past
 two_of_one_priority =
     made 1 (MqReceive 0 16) (Got 2 None None) [] ∷
@@ -57,7 +57,7 @@ two_of_one_priority-legal = (
   record { process = refl; turn = refl; payload = refl; reply = refl },
 )
 
--- the highest priority leaves first; 32,768 is no priority
+-- the highest priority leaves first; 32,768 is not a priority
 abbrev highest_priority_first : Past
 highest_priority_first =
     made 1 (MqReceive 0 16) (Got 3 None None) [] ∷
@@ -98,7 +98,7 @@ highest_priority_first-legal = (
   record { process = refl; turn = refl; payload = refl; reply = refl },
 )
 
--- messages of 0 to msgsize bytes; a buffer below msgsize is refused
+-- messages of 0 to msgsize bytes; a receive with a shorter buffer fails
 abbrev message_sizes : Past
 message_sizes =
     made 1 (MqReceive 0 3) (Got 2 None None) [] ∷
@@ -139,7 +139,8 @@ message_sizes-legal = (
   record { process = refl; turn = refl; payload = refl; reply = refl },
 )
 
--- a nonblocking descriptor is refused where it would wait; setattr gives the attributes from before
+-- with a nonblocking descriptor a call fails when it would wait; setattr returns the attributes
+-- from before
 abbrev nonblocking : Past
 nonblocking =
     made 1 (MqClose 0) Done [] ∷
@@ -225,7 +226,7 @@ access_modes-legal = (
   record { process = refl; turn = refl; payload = refl; reply = refl },
 )
 
--- an unlinked queue lives on while it is held, beside a new one of its name
+-- an unlinked queue exists while it is held, beside a new one of the same name
 abbrev unlinked_queue : Past
 unlinked_queue =
     made 1 (MqGetattr 1) (Attrs (status false 2 8 1)) [] ∷
@@ -274,7 +275,7 @@ unlinked_queue-legal = (
   record { process = refl; turn = refl; payload = refl; reply = refl },
 )
 
--- attributes are checked only where a queue is really created
+-- attributes are checked only if a queue is created
 abbrev attributes_given : Past
 attributes_given =
     made 1 (MqGetattr 3) (Attrs (status false 4096 65536 0)) [] ∷
@@ -335,7 +336,7 @@ attributes_given-legal = (
   record { process = refl; turn = refl; payload = refl; reply = refl },
 )
 
--- a queue lives on without descriptors until its unlink
+-- a queue without descriptors exists until its unlink
 abbrev queue_outlives_descriptors : Past
 queue_outlives_descriptors =
     made 1 (opening Both false false false) (Refused NoEntry) (codes "/q") ∷
@@ -388,7 +389,7 @@ queue_outlives_descriptors-legal = (
   record { process = refl; turn = refl; payload = refl; reply = refl },
 )
 
--- who may register and remove, and what a close ends
+-- which process may register and remove, and what a close ends
 abbrev registrations : Past
 registrations =
     made 2 NextNotice (Notice (Some 3)) [] ∷
@@ -469,7 +470,7 @@ registrations-legal = (
   record { process = refl; turn = refl; payload = refl; reply = refl },
 )
 
--- a closed descriptor sends nothing
+-- no send works with a closed descriptor
 abbrev closed_descriptor : Past
 closed_descriptor =
     made 1 (MqSend 0 0 1) (Refused BadDescriptor) [] ∷
@@ -502,7 +503,8 @@ closed_descriptor-legal = (
   record { process = refl; turn = refl; payload = refl; reply = refl },
 )
 
--- an arrival at a queue that is not empty leaves the registration, and two notices come oldest first
+-- a message that arrives at a queue that is not empty leaves the registration, and two notices come
+-- oldest first
 abbrev pending_notices : Past
 pending_notices =
     made 1 NextNotice (Notice None) [] ∷
@@ -567,7 +569,8 @@ pending_notices-legal = (
   record { process = refl; turn = refl; payload = refl; reply = refl },
 )
 
--- a removal on one queue leaves a registration on another, and works through any descriptor of its queue
+-- a removal on one queue leaves a registration on another, and works through any descriptor for its
+-- queue
 abbrev removal_of_one_queue : Past
 removal_of_one_queue =
     made 1 (MqNotify 0 None) (Refused Invalid) [] ∷

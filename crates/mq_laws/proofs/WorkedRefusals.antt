@@ -1,4 +1,4 @@
--- Worked refusals: each record may not stand after these, by computation.
+-- Worked counterexamples: none of these records may follow these journals, by computation.
 use Rattle.std.proofs.Common.{[], ◌∷◌, true, false, Some, None}
 use Rattle.std.specs.Prelude.{pos, codes, replicate}
 use Rattle.mq_model.specs.Record.{Past}
@@ -10,7 +10,7 @@ use Rattle.mq_model.specs.declared.entries.Call.TheVariants.{MqClose, MqUnlink, 
 use Rattle.mq_model.specs.declared.entries.Reply.TheVariants.{Opened, Queued, Handed, Waits, Got, Collected, Done, Refused}
 use Rattle.mq_laws.proofs.WorkedJournals.{made, opening, opening_with}
 
--- the younger of two messages of one priority
+-- the later of two messages of one priority
 abbrev exchanged_receives : Past
 exchanged_receives =
     made 1 (MqSend 0 1 1) (Queued None) (codes "b") ∷
@@ -22,7 +22,7 @@ pub exchanged_receives-refused : IsLegalNext exchanged_receives (made 1 (MqRecei
 unfolding descriptor_numbers
 exchanged_receives-refused h = let wrong = h.reply in cc
 
--- processes count from 1
+-- the first process is 1
 abbrev no_process_0 : Past
 no_process_0 =
     []
@@ -40,7 +40,7 @@ pub malformed_name-refused : IsLegalNext malformed_name (made 1 (opening_with Bo
 unfolding descriptor_numbers
 malformed_name-refused h = let wrong = h.payload in cc
 
--- want of memory has no entry
+-- NoMemory has no entry
 abbrev want_of_memory : Past
 want_of_memory =
     made 1 (opening_with Both true false false (pos 2) (pos 8)) (Opened 0 true) (codes "/q") ∷
@@ -50,7 +50,7 @@ pub want_of_memory-refused : IsLegalNext want_of_memory (made 1 (MqSend 0 1 1) (
 unfolding descriptor_numbers
 want_of_memory-refused h = let wrong = h.reply in cc
 
--- nor has a full journal
+-- JournalFull has no entry
 pub full_journal-refused : IsLegalNext want_of_memory (made 1 (MqSend 0 1 1) (Refused JournalFull) []) → ⊥
 unfolding descriptor_numbers
 full_journal-refused h = let wrong = h.reply in cc
@@ -98,7 +98,7 @@ pub collect_of_another-refused : IsLegalNext collect_of_another (made 1 Collect 
 unfolding descriptor_numbers
 collect_of_another-refused h = let wrong = h.reply in cc
 
--- a process with an open wait only collects
+-- a process with an open wait can only collect
 abbrev send_while_waiting : Past
 send_while_waiting =
     made 1 (MqReceive 0 8) Waits [] ∷
@@ -130,7 +130,7 @@ pub name_too_long-refused : IsLegalNext name_too_long (made 1 (opening Both true
 unfolding descriptor_numbers
 name_too_long-refused h = let wrong = h.payload in cc
 
--- processes count to 32
+-- the last process is 32
 abbrev process_33 : Past
 process_33 =
     []
@@ -148,7 +148,7 @@ pub highest_number-refused : IsLegalNext highest_number (made 1 (opening Both tr
 unfolding descriptor_numbers
 highest_number-refused h = let wrong = h.reply in cc
 
--- a send finds the receive that waits
+-- a send is handed to the receive that waits
 abbrev queued_past_receive : Past
 queued_past_receive =
     made 1 (MqReceive 0 8) Waits [] ∷
@@ -160,7 +160,7 @@ pub queued_past_receive-refused : IsLegalNext queued_past_receive (made 2 (MqSen
 unfolding descriptor_numbers
 queued_past_receive-refused h = let wrong = h.reply in cc
 
--- an arrival at a queue that is not empty notifies nobody
+-- a message that arrives at a queue that is not empty notifies no process
 abbrev notified_while_occupied : Past
 notified_while_occupied =
     made 1 (MqNotify 0 (Some 5)) Done [] ∷

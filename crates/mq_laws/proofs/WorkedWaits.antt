@@ -1,4 +1,4 @@
--- Worked journals with calls that wait, latest first: each is legal, by computation.
+-- Worked journals with calls that wait, latest entry first: each is legal, by computation.
 use Rattle.std.proofs.Common.{[], ◌∷◌, refl, true, false, Some, None}
 use Rattle.std.specs.Prelude.{pos, codes}
 use Rattle.mq_model.specs.Record.{Past}
@@ -9,7 +9,7 @@ use Rattle.mq_model.specs.declared.entries.Call.TheVariants.{MqSend, MqReceive, 
 use Rattle.mq_model.specs.declared.entries.Reply.TheVariants.{Opened, Queued, Handed, Waits, Got, Collected, Notice, Done}
 use Rattle.mq_laws.proofs.WorkedJournals.{made, opening, opening_with}
 
--- the receive that has waited longest is served first, and no notification is sent
+-- the receive that has waited longest is served first, and no process is notified
 abbrev oldest_receive_first : Past
 oldest_receive_first =
     made 3 NextNotice (Notice None) [] ∷
@@ -74,7 +74,7 @@ oldest_receive_first-legal = (
   record { process = refl; turn = refl; payload = refl; reply = refl },
 )
 
--- a waiting message that enters an emptied queue notifies
+-- a waiting message that enters an emptied queue gives a notice
 abbrev admission_notifies : Past
 admission_notifies =
     made 1 (MqReceive 0 8) (Got 4 None None) [] ∷
@@ -184,7 +184,7 @@ oldest_send_first-legal = (
   record { process = refl; turn = refl; payload = refl; reply = refl },
 )
 
--- a blocked receive and a blocked send, each with its collect
+-- a receive that waits and a send that waits, each with its collect
 abbrev blocked_calls : Past
 blocked_calls =
     made 2 Collect (Collected 7) [] ∷

@@ -96,7 +96,7 @@ noted-fewer brought given owners here e q moves queues p = grind (arith, lines-r
 abbrev KeepsRoom : List QueueShown → List InboxShown → List InboxShown → ℕ → Bool → Type 0
 KeepsRoom queues inboxes after q notified = (p : ℕ) → room_in inboxes p ≤ room_in after p + notices_brought (registration_in queues q) notified p
 
--- after an entry that notifies nobody, and makes no registration of process p
+-- after an entry that notifies no process, and makes no registration of process p
 quiet-room : (here : ℕ) (e : Entry) (queues : List QueueShown) (inboxes after : List InboxShown) (q : ℕ) → HasNoticeRoom queues inboxes → KeepsRoom queues inboxes after q false → (p : ℕ) → MakesNone here e p →
     registrations_in (map (reregistered q here e) queues) p ≤ room_in after p
 quiet-room here e queues inboxes after q has kept p none = grind (arith, map-fewer)

@@ -127,7 +127,7 @@ pub sent_to-below : (past : Past) → Legal past → (m q : ℕ) → sent_to pas
 sent_to-below [] legal m q e = absurd (cc)
 sent_to-below (r ∷ past) legal m q e = let here = called-alive past legal.0 r.entry.process r.entry.call q in grind (arith, split, alive-below past q, sent_to-below past legal.0 m q)
 
--- nothing is present in a queue that is not there yet, and nobody is registered on it
+-- a queue that was not created yet has no message and no registration
 present-later : (past : Past) → Legal past → (q : ℕ) → length past ≤ q → present past q ≡ []
 present-later past legal q le = nil-of (present past q) (λ m h. grind (arith, sent_to-below past legal m q, admitted-to past q m (present-admitted past q m h)))
 

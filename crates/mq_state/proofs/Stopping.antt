@@ -1,4 +1,4 @@
--- When nobody can make a call.
+-- When no process can make a call.
 use Rattle.std.proofs.Common.{◌≡◌, ℕ, true, false, List, [], Option, arith}
 use Rattle.std.proofs.lemmas.Bool.Decides.{nat_tests}
 use Rattle.mq_model.specs.Record.{Past}

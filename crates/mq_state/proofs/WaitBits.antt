@@ -25,7 +25,7 @@ bits-same q (x ∷ xs) (y ∷ ys) long same = rw (same 0, bits-same q xs ys (ome
 bits-same q [] [] long same = refl
 bits-same q xs ys long same = absurd (omega arith)
 
--- nobody waits
+-- no process waits
 pub bits-none : (q : ℕ) (owners : List Owner) → ((p : ℕ) → waits_on q (wait_in owners p) ≡ false) → wait_bits q owners ≡ 0
 unfolding wait_in
 bits-none q [] none = refl

@@ -1,4 +1,4 @@
--- A send answers a receive that waits, and a receive a send that does.
+-- A send answers a waiting receive, and a receive a waiting send.
 use Rattle.std.proofs.Common.{◌≡◌, ℕ, ◌==◌, Bool, true, false, not, [], ◌∷◌, ◌++◌, length, Some, None, if◌then◌else◌, refl, sym, ◌∙◌, ap, subst, eqb-true, eq-eqb}
 use Rattle.std.proofs.lemmas.Bool.{and_parts, eqb-false}
 use Rattle.mq_model.specs.Record.{Record, Past, record_at}
@@ -22,7 +22,7 @@ use Rattle.mq_model.proofs.OthersLeave.{open_wait-below}
 use Rattle.mq_model.proofs.Frames.{record_at-older}
 use Rattle.mq_model.proofs.Prefixes.{record_at-below}
 
--- a record keeps its place
+-- a record stays at its place
 pub record_at-more : (more past : Past) (k : ℕ) (r : Record) → record_at past k ≡ Some r → record_at (more ++ past) k ≡ Some r
 record_at-more [] past k r at = at
 record_at-more (x ∷ more) past k r at =
@@ -62,7 +62,7 @@ newest-blocks : (past : Past) (x : Record) (s : WaitKind) (q : ℕ) → is_in (b
 newest-blocks past x Send q h = (and_parts (blocks_send x.entry.call x.entry.reply) (is_on past x.entry q) (newest-send past x q h)).0
 newest-blocks past x Receive q h = (and_parts (blocks_receive x.entry.call x.entry.reply) (is_on past x.entry q) (newest-receive past x q h)).0
 
--- a call that blocked is of its kind
+-- a call that waits is of its kind
 blocked-of : (past : Past) (s : WaitKind) (q w : ℕ) (r : Record) → is_in (blocked past s q) w ≡ true → record_at past w ≡ Some r → is_of s r.entry.call ≡ true
 blocked-of [] s q w r h at = absurd (cc)
 blocked-of (x ∷ past) s q w r h at = split (w == length past)
@@ -93,7 +93,7 @@ no-send (MqReceive d room) h = refl
 no-send (MqTimedReceive d room until now) h = refl
 no-send call h = absurd (cc)
 
--- who hands a message over sends
+-- a call that hands a message over is a send
 handed-sends : (past : Past) (p : ℕ) (call : Call) (k : ℕ) → Says past p call (Handed k) → is_send call ≡ true
 handed-sends past p (MqSend d prio len) k says = refl
 handed-sends past p (MqTimedSend d prio len until now) k says = refl
@@ -109,7 +109,7 @@ handed-sends past p NextNotice k says = absurd (cc)
 handed-sends past p Collect k says = absurd (cc)
 handed-sends past p (Withdraw now) k says = absurd (cc)
 
--- an entry that names a wait is a send just where the call that waits is a receive
+-- an entry that names a wait is a send if and only if the call that waits is a receive
 named-kind : (past : Past) (p : ℕ) (call : Call) (reply : Reply) (w : ℕ) (r : Record) → Says past p call reply → names_wait reply (Some w) ≡ true → record_at past w ≡ Some r → is_send call ≡ is_receive r.entry.call
 named-kind past p call (Handed k) w r says named at =
     let same : k ≡ w = eqb-true _ _ named in

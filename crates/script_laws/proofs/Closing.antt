@@ -1,4 +1,4 @@
--- An exit closes what is held, in rising order.
+-- An exit closes the descriptors that are held, in ascending order.
 use Rattle.std.proofs.Common.{◌≡◌, ℕ, zero, suc, ◌+◌, ◌<◌, ◌≤◌, ◌==◌, Bool, true, false, List, [], ◌∷◌, ◌++◌, Option, Some, None, is_some, refl, ap, sym, ◌∙◌, arith, eqb-true}
 use Rattle.std.specs.List.{find}
 use Rattle.std.proofs.lemmas.Bool.{eqb-false}
@@ -14,7 +14,7 @@ use Rattle.mq_model.specs.declared.entries.Reply.TheVariants.{Done}
 use Rattle.script_orders.proofs.Legality.{none-of}
 use Rattle.script_orders.specs.Scenes.{close_first, close_held}
 
--- what is below the first number that passes does not pass
+-- numbers below the first one that passes do not pass
 find-below : (t : ℕ → Bool) (low n d e : ℕ) → find t (numbers_from low n) ≡ Some d → low ≤ e → e < d → t e ≡ false
 find-below t low zero d e is le lt = absurd (cc)
 find-below t low (suc n) d e is le lt = split (t low)
@@ -24,7 +24,7 @@ find-below t low (suc n) d e is le lt = split (t low)
     (λ here. let same : low ≡ e = eqb-true _ _ here in rw (← same) no)
     (λ other. let ne : low ≡ e → ⊥ = eqb-false _ _ other in find-below t (low + 1) n d e later (omega (arith, le, ne)) lt))
 
--- where none passes
+-- if none passes
 find-none : (t : ℕ → Bool) (low n e : ℕ) → find t (numbers_from low n) ≡ None → low ≤ e → e < low + n → t e ≡ false
 find-none t low zero e is le lt = absurd (omega (arith, le, lt))
 find-none t low (suc n) e is le lt = split (t low)
@@ -63,7 +63,7 @@ below-next bounds found p d (e ∷ ds) in_turn lowest =
     let le : e + 1 ≤ d = from-closed (closes p ds ++ found) p e in_turn.1 d lowest in
     omega (arith, le)
 
--- the first n were closed, in so far as they were held
+-- those of the first n that were held are closed
 closed : (bounds : Option Bounds) (found : Past) (p n : ℕ) (ds : List ℕ) → AreInTurn bounds found p ds → IsBelow ds n → HoldsNone (closes p ds ++ found) p n → close_first found p n ≡ closes p ds ++ found
 closed bounds found p zero [] in_turn below none = refl
 closed bounds found p zero (d ∷ ds) in_turn below none = absurd (omega (arith, below))
@@ -87,11 +87,11 @@ below-all : (bounds : Option Bounds) (found : Past) (p : ℕ) (ds : List ℕ) �
 below-all bounds found p [] in_turn = tt
 below-all bounds found p (d ∷ ds) in_turn = (lowest-held (closes p ds ++ found) p d in_turn.1).1
 
--- where nothing is held after closes, always of the lowest, they are those of an exit
+-- if nothing is held after closes, each of the lowest descriptor, they are those of an exit
 pub exit-closes : (bounds : Option Bounds) (found : Past) (p : ℕ) (ds : List ℕ) → AreInTurn bounds found p ds → lowest_held (closes p ds ++ found) p ≡ None → close_first found p 16 ≡ closes p ds ++ found
 exit-closes bounds found p ds in_turn none = closed bounds found p 16 ds in_turn (below-all bounds found p ds in_turn) (none-held (closes p ds ++ found) p none)
 
--- records of others leave what a process holds
+-- records of other processes do not change what a process holds
 held-more : (p d : ℕ) (more past : Past) → items_of author p more ≡ [] → held (more ++ past) p d ≡ held past p d
 held-more p d [] past none = refl
 held-more p d (r ∷ more) past none = split (r.entry.process == p)
@@ -101,7 +101,8 @@ held-more p d (r ∷ more) past none = split (r.entry.process == p)
 pub held-grown : (p d : ℕ) (before after : Past) → Grows author p before after [] → held after p d ≡ held before p d
 held-grown p d before after g = ap (λ (past : Past). held past p d) g.is ∙ held-more p d g.behind before g.mine
 
--- where a process holds nothing its exit leaves the journal, and so where others alone put records in front
+-- if a process holds nothing, its exit does not change the journal, even if other processes add
+-- records
 pub exit-idles : (p : ℕ) (before after : Past) → Grows author p before after [] → lowest_held after p ≡ None → close_first before p 16 ≡ before
 exit-idles p before after g none =
     closed None before p 16 [] tt tt (λ e lt. sym (held-grown p e before after g) ∙ none-held after p none e lt)

@@ -10,21 +10,23 @@ use Rattle.script_orders.specs.Progress.{Progress}
 use Rattle.script_orders.specs.Turns.{after_turn}
 use Rattle.script_orders.specs.declared.plan.Planned.{Planned}
 
--- a turn of a process: the journal that it found, the records that it put in front, and how far the process has come then
+-- A turn of a process: the journal that it found, the records that it added, and its progress after
+-- them.
 pub record Move : Type 0 where
   pub found : Past
   pub own : Past
   pub next : Progress
 
--- from this journal and progress the process makes that move, and before it others put records in front. One that leaves no record
--- comes at once
+-- From this journal and progress the process makes this move, and before it other processes add
+-- records. A move without a record is made at once.
 pub record Goes (p phase : ℕ) (program : Vec Planned Global) (move : Move) (from : Past) (progress : Progress) : Type 0 where
   pub others : Grows author p from move.found []
   pub mine : All (λ r. author r ≡ p) move.own
   pub eager : move.own ≡ [] → move.found ≡ from
   pub turn : after_turn move.found phase p progress program ≡ Some (record { past = move.own ++ move.found; progress = move.next })
 
--- the process makes these moves one after the other, and at the end has come so far; after them others alone put records in front
+-- the process makes these moves one after the other and then has the progress `end`; after them
+-- only other processes add records
 abbrev pub Course : ℕ → ℕ → Vec Planned Global → Past → Progress → List Move → Past → Progress → Type 0
 Course p phase program to end [] from progress = (progress ≡ end) × Grows author p from to []
 Course p phase program to end (move ∷ moves) from progress =

@@ -1,4 +1,4 @@
--- Where the next move of a process stands.
+-- Where the next move of a process is in the journal.
 use Rattle.std.proofs.Common.{◌≡◌, inl, inr, ℕ, ◌==◌, List, [], ◌∷◌, ◌++◌, refl, ap, sym, ◌∙◌, subst, append_assoc, Vec}
 use Rattle.std.specs.List.{All}
 use Rattle.std.specs.declared.alloc.Global.{Global}
@@ -12,7 +12,7 @@ use Rattle.script_orders.specs.declared.plan.Planned.{Planned}
 use Rattle.script_laws.proofs.Course.{Course, Goes, Move}
 use Rattle.script_laws.proofs.Joins.{two-ends, by-last, same-last, all-left, all-last, both-empty, owns-last}
 
--- a course begins at an older end of the journal that it leads to
+-- the journal from which a course begins is an earlier state of the one to which it leads
 pub course-end : (p phase : ℕ) (program : Vec Planned Global) (to : Past) (end : Progress) (moves : List Move) (from : Past) (progress : Progress) → Course p phase program to end moves from progress → (more : Past) × (to ≡ more ++ from)
 course-end p phase program to end [] from progress course = (course.1.behind, course.1.is)
 course-end p phase program to end (move ∷ moves) from progress course =
@@ -21,7 +21,8 @@ course-end p phase program to end (move ∷ moves) from progress course =
     let found : move.own ++ move.found ≡ (move.own ++ others.behind) ++ from = ap (λ (l : Past). move.own ++ l) others.is ∙ sym (append_assoc move.own others.behind from) in
     (rest.0 ++ (move.own ++ others.behind), rest.1 ∙ (ap (λ (l : Past). rest.0 ++ l) found ∙ sym (append_assoc rest.0 (move.own ++ others.behind) from)))
 
--- what lies behind the journal that the course begins with: the records that others put there first, the move's own, and more
+-- what follows the journal from which the course begins: the records that others add first, those
+-- of the move, and more
 pub first-move : (p phase : ℕ) (program : Vec Planned Global) (to : Past) (end : Progress) (move : Move) (moves : List Move) (from : Past) (progress : Progress) (course : Course p phase program to end (move ∷ moves) from progress) → (more : Past) × (to ≡ ((more ++ move.own) ++ course.0.others.behind) ++ from)
 first-move p phase program to end move moves from progress course =
     let rest = course-end p phase program to end moves (move.own ++ move.found) move.next course.1 in
@@ -29,7 +30,7 @@ first-move p phase program to end move moves from progress course =
     let found : move.own ++ move.found ≡ move.own ++ (others.behind ++ from) = ap (λ (l : Past). move.own ++ l) others.is in
     (rest.0, rest.1 ∙ (ap (λ (l : Past). rest.0 ++ l) found ∙ sym (append_assoc (rest.0 ++ move.own) others.behind from ∙ append_assoc rest.0 move.own (others.behind ++ from))))
 
--- where p's records `own` come first, q's next move is found behind them
+-- if p's records `own` come first, q's next move is found after them
 pub found-behind : (p q : ℕ) → (q ≡ p → ⊥) → (a own c mine others : Past) → All (λ r. author r ≡ p) own → All (λ r. author r ≡ q) mine → (mine ≡ [] → ⊥) → a ++ own ≡ (c ++ mine) ++ others → (w : Past) × (others ≡ w ++ own)
 found-behind p q differ a own c mine others by_p by_q some h =
     elim (two-ends a (c ++ mine) own others h) [
@@ -51,7 +52,7 @@ found-behind p q differ a own c mine others by_p by_q some h =
       | inr e ↦ (e.0, e.1)
     ]
 
--- p puts its records in front first: q's course goes on from there
+-- p adds its records first: q's course continues from there
 pub course-goes-on : (p q phase : ℕ) (program : Vec Planned Global) (to : Past) (end : Progress) (moves : List Move) (from : Past) (progress : Progress) (a own : Past) → (q ≡ p → ⊥) → All (λ r. author r ≡ p) own → to ≡ (a ++ own) ++ from → ((move : Move) (rest : List Move) → moves ≡ move ∷ rest → move.own ≡ [] → ⊥) → Course q phase program to end moves from progress → Course q phase program to end moves (own ++ from) progress
 course-goes-on p q phase program to end [] from progress a own differ by_p at none course =
     let behind : course.1.behind ≡ a ++ own = append_cancel_right course.1.behind (a ++ own) from (sym course.1.is ∙ at) in
@@ -74,7 +75,7 @@ course-goes-on p q phase program to end (move ∷ moves) from progress a own dif
     in
     (goes, course.1)
 
--- whose record stands right in front of the journal, its next move is found there
+-- if the record of a process directly follows the journal, its next move is found there
 pub found-here : (p : ℕ) (ys x others : Past) (r : Record) → author r ≡ p → items_of author p others ≡ [] → ys ++ r ∷ [] ≡ x ++ others → others ≡ []
 found-here p ys x others r is none h =
     elim (by-last others) [

@@ -1,4 +1,4 @@
--- The calls that a process made in a phase of a run are a course of it.
+-- The calls that a process made in a phase of a run are a course.
 use Rattle.std.proofs.Common.{◌≡◌, ◌≢◌, ℕ, ◌+◌, List, [], ◌∷◌, ◌++◌, length, map, None, refl, ap, sym, ◌∙◌, subst, append_assoc, append-nil, arith, Vec}
 use Rattle.std.specs.List.{All}
 use Rattle.std.specs.declared.alloc.Global.{Global}
@@ -53,7 +53,7 @@ performed phase program from progress old new at moment (command.Notify d value)
 performed phase program from progress old new at moment command.Notice after came memory next does = one-moves phase program from progress old new at notice_says outcomes.Notice NextNotice [] after came (notice-tells after) memory next does
 performed phase program from progress old new at moment command.Exit after came memory next does = exit-performs phase program from progress old new at [] after came memory next does
 
--- of the process of this number
+-- of the process with this number
 moved-as : (p phase : ℕ) (program : Vec Planned Global) (from : Past) (progress : Progress) (old new : Ticket Record) (call : WrittenCall) (completion : Completion)
     → IsAt p from old → completion.outcome ≢ outcomes.Refused NoMemory
     → IsNext phase program progress.begun (step_by call.moment call.command) (given_by call.command)
@@ -70,8 +70,8 @@ moved-as p phase program from progress old new call completion at memory next do
 abbrev end_of : ℕ → List WrittenCall → List Completion → ℕ → List ℕ → Progress
 end_of p calls completions begun text = record { begun = begun + length calls; text = text ++ reply_lines p completions }
 
--- The calls of process p in a phase are moves. They begin from a journal after which others alone put records in front before the
--- process left its own last, as from that one itself
+-- From a journal that extends the one that process p last left by records of others only, the calls
+-- of the process in a phase are moves.
 pub came-through : (p phase : ℕ) (program : Vec Planned Global) (calls : List WrittenCall) (completions : List Completion) (old new : Ticket Record) (from : Past) (begun : ℕ) (text : List ℕ)
     → IsAt p from old
     → AreLines program begun (map (plan phase) calls)
@@ -109,11 +109,11 @@ came-through p phase program (call ∷ calls) (completion ∷ completions) old n
           moved.goes to last later.0 later.1;
     }
 
--- where others alone put records in front afterwards, they are a whole course
+-- if only other processes add records afterwards, they are a whole course
 pub course-of-calls : (p phase : ℕ) (program : Vec Planned Global) (from to : Past) (progress end : Progress) (new : Ticket Record)
     → Came p phase program from progress new end → Grows author p new.left to [] → (moves : List Move) × Course p phase program to end moves from progress
 course-of-calls p phase program from to progress end new came after = came.goes to end [] (refl, grows-on came.is.near after)
 
--- after them the process waits in no call
+-- after them the process has no open wait
 pub free-at-end : (p : ℕ) (at to : Past) (new : Ticket Record) → IsAt p at new → Grows author p new.left to [] → open_wait to p ≡ None
 free-at-end p at to new is after = wait-grown after ∙ (ap (λ (n : ℕ). open_wait new.left n) (sym is.number) ∙ is.free)

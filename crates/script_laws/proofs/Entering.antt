@@ -1,4 +1,4 @@
--- Without bounds a reply has an entry, unless memory was wanting.
+-- Without bounds a reply has an entry unless memory was refused.
 use Rattle.std.proofs.Common.{◌≡◌, ◌≢◌, ℕ, true, false, List, Option, Some, None, refl, ap, sym, ◌∙◌}
 use Rattle.mq.proofs.Replies.{unentered}
 use Rattle.mq_model.proofs.Places.{split}
@@ -11,7 +11,7 @@ use Rattle.mq_model.specs.declared.entries.Reply.TheVariants.{Refused}
 use Rattle.mq_model.specs.declared.faults.Fault.{Fault}
 use Rattle.mq_model.specs.declared.faults.Fault.TheVariants.{Again, BadDescriptor, Busy, Exists, Invalid, TooManyOpen, MessageSize, NameTooLong, NoEntry, NoSpace, NoMemory, TimedOut, JournalFull}
 
--- a fault without an entry
+-- an error without an entry
 pub no-entry : (fault : Fault) → has_entry (Refused fault) ≡ false → fault ≢ NoMemory → fault ≢ JournalFull → ⊥
 no-entry NoMemory none memory full = memory refl
 no-entry JournalFull none memory full = full refl

@@ -1,4 +1,4 @@
--- In a phase of one moment no wait is withdrawn.
+-- In a phase whose calls are all made at the same time no wait is withdrawn.
 use Rattle.std.proofs.Common.{◌≡◌, ℕ, true, false, ◌&&◌, not, List, [], ◌∷◌, Option, Some, is_none, Result, refl, sym, ◌∙◌, subst, eq-eqb}
 use Rattle.std.proofs.lemmas.Bool.{and_parts}
 use Rattle.fast_mutex.specs.Items.{Ticket, Grows}
@@ -21,7 +21,7 @@ use Rattle.script_laws.proofs.Moving.{IsAt, stood}
 use Rattle.script_laws.proofs.Splitting.{stands}
 use Rattle.script_laws.proofs.Waiting.{legal-grown}
 
--- a timed call waits only where its deadline has not passed
+-- a timed call waits only if its deadline has not passed
 timed-waits : (until now : Deadline) (reply : Reply) → timed_reply until now reply ≡ Waits → has_passed until now ≡ false
 timed-waits until now Waits is = split (not (is_moment until))
     (λ yes. let bad : Refused Invalid ≡ Waits = rw yes at is in absurd (cc))
@@ -39,7 +39,7 @@ timed-waits until now (Notice v) is = absurd (cc)
 timed-waits until now Done is = absurd (cc)
 timed-waits until now (Refused f) is = absurd (cc)
 
--- where this timed call waits, its deadline has not passed
+-- if this timed call waits, its deadline has not passed
 pub record IsTimed (call : Call) (until now : Deadline) : Type 0 where
   pub deadline : deadline_of call ≡ Some until
   pub waits : (past : Past) (p : ℕ) (name : List ℕ) → reply_to past p call name ≡ Waits → has_passed until now ≡ false
@@ -50,7 +50,7 @@ send-timed d prio len until now = record { deadline = refl; waits = λ past p na
 pub receive-timed : (d room : ℕ) (until now : Deadline) → IsTimed (MqTimedReceive d room until now) until now
 receive-timed d room until now = record { deadline = refl; waits = λ past p name is. timed-waits until now _ is }
 
--- a wait that was withdrawn at the moment at which its call was made: there is none
+-- no wait is withdrawn at the time at which its call was made
 pub never-expires : {R : Type 0} (from : Past) (old new : Ticket Record) (call : Call) (given : List ℕ) (until now moment : Deadline) (result : Result R Fault)
     → IsAt old.number from old → IsTimed call until now → now ≡ moment → Expired (λ now. now ≡ moment) old new call given result → ⊥
 never-expires {R} from old new call given until now moment result at timed made x =

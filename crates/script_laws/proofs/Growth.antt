@@ -1,4 +1,4 @@
--- What a process left is an older end of what it leaves later.
+-- The journal that a process left is an earlier state of each that it leaves later.
 use Rattle.std.proofs.Common.{◌≡◌, inl, inr, ℕ, Bool, true, false, List, [], ◌∷◌, ◌++◌, length, Option, Result, refl, ap, sym, ◌∙◌, subst, append_assoc, length-append, arith}
 use Rattle.std.specs.List.{All, AllZip}
 use Rattle.std.proofs.lemmas.List.Elements.{All-head, All-tail}
@@ -20,7 +20,7 @@ use Rattle.script_text.specs.declared.reply.Outcome.{Outcome}
 use Rattle.text_io.specs.Words.{Word}
 use Rattle.script_laws.proofs.Joins.{two-ends}
 
--- the older journal is an end of the newer
+-- the journal is an earlier state of the other
 pub record IsEnd (older newer : Past) : Type 0 where
   pub more : Past
   pub is : newer ≡ more ++ older
@@ -95,12 +95,12 @@ calls-grow (call ∷ calls) (completion ∷ completions) old new ran =
     (performs-grows call.moment call.command (buffer_given call.command) completion.buffer.items old ran.0 completion.outcome ran.1)
     (calls-grow calls completions ran.0 new ran.2)
 
--- what each process left is an end of the journal
+-- the journal that each process left is an earlier state of the journal
 abbrev pub AreEnds : Past → List (Ticket Record) → Type 0
 AreEnds journal [] = Unit {0}
 AreEnds journal (t ∷ tickets) = IsEnd t.left journal × AreEnds journal tickets
 
--- what each process left is an older end of what it left later
+-- the journal that each process left is an earlier state of the one that it left later
 abbrev pub AllGrown : List (Ticket Record) → List (Ticket Record) → Type 0
 AllGrown before after = AllZip (λ old new. IsEnd old.left new.left) before after
 
@@ -124,12 +124,12 @@ phase-grows calls (old ∷ before) [] text ran = absurd ran
 phase-grows calls (old ∷ before) (new ∷ after) text ran =
     (calls-grow (calls_of old.number calls) ran.0 old new ran.2, phase-grows calls before after ran.1 ran.4)
 
--- before a phase, after which all processes came in once more
+-- before a phase, after which all processes acquired the lock once more
 pub phase-ends : (journal : Past) (n : ℕ) (before ended between : List (Ticket Record)) → AllGrown before ended → AllZip (FindsLength n) ended between → AreEnds journal between → AreEnds journal before
 phase-ends journal n before ended between grown found ends =
     ends-before journal before ended grown (ends-before journal ended between (found-grow n ended between found) ends)
 
--- at the beginning of phases too
+-- the same at the beginning of several phases
 pub phases-end : (journal : Past) (phases : List (List WrittenCall)) (before after : List (Ticket Record)) (text : List ℕ) → RunsPhases phases before after text → AreEnds journal after → AreEnds journal before
 phases-end journal [] before after text ran ends = subst (λ (ts : List (Ticket Record)). AreEnds journal ts) ran.0 ends
 phases-end journal (calls ∷ phases) before after text ran ends =
@@ -142,7 +142,7 @@ all-grow journal (t ∷ tickets) all =
     let first = All-head P t tickets all in
     (record { more = first.behind; is = first.is }, all-grow journal tickets (All-tail P t tickets all))
 
--- the ends ---------------------------------------------------------------------------------------------------------------
+-- the last journals ------------------------------------------------------------------------------------------------------
 
 -- each process last left this journal
 abbrev pub AllLeft : Past → List (Ticket Record) → Type 0
@@ -153,7 +153,7 @@ none-more : (w a : Past) → length (w ++ a) ≡ length a → w ++ a ≡ a
 none-more [] a e = refl
 none-more (x ∷ w) a e = let k : ⊥ = omega (arith, e, length-append w a) in absurd k
 
--- two ends of one length are one
+-- two earlier states of the same length are equal
 end-by-length : (journal a b : Past) → IsEnd a journal → IsEnd b journal → length a ≡ length b → a ≡ b
 end-by-length journal a b x y same =
     elim (two-ends x.more y.more a b (sym x.is ∙ y.is)) [
@@ -168,7 +168,7 @@ all-one journal past n (old ∷ ended) [] end count found ends = absurd found
 all-one journal past n (old ∷ ended) (new ∷ between) end count found ends =
     (end-by-length journal new.left past ends.0 end (found.0.count ∙ sym count), all-one journal past n ended between end count found.1 ends.1)
 
--- the journal that all processes have after a phase, which began with this one
+-- the journal that all processes have after a phase that began with this one
 pub record Meeting (journal past : Past) (tickets : List (Ticket Record)) : Type 0 where
   pub to : Past
   pub from : IsEnd past to

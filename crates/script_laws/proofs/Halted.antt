@@ -1,4 +1,4 @@
--- The end of a phase that came to a stand: no process can go on, and one waits.
+-- The end of a phase that deadlocked: no process can go on, and at least one waits.
 use Rattle.std.proofs.Common.{◌≡◌, ◌≢◌, ℕ, zero, suc, ◌+◌, ◌<◌, Bool, true, false, ◌&&◌, not, nat_le, List, [], ◌∷◌, ◌++◌, length, Option, Some, None, is_some, slice_get, refl, ap, sym, ◌∙◌, subst, arith, append_assoc, append-nil, if◌then◌else◌, Vec}
 use Rattle.std.specs.Prelude.{◌||◌}
 use Rattle.std.specs.Option.{option_map, option_and_then, unwrap_or}
@@ -32,7 +32,7 @@ use Rattle.script_laws.proofs.Runners.{Frame, Runner, ends_in, programs_in, ther
 use Rattle.script_laws.proofs.Sitting.{Through}
 use Rattle.script_laws.proofs.Weaving.{ended}
 
--- p went through the phase, or waits for ever in the call of a line
+-- p completed the phase, or waits for ever in the call of a line
 abbrev pub Rests : Option ℕ → ℕ → ℕ → Past → Past → Runner → Type 0
 Rests None p phase past to r = Through p phase past to r
 Rests (Some line) p phase past to r = Halts p phase line past to r
@@ -48,7 +48,7 @@ third-false true true c d is = rw is refl
 third-false true false c d is = refl
 third-false false b c d is = refl
 
--- who is blocked waits, and has no answer
+-- a blocked process waits and has no answer
 parts : (past : Past) (p : ℕ) → is_blocked past p ≡ true → (is_some (open_wait past p) ≡ true) × (is_answered past p ≡ false)
 parts past p blocked =
     let both = and-parts (is_some (open_wait past p)) (not (is_answered past p)) blocked in (
@@ -58,7 +58,7 @@ parts past p blocked =
           (λ no. no),
     )
 
--- who is blocked cannot go on
+-- a blocked process cannot go on
 halted-turn : (past : Past) (phase p : ℕ) (progress : Progress) (program : Vec Planned Global) → is_blocked past p ≡ true → after_turn past phase p progress program ≡ None
 halted-turn past phase p progress program blocked =
     let both = parts past p blocked in
@@ -73,7 +73,7 @@ rests-turn : (b : Option ℕ) (p phase : ℕ) (past to : Past) (r : Runner) → 
 rests-turn None p phase past to r rests = no-turn to phase p r.end r.program rests.free rests.done
 rests-turn (Some line) p phase past to r rests = halted-turn to phase p r.end r.program rests.blocked
 
--- what is told -------------------------------------------------------------------------------------------------------------
+-- what is reported ---------------------------------------------------------------------------------------------------------
 
 stand-more : (first more : List ℕ) → stand_text (first ++ more) ≡ stand_text first ++ stand_text more
 stand-more [] more = refl
@@ -92,7 +92,7 @@ rests-said (Some line) i frame phase past to runners r has rests =
     let here : wait_line_of s i ≡ line = ap by_program (has-program runners i r has) ∙ (ap (by_seat r.program) (has-end runners i r has) ∙ rests.line_is) in
     ap (λ (b : Bool). if b then wait_text (wait_line_of s i) else []) both.0 ∙ (ap wait_text here ∙ sym (append-nil (wait_text line)))
 
--- where each process tells the line in which it waits, from the one at index i on
+-- if each process reports the line in which it waits, from the process at index i on
 lines-from : (s : Stage) (ended : List (Worked (Ticket Record))) (i : ℕ) → ((j : ℕ) (w : Worked (Ticket Record)) → slice_get ended j ≡ Some w → wait_of s (i + j) ≡ stand_text (line_in w.blocked)) →
     waiting_lines s (i + length ended) ≡ waiting_lines s i ++ stand_text (blocked_lines ended)
 lines-from s [] i says =
@@ -112,7 +112,7 @@ lines-from s (w ∷ ended) i says =
     ∙ (append_assoc (waiting_lines s i) (stand_text (line_in w.blocked)) (stand_text (blocked_lines ended))
     ∙ ap (λ (l : List ℕ). waiting_lines s i ++ l) (sym (stand-more (line_in w.blocked) (blocked_lines ended))))))
 
--- where none waits nothing is told of waits
+-- if no process waits, no line is reported
 none-told : (s : Stage) (n : ℕ) → one_waits s.past n ≡ false → waiting_lines s n ≡ []
 none-told s zero none = refl
 none-told s (suc n) none =
@@ -123,12 +123,12 @@ none-told s (suc n) none =
     or-parts true b is = cc
     or-parts false b is = (refl, is)
 
--- of lines that wait something is told
+-- if some line waits, one is reported
 some-told : (lines : List ℕ) → lines ≢ [] → stand_text lines ≡ [] → ⊥
 some-told [] some none = some refl
 some-told (line ∷ lines) some none = cc
 
--- all rest, and one of them waits
+-- none can go on, and one of them waits
 module _ (frame : Frame) (phase : ℕ) (past to : Past) (runners : List Runner) (worked : List (Worked (Ticket Record))) (count : length runners ≡ length worked)
     (rest : (i : ℕ) (r : Runner) (w : Worked (Ticket Record)) → slice_get runners i ≡ Some r → slice_get worked i ≡ Some w → Rests w.blocked (i + 1) phase past to r) where
   of-runner : (i : ℕ) (r : Runner) → slice_get runners i ≡ Some r → (w : Worked (Ticket Record)) × Rests w.blocked (i + 1) phase past to r

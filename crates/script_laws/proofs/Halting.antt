@@ -1,4 +1,4 @@
--- A process that waits for ever: the moves of its calls, and then that of the wait.
+-- A process that waits for ever: the moves of its calls, and then the move that starts the wait.
 use Rattle.std.proofs.Common.{◌≡◌, ℕ, ◌+◌, List, [], ◌∷◌, ◌++◌, length, map, replicate, true, refl, ap, sym, ◌∙◌, subst, append_assoc, arith, length-append, Vec}
 use Rattle.std.specs.List.{All}
 use Rattle.std.specs.declared.alloc.Global.{Global}
@@ -37,7 +37,8 @@ use Rattle.script_laws.proofs.Sitting.{Sits}
 use Rattle.script_laws.proofs.Splitting.{stands}
 use Rattle.script_laws.proofs.Waiting.{legal-grown, wait-goes}
 
--- p has a course through the phase, at the end of which it waits in the call of this line, and no entry names its wait
+-- p has a course through the phase, after which it waits in the call of this line, and no entry
+-- answers its wait
 pub record Halts (p phase line : ℕ) (past to : Past) (r : Runner) : Type 0 where
   pub course : Course p phase r.program to r.end r.moves past r.seat
   pub blocked : is_blocked to p ≡ true
@@ -45,7 +46,7 @@ pub record Halts (p phase line : ℕ) (past to : Past) (r : Runner) : Type 0 whe
 
 -- the wait -----------------------------------------------------------------------------------------------------------------
 
--- a call that waits is one move, where others alone put records in front afterwards
+-- a call that waits is one move, if only other processes add records afterwards
 wait-course : (phase : ℕ) (program : Vec Planned Global) (from to : Past) (progress : Progress) (mid new : Ticket Record) (call : Call) (given : List ℕ)
     → IsNext phase program progress.begun (steps.Call call) given → WaitsFor mid new call given
     → IsAt mid.number from mid → Grows author mid.number new.left to []
@@ -58,7 +59,7 @@ wait-course phase program from to progress mid new call given next waits at afte
     let goes = wait-goes phase program p from s.found progress call given (at-free p from mid at) (grows-on at.near s.others) next legal.1 in
     (record { found = s.found; own = r ∷ []; next = further progress [] } ∷ [], (goes, (refl, grows-on s.later after)))
 
--- of the process of this number
+-- of the process with this number
 wait-course-of : (p phase : ℕ) (program : Vec Planned Global) (from to : Past) (progress : Progress) (mid new : Ticket Record) (call : Call) (given : List ℕ)
     → IsNext phase program progress.begun (steps.Call call) given → WaitsFor mid new call given
     → IsAt p from mid → Grows author p new.left to []
@@ -94,7 +95,7 @@ waits-by moment command.Exit old new blocks = absurd blocks
 
 -- one process --------------------------------------------------------------------------------------------------------------
 
--- the lines of some calls, and those of the next ones
+-- the lines of some calls, and those of the calls after them
 first-lines : (phase : ℕ) (program : Vec Planned Global) (begun : ℕ) (made later : List WrittenCall) → AreLines program begun (map (plan phase) (made ++ later)) → AreLines program begun (map (plan phase) made)
 first-lines phase program begun made later lines = record {
   before = lines.before;

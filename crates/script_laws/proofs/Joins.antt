@@ -1,10 +1,10 @@
--- Lists that are joined of parts.
+-- Lists that are appended to each other.
 use Rattle.std.proofs.Common.{◌≡◌, ◌⊎◌, inl, inr, ℕ, ◌==◌, true, List, [], ◌∷◌, ◌++◌, refl, ap, sym, ◌∙◌, eq-eqb}
 use Rattle.std.specs.List.{All}
 use Rattle.std.proofs.lemmas.List.Elements.{All-nil, All-cons, All-head, All-tail, filter-append}
 use Rattle.fast_mutex.specs.Items.{items_of}
 
--- two ends of one list: the one is an end of the other
+-- of two suffixes of one list, one is a suffix of the other
 pub two-ends : {A : Type 0} (a b x y : List A) → a ++ x ≡ b ++ y →
     ((w : List A) × (x ≡ w ++ y) × (b ≡ a ++ w)) ⊎ ((w : List A) × (y ≡ w ++ x) × (a ≡ b ++ w))
 two-ends [] b x y h = inl (b, h, refl)
@@ -49,7 +49,7 @@ pub both-empty : {A : Type 0} (xs ys : List A) → xs ++ ys ≡ [] → (xs ≡ [
 both-empty [] ys h = (refl, h)
 both-empty (x ∷ xs) ys h = cc
 
--- p has an item, the last
+-- the last item is p's, so p has an item
 pub owns-last : {A : Type 0} (own : A → ℕ) (p : ℕ) (xs : List A) (x : A) → own x ≡ p → items_of own p (xs ++ x ∷ []) ≡ [] → ⊥
 owns-last {A} own p xs x is none =
     let parts = both-empty (items_of own p xs) (items_of own p (x ∷ [])) (sym (filter-append (λ y. own y == p) xs (x ∷ [])) ∙ none) in

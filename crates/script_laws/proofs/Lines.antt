@@ -1,4 +1,4 @@
--- The line that a process begins next, and the turn by it.
+-- The next line of a process, and the turn that starts it.
 use Rattle.std.proofs.Common.{◌≡◌, ℕ, suc, ◌+◌, ◌==◌, Bool, true, false, List, [], ◌∷◌, ◌++◌, length, length-append, append_assoc, map, Option, Some, None, is_some, slice_get, if◌then◌else◌, refl, ap, sym, ◌∙◌, arith, eq-eqb, Vec}
 use Rattle.std.specs.Option.{option_map, option_and_then, unwrap_or}
 use Rattle.std.specs.declared.alloc.Global.{Global}
@@ -23,7 +23,7 @@ use Rattle.script_orders.specs.declared.plan.Step.{Step}
 use Rattle.script_text.specs.Script.{WrittenCall}
 use Rattle.script_laws.proofs.Course.{AreLines}
 
--- the line of this number is of the phase, and asks for this
+-- the line with this number is of the phase, and makes this step
 pub record IsNext (phase : ℕ) (program : Vec Planned Global) (begun : ℕ) (step : Step) (given : List ℕ) : Type 0 where
   pub planned : Planned
   pub has : slice_get program.items begun ≡ Some planned
@@ -62,7 +62,7 @@ line-in : (o : Option Planned) (x : Plan) → option_map plan_of o ≡ Some x �
 line-in None x is = absurd (cc)
 line-in (Some planned) x is = let same : plan_of planned ≡ x = cc in ap (λ (y : Plan). y.line) same
 
--- the line that was begun last is that of the call
+-- the last line that was started is that of the call
 pub line-begun : (phase : ℕ) (program : Vec Planned Global) (begun : ℕ) (call : WrittenCall) (calls : List WrittenCall) → AreLines program begun (map (plan phase) (call ∷ calls)) → line_of program (begun + 1) ≡ call.line
 line-begun phase program begun call calls lines =
     let next : begun + 1 ≡ suc begun = omega arith in
@@ -79,7 +79,7 @@ later-lines phase program begun call calls lines = record {
       omega (arith, longer, count);
 }
 
--- a turn by the next line
+-- a turn that starts the next line
 pub turn-by-line : (found : Past) (phase p : ℕ) (progress : Progress) (program : Vec Planned Global) (step : Step) (given : List ℕ) (scene : Scene) → open_wait found p ≡ None → IsNext phase program progress.begun step given → after_step (scene_of found progress) p given step ≡ Some scene → after_turn found phase p progress program ≡ Some (turned 1 progress scene)
 turn-by-line found phase p progress program step given scene free next goes =
     let planned : Planned = next.planned in
@@ -105,7 +105,7 @@ turn-by-collect found phase p progress program wait scene waits goes =
     ap (λ (b : Bool). if b then option_map (turned 0 progress) (after_call (scene_of found progress) p Collect []) else begins) is_waiting
     ∙ ap (λ (o : Option Scene). option_map (turned 0 progress) o) goes
 
--- a legal record is that of its call, with its reply
+-- a legal record is that of its call with its reply
 pub call-goes : (found : Past) (p : ℕ) (call : Call) (given : List ℕ) (reply : Reply) (progress : Progress) → IsLegalNext found (recorded p call given reply) → after_call (scene_of found progress) p call given ≡ Some (record { past = recorded p call given reply ∷ found; text = progress.text ++ said (recorded p call given reply ∷ found) p reply })
 call-goes found p call given reply progress legal =
     let r : Record = recorded p call given reply in

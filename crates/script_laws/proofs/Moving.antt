@@ -1,4 +1,5 @@
--- What a process did is moves of it: a call in one stay, one that was refused before it came to the queues, and an exit.
+-- What a process did is a sequence of moves: a call in one critical section, one that failed before
+-- it reached the queues, and an exit.
 use Rattle.std.proofs.Common.{◌≡◌, ℕ, ◌+◌, Bool, true, false, List, [], ◌∷◌, ◌++◌, Some, None, if◌then◌else◌, refl, ap, sym, ◌∙◌, subst, eq-eqb, Vec}
 use Rattle.std.specs.List.{All}
 use Rattle.std.specs.declared.alloc.Global.{Global}
@@ -29,7 +30,8 @@ use Rattle.script_laws.proofs.Course.{Course, Goes, Move}
 use Rattle.script_laws.proofs.Lines.{IsNext, call-goes, turn-by-line}
 use Rattle.script_laws.proofs.Splitting.{grows-before, grows-none}
 
--- a process that can make a call has come to this journal: what it left last has more in front, by others alone
+-- a process that can make a call is at this journal: it extends the one that the process last left
+-- by records of others only
 pub record IsAt (p : ℕ) (at : Past) (process : Ticket Record) : Type 0 where
   pub number : process.number ≡ p
   pub bounds : bounds_in process.lock.fixed ≡ None
@@ -39,21 +41,22 @@ pub record IsAt (p : ℕ) (at : Past) (process : Ticket Record) : Type 0 where
 pub at-free : (p : ℕ) (at : Past) (process : Ticket Record) → IsAt p at process → open_wait at p ≡ None
 at-free p at process is = sym (wait-grown is.near) ∙ ap (λ (n : ℕ). open_wait process.left n) (sym is.number) ∙ is.free
 
--- what is so far after one line more, of which this is printed
+-- the progress after one more line, for which this is printed
 abbrev pub further : Progress → List ℕ → Progress
 further progress line = record { begun = progress.begun + 1; text = progress.text ++ line }
 
--- The process has come so far, and can make a call: each course that goes on from there is one from here
+-- The process has reached this progress and can make a call: each course that continues from there
+-- is also one from here.
 pub record Came (p phase : ℕ) (program : Vec Planned Global) (from : Past) (progress : Progress) (new : Ticket Record) (next : Progress) : Type 0 where
   pub at : Past
   pub is : IsAt p at new
   pub goes : (to : Past) (end : Progress) (moves : List Move) → Course p phase program to end moves at next → (all : List Move) × Course p phase program to end all from progress
 
--- it began its next line and came to its end, and this is printed of it
+-- it started and completed its next line, for which this is printed
 abbrev pub Moved : ℕ → ℕ → Vec Planned Global → Past → Progress → Ticket Record → List ℕ → Type 0
 Moved p phase program from progress new line = Came p phase program from progress new (further progress line)
 
--- by one move
+-- the same by one move
 pub moved-once : (p phase : ℕ) (program : Vec Planned Global) (from : Past) (progress : Progress) (new : Ticket Record) (line : List ℕ) (found own : Past)
     → IsAt p (own ++ found) new
     → Goes p phase program (record { found = found; own = own; next = further progress line }) from progress
@@ -88,7 +91,7 @@ stood old new from call given reply at entered calls found =
     let legal : Legal (r ∷ found.journal) = subst (λ (l : Past). Legal l) is calls.legal in
     record { found = found.journal; others = grows-on at.near before; legal = legal.0; next = legal.1; is = is }
 
--- a call in one stay, of whose reply this is printed
+-- a call in one critical section, for whose reply this is printed
 pub record Stay (old new : Ticket Record) (call : Call) (given line : List ℕ) : Type 0 where
   pub reply : Reply
   pub calls : Calls old new (made old.number call given reply)
@@ -126,7 +129,7 @@ stay-moves phase program from progress old new call given line at next stay =
       turn = turn ∙ ap (λ (text : List ℕ). Some (record { past = r ∷ found; progress = further progress text })) prints;
     })
 
--- a call that was refused before it came to the queues
+-- a call that failed before it reached the queues
 pub refusal-moves : (phase : ℕ) (program : Vec Planned Global) (from : Past) (progress : Progress) (old : Ticket Record) (fault : Fault) (given : List ℕ)
     → IsAt old.number from old → IsNext phase program progress.begun (steps.Refusal fault) given → Moved old.number phase program from progress old (reply_line old.number (outcomes.Refused fault) [])
 refusal-moves phase program from progress old fault given at next =

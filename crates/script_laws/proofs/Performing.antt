@@ -1,4 +1,4 @@
--- What a process performed of a line of a script are moves of it.
+-- What a process did for a line of a script is a sequence of moves.
 use Rattle.std.proofs.Common.{◌≡◌, ◌≢◌, ℕ, true, false, List, [], length, replicate, Option, Some, None, Result, Ok, Err, inl, inr, refl, ap, sym, ◌∙◌, subst, Vec}
 use Rattle.std.specs.Prelude.{◌⊎◌}
 use Rattle.std.specs.declared.alloc.Global.{Global}
@@ -36,7 +36,7 @@ use Rattle.script_laws.proofs.Moving.{IsAt, Moved, Stay, exit-moves, refusal-mov
 use Rattle.script_laws.proofs.Saying.{Tells, receive-tells, send-tells}
 use Rattle.script_laws.proofs.Waiting.{received-prints, sent-prints, waited-moves}
 
--- the step that comes next, in other words
+-- the next step, rewritten along an equality
 pub next-step : (phase : ℕ) (program : Vec Planned Global) (begun : ℕ) (step other : Step) (given : List ℕ) → step ≡ other → IsNext phase program begun step given → IsNext phase program begun other given
 next-step phase program begun step other given same next = subst (λ (s : Step). IsNext phase program begun s given) same next
 
@@ -76,7 +76,7 @@ stay-of {A} says shows buffer old new call given reply result tells bounds memor
 }
 
 module _ (phase : ℕ) (program : Vec Planned Global) (from : Past) (progress : Progress) (old new : Ticket Record) (at : IsAt old.number from old) where
-  -- this is printed, as it came
+  -- this is printed, rewritten along an equality
   came-as : {A : Type 0} (shows : A → Outcome) (result : Result A Fault) (came : Outcome) (after : List ℕ) → came ≡ outcome_by shows result → Moved old.number phase program from progress new (reply_line old.number (outcome_by shows result) after)
       → Moved old.number phase program from progress new (reply_line old.number came after)
   came-as shows result came after is moved = subst (λ (o : Outcome). Moved old.number phase program from progress new (reply_line old.number o after)) (sym is) moved

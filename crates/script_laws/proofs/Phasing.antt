@@ -1,4 +1,4 @@
--- What a run prints of its phases is told of one order.
+-- What a run prints for its phases is what one interleaving of its calls gives.
 use Rattle.std.proofs.Common.{◌≡◌, ℕ, zero, suc, refl, ◌+◌, ◌≤◌, List, [], ◌∷◌, ◌++◌, length, map, Option, None, Some, replicate, ap, sym, ◌∙◌, subst, arith, append-nil, Vec}
 use Rattle.std.specs.List.{All}
 use Rattle.std.specs.Option.{option_and_then}
@@ -44,7 +44,8 @@ program-count script from begins =
 pub all-of : {past : Past} (script : Whole) (journal : Past) (from : Stage) → BeginsAfter past script from → All (IsOf script.processes) journal → All (IsOf (length from.programs)) journal
 all-of script journal from begins of = subst (λ (k : ℕ). All (IsOf k) journal) (sym (program-count script from begins)) of
 
--- One order of calls leads from this stage to the beginning of a phase, where these processes sit. These are the phases from that one on
+-- An interleaving leads from this stage to the beginning of a phase, where these processes are.
+-- `phases` are the phases from that one on.
 pub record Reached (from : Stage) (journal : Past) (programs : List (Vec Planned Global)) (frame : Frame) (phase : ℕ) (phases : List (List WrittenCall)) (tickets : List (Ticket Record)) : Type 0 where
   pub past : Past
   pub seats : List Progress
@@ -55,7 +56,7 @@ pub record Reached (from : Stage) (journal : Past) (programs : List (Vec Planned
   pub count : frame.phases ≡ phase + length phases
   pub leads : 1 ≤ length phases → after next_stage schedule from ≡ Some (record { programs = programs; phases = frame.phases; start = frame.start; phase = phase; past = past; seats = seats })
 
--- where each process has a course through the phase, they go through it in some order
+-- if each process has a course through the phase, some interleaving takes them through it
 pub phase-runs : (from : Stage) (journal : Past) (programs : List (Vec Planned Global)) (frame : Frame) (phase : ℕ) (phases : List (List WrittenCall)) (tickets : List (Ticket Record)) (reached : Reached from journal programs frame phase phases tickets) (to : Past) (runners : List Runner) →
     All (IsOf (length programs)) journal → 1 ≤ length phases → IsEnd reached.past to → IsEnd to journal → programs_in runners ≡ programs → seats_in runners ≡ reached.seats → AreOnCourse phase to reached.past runners →
     (schedule : List ℕ) × (after next_stage schedule from ≡ Some (ended frame phase to runners))
@@ -73,7 +74,8 @@ phase-runs from journal programs frame phase phases tickets reached to runners o
     in
     (reached.schedule ++ woven.0, then-after reached.schedule woven.0 from (staged frame phase past runners) (ended frame phase to runners) start woven.1)
 
--- what is printed of some phases is told of one order, which leads to the beginning of the later ones
+-- what is printed for some phases is what one interleaving gives, which leads to the beginning of
+-- the later ones
 pub phases-told : (GoesOn : Stage → ℕ → Type 0) (journal : Past) (programs : List (Vec Planned Global)) (frame : Frame) (later : List (List WrittenCall)) (tickets : List (Ticket Record)) →
     All (IsOf (length programs)) journal → AreEnds journal tickets → ((from : Stage) (phase : ℕ) → Reached from journal programs frame phase later tickets → GoesOn from phase) →
     (phases : List (List WrittenCall)) (phase : ℕ) (from : Stage) (before : List (Ticket Record)) (text : List ℕ) (ran : RunsPhases phases before tickets text) → AreAmplePhases phases before tickets text ran →
@@ -123,7 +125,7 @@ phases-told GoesOn journal programs frame later tickets of ends then (calls ∷ 
 abbrev pub frame_of : Stage → Past → Frame
 frame_of from past = record { phases = from.phases; start = past }
 
--- the processes of a script begin with its first phase
+-- the processes of a script start in its first phase
 pub all-reached : (past : Past) (script : Whole) (system : LockId) (journal : Past) (from : Stage) → bounds_in system.fixed ≡ None → NoneWaits past script.processes → IsEnd past journal → BeginsAfter past script from → Reached from journal from.programs (frame_of from past) 0 script.phases (tickets_with system past 1 script.processes)
 all-reached past script system journal from unbounded free end begins =
     let made : Past → List Progress → Option Stage = λ start seats.
@@ -149,7 +151,7 @@ pub new-reached : (script : Whole) (system : LockId) (journal : Past) (from : St
 new-reached script system journal from unbounded begins =
     all-reached [] script system journal from unbounded (λ p low high. refl) (record { more = journal; is = sym (append-nil journal) }) begins
 
--- of a run: what is printed of its phases is told of one order
+-- of a run: what is printed for its phases is what one interleaving gives
 pub run-told : (script : Whole) (text : List ℕ) (journal : Past) (ran : RunsWhole script text journal) (from : Stage) → IsAmple ran → Begins script from → AreTold from 0 (whole_replies ran)
 run-told script text journal ran from ample begins =
     let tickets : List (Ticket Record) = tickets_from ran.system 1 script.processes in
@@ -162,13 +164,13 @@ first-end : (journal past : Past) (lock : LockId) (n : ℕ) → 1 ≤ n → AreE
 first-end journal past lock zero some ends = absurd (omega (arith, some))
 first-end journal past lock (suc n) some ends = ends.0
 
--- a run that goes on from a journal leaves one that begins with it
+-- a run that continues from a journal ends with a journal that extends it
 pub after-end : (past : Past) (script : Whole) (text : List ℕ) (journal : Past) → 1 ≤ script.processes → RunsAfter past script text journal → IsEnd past journal
 after-end past script text journal some ran =
     let runs = ran.runs in let tickets : List (Ticket Record) = tickets_with ran.system past 1 script.processes in
     first-end journal past ran.system script.processes some (phases-end journal script.phases tickets runs.processes text runs.ran (all-grow journal runs.processes runs.grows))
 
--- the same of a run that goes on from a journal
+-- the same for a run that continues from a journal
 pub run-after-told : (past : Past) (script : Whole) (text : List ℕ) (journal : Past) (ran : RunsAfter past script text journal) (from : Stage) → IsEnd past journal → IsAmpleAfter ran → BeginsAfter past script from → AreTold from 0 (replies_after ran)
 run-after-told past script text journal ran from end ample begins =
     let runs = ran.runs in
@@ -179,9 +181,9 @@ run-after-told past script text journal ran from end ample begins =
     script.phases 0 from tickets text runs.ran ample
     (subst (λ (phases : List (List WrittenCall)). Reached from journal from.programs (frame_of from past) 0 phases tickets) (sym (append-nil script.phases)) first)
 
--- where every order from a first stage on was tried -----------------------------------------------------------------------
+-- if all interleavings from a first stage were tried ----------------------------------------------------------------------
 
--- the phases that are told were found, and some stage that goes on so is reached
+-- these phases are among those found, and a stage of which GoesOn holds is reached
 pub record FoundBefore (GoesOn : Stage → ℕ → Type 0) (first : Stage) (found : List Witnessed) (phase : ℕ) (texts : List (List ℕ)) : Type 0 where
   pub phases : AreFound found phase texts
   pub schedule : List ℕ
@@ -206,7 +208,7 @@ told-found GoesOn first from schedule found phase (text ∷ texts) all leads are
       goes_on = subst (λ (k : ℕ). GoesOn rest.to k) here rest.goes_on;
     }
 
--- there are replies of each phase
+-- there are replies for each phase
 pub replies-count : (phases : List (List WrittenCall)) (before tickets : List (Ticket Record)) (text : List ℕ) (ran : RunsPhases phases before tickets text) → length (phase_replies phases before tickets text ran) ≡ length phases
 replies-count [] before tickets text ran = refl
 replies-count (calls ∷ phases) before tickets text ran = let ih = replies-count phases ran.1 tickets ran.4 ran.7 in omega (arith, ih)

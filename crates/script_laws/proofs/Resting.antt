@@ -20,7 +20,7 @@ use Rattle.script_laws.proofs.Runners.{Frame, Runner, ends_in, programs_in, ther
 use Rattle.script_laws.proofs.Sitting.{Through}
 use Rattle.script_laws.proofs.Weaving.{ended}
 
--- who does not wait, and whose next line is of a later phase, cannot go on
+-- a process that does not wait, and whose next line is of a later phase, cannot go on
 pub no-turn : (past : Past) (phase p : ℕ) (progress : Progress) (program : Vec Planned Global) → open_wait past p ≡ None → ((planned : Planned) → slice_get program.items progress.begun ≡ Some planned → phase < planned.phase) → after_turn past phase p progress program ≡ None
 no-turn past phase p progress program free later =
     let collects : Option Turned = option_map (turned 0 progress) (after_call (scene_of past progress) p Collect []) in
@@ -53,7 +53,7 @@ none-waits past zero none = refl
 none-waits past (suc n) none =
     ap (λ (b : Bool). b || is_some (open_wait past (n + 1))) (none-waits past n (λ i below. none i (omega (arith, below)))) ∙ ap (λ (o : Option ℕ). is_some o) (none n (omega arith))
 
--- where each has no turn the machine stands still
+-- if no process has a turn the machine stands still
 pub still-where : (frame : Frame) (phase : ℕ) (to : Past) (runners : List Runner) → ((i : ℕ) (r : Runner) → slice_get runners i ≡ Some r → after_turn to phase (i + 1) r.end r.program ≡ None) → stands_still (ended frame phase to runners) ≡ true
 still-where frame phase to runners none = none-can (ended frame phase to runners) (length (programs_in runners)) (λ i below.
     let count : length (programs_in runners) ≡ length runners = length-map runners (λ (r : Runner). r.program) in
@@ -61,7 +61,7 @@ still-where frame phase to runners none = none-can (ended frame phase to runners
     let r : Runner = there.0 in
     turn_of-is (ended frame phase to runners) i r.program r.end (has-program runners i r there.1) (has-end runners i r there.1) ∙ none i r there.1)
 
--- all have come through the phase
+-- all have completed the phase
 abbrev pub AllThrough : ℕ → Past → Past → List Runner → Type 0
 AllThrough phase past to runners = (i : ℕ) (r : Runner) → slice_get runners i ≡ Some r → Through (i + 1) phase past to r
 

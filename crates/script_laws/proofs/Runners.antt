@@ -1,4 +1,4 @@
--- Processes that go through a phase, each by its course, as a stage of the machine.
+-- Processes that go through a phase, each along its course, as a stage of the machine.
 use Rattle.std.proofs.Common.{◌≡◌, ℕ, zero, suc, ◌+◌, ◌<◌, ◌==◌, Bool, false, List, [], ◌∷◌, length, map, Option, Some, slice_get, slice_set, refl, ap, sym, ◌∙◌, arith, if◌then◌else◌, Vec}
 use Rattle.std.specs.Option.{option_map}
 use Rattle.std.specs.declared.alloc.Global.{Global}
@@ -13,14 +13,15 @@ use Rattle.script_orders.specs.declared.plan.Planned.{Planned}
 use Rattle.script_orders.proofs.Turning.{turn_of-is}
 use Rattle.script_laws.proofs.Course.{Move, Course}
 
--- a process with its lines, how far it has come, how far it will come by the end of the phase, and its moves until then
+-- a process with its lines, its progress, its progress at the end of the phase, and its moves until
+-- then
 pub record Runner : Type 0 where
   pub program : Vec Planned Global
   pub seat : Progress
   pub end : Progress
   pub moves : List Move
 
--- what stays the same in a play: how many phases there are, and the journal before all of them
+-- what does not change in a play: the number of phases, and the journal before all of them
 pub record Frame : Type 0 where
   pub phases : ℕ
   pub start : Past
@@ -34,7 +35,7 @@ seats_in runners = map (λ (r : Runner). r.seat) runners
 abbrev pub ends_in : List Runner → List Progress
 ends_in runners = map (λ (r : Runner). r.end) runners
 
--- process p is at p - 1
+-- process p is at index p - 1
 abbrev pub staged : Frame → ℕ → Past → List Runner → Stage
 staged frame phase past runners =
     record { programs = programs_in runners; phases = frame.phases; start = frame.start; phase = phase; past = past; seats = seats_in runners }
@@ -64,7 +65,7 @@ get-set-other (z ∷ xs) zero (suc j) y other = refl
 get-set-other (z ∷ xs) (suc i) zero y other = refl
 get-set-other (z ∷ xs) (suc i) (suc j) y other = get-set-other xs i j y (λ e. other (ap (λ (n : ℕ). suc n) e))
 
--- what f cannot tell from what stood there
+-- replacing an element by one with the same value under f does not change the map
 pub map-set-same : {A B : Type 0} (f : A → B) (xs : List A) (i : ℕ) (x y : A) → slice_get xs i ≡ Some x → f y ≡ f x → map f (slice_set xs i y) ≡ map f xs
 map-set-same f [] i x y h e = refl
 map-set-same {A} {B} f (z ∷ xs) zero x y h e =
@@ -77,7 +78,7 @@ map-agree f g [] h = refl
 map-agree {A} {B} f g (x ∷ xs) h =
     ap (λ (b : B). b ∷ map f xs) (h zero x refl) ∙ ap (λ (l : List B). g x ∷ l) (map-agree f g xs (λ i y has. h (suc i) y has))
 
--- a process goes on
+-- one process makes its move
 pub goes-on : (frame : Frame) (phase : ℕ) (past : Past) (runners : List Runner) (i : ℕ) (r : Runner) (turned : Turned) (moves : List Move) → slice_get runners i ≡ Some r → after_turn past phase (i + 1) r.seat r.program ≡ Some turned → next_stage (staged frame phase past runners) i ≡ Some (staged frame phase turned.past (slice_set runners i (gone r turned.progress moves)))
 goes-on frame phase past runners i r turned moves here goes =
     let s : Stage = staged frame phase past runners in

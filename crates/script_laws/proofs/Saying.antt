@@ -1,4 +1,4 @@
--- What is printed of a call's reply is the line of what the call returned.
+-- What is printed for the reply to a call is the line of what the call returned.
 use Rattle.std.proofs.Common.{◌≡◌, ℕ, List, [], ◌∷◌, ◌++◌, length, take, drop, Option, Some, None, Result, Ok, Err, refl, ap, sym, ◌∙◌}
 use Rattle.std.specs.Prelude.{codes}
 use Rattle.std.specs.Fmt.{decimal}
@@ -17,14 +17,14 @@ use Rattle.script_text.specs.Replies.{message_text, outcome_text, reply_line}
 use Rattle.script_text.specs.declared.reply.Outcome.{Outcome}
 use Rattle.script_text.specs.declared.reply.Outcome.TheVariants as outcomes
 
--- what a call says of a reply that it is given, and what is shown of that, is what is printed of it. It says nothing of a reply by
--- which it waits, and each fault
+-- What a call returns for a reply, shown, is what is printed for it. It returns nothing for a reply
+-- by which it waits, and returns each error.
 pub record Tells {A : Type 0} (says : Past → Reply → Option (Result A Fault)) (shows : A → Outcome) (buffer : Past → Reply → List ℕ) : Type 0 where
   pub waits : (past : Past) → says past Waits ≡ None
   pub refuses : (past : Past) (fault : Fault) → says past (Refused fault) ≡ Some (Err fault)
   pub prints : (past : Past) (p : ℕ) (reply : Reply) (result : Result A Fault) → says past reply ≡ Some result → said past p reply ≡ reply_line p (outcome_by shows result) (buffer past reply)
 
--- the line of this outcome, whatever lies in the buffer
+-- the line of this outcome, whatever the buffer holds
 line-is : {A : Type 0} (shows : A → Outcome) (p : ℕ) (bytes buffer : List ℕ) (a b : Result A Fault) → Some a ≡ Some b → bytes ≡ reply_line p (outcome_by shows a) buffer → bytes ≡ reply_line p (outcome_by shows b) buffer
 line-is {A} shows p bytes buffer a b same is =
     let e : a ≡ b = cc in
@@ -95,7 +95,7 @@ send-prints buffer past p (Attrs s) result h = absurd (cc)
 send-prints buffer past p (Notice v) result h = absurd (cc)
 send-prints buffer past p Done result h = absurd (cc)
 
--- a message in the front of a buffer is printed as it is
+-- a message at the start of a buffer is printed unchanged
 pub message-prints : (past : Past) (p place : ℕ) (before : List ℕ) → said_of_message past p place ≡ reply_line p (outcomes.Got (received_at past place)) (with_front (message_at past place) before)
 unfolding with_front
 message-prints past p place before =

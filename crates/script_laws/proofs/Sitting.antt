@@ -1,4 +1,5 @@
--- How the processes of a run sit in the machine at the beginning of a phase, and the courses that their calls of the phase are.
+-- The processes of a run at the beginning of a phase, in the machine, and the courses that their
+-- calls in the phase are.
 use Rattle.std.proofs.Common.{◌≡◌, ℕ, zero, suc, ◌+◌, ◌<◌, ◌≤◌, List, [], ◌∷◌, ◌++◌, length, map, Option, Some, None, slice_get, refl, ap, sym, ◌∙◌, subst, arith, append_assoc, length-append, Vec}
 use Rattle.std.specs.List.{All, AllZip}
 use Rattle.std.specs.Option.{option_map}
@@ -24,7 +25,8 @@ use Rattle.script_laws.proofs.Growth.{AllLeft}
 use Rattle.script_laws.proofs.Moving.{IsAt}
 use Rattle.script_laws.proofs.Runners.{Runner, ends_in, programs_in, seats_in}
 
--- Process p sits at the beginning of a phase with its next line that of the phase. These are the phases from that one on
+-- Process p is at the beginning of a phase, and its next line is of that phase. `phases` are the
+-- phases from that one on.
 pub record Sits (phase : ℕ) (phases : List (List WrittenCall)) (p : ℕ) (program : Vec Planned Global) (seat : Progress) (process : Ticket Record) : Type 0 where
   pub number : process.number ≡ p
   pub unbounded : bounds_in process.lock.fixed ≡ None
@@ -42,7 +44,8 @@ AllSit phase phases p programs seats (process ∷ processes) =
     × (programs ≡ program ∷ more) × (seats ≡ seat ∷ rest)
     × Sits phase phases p program seat process × AllSit phase phases (suc p) more rest processes
 
--- p has a course through the phase, at the end of which it waits for nothing, and its next line is of a later phase
+-- p has a course through the phase, after which it has no open wait, and its next line is of a
+-- later phase
 pub record Through (p phase : ℕ) (past to : Past) (r : Runner) : Type 0 where
   pub course : Course p phase r.program to r.end r.moves past r.seat
   pub free : open_wait to p ≡ None

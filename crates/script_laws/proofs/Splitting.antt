@@ -1,4 +1,4 @@
--- Lists that have grown, taken apart at the items that are a process's own.
+-- Lists that have grown, split at the items of one process.
 use Rattle.std.proofs.Common.{◌≡◌, ℕ, List, [], ◌∷◌, ◌++◌, refl, ap, sym, ◌∙◌, eqb, eq-eqb}
 use Rattle.std.specs.List.{All}
 use Rattle.std.proofs.lemmas.List.Elements.{All-head, All-tail}
@@ -20,11 +20,11 @@ module _ {I : Type 0} (author : I → ℕ) where
       let tail : items_of author p behind ≡ own = cc in
       before-own p own before found behind (All-tail (λ (x : I). author x ≡ p) x own mine) rest tail
 
-  -- what came before a process's own items are items of others
+  -- the items added before a process's own are those of others
   pub grows-before : (p : ℕ) (own before found : List I) → All (λ x. author x ≡ p) own → Grows author p before (own ++ found) own → Grows author p before found []
   grows-before p own before found mine g = before-own p own before found g.behind mine g.is g.mine
 
-  -- where a list has grown by one item of a process
+  -- how a list has grown by one item of a process
   pub record Stands (p : ℕ) (x : I) (before after : List I) : Type 0 where
     pub found : List I
     pub others : Grows author p before found []

@@ -1,4 +1,4 @@
--- A run that comes to a stand: one order of the calls comes to the same stand.
+-- A run that deadlocks: some interleaving of its calls deadlocks in the same way.
 use Rattle.std.proofs.Common.{◌≡◌, ℕ, zero, suc, ◌+◌, true, List, [], ◌∷◌, ◌++◌, length, map, Option, Some, None, slice_get, refl, ap, sym, ◌∙◌, subst, arith, Vec}
 use Rattle.std.specs.List.{All, AllZip, list_all}
 use Rattle.std.specs.declared.alloc.Global.{Global}
@@ -50,7 +50,7 @@ all-grown calls (old ∷ before) [] each = absurd each
 all-grown calls (old ∷ before) (w ∷ worked) each =
     (one-grows w.blocked (calls_of old.number calls) w.completions.items old w.process each.0.ends, all-grown calls before worked each.1)
 
--- how they rest ------------------------------------------------------------------------------------------------------------
+-- where each process is ----------------------------------------------------------------------------------------------------
 
 record OneRests (b : Option ℕ) (p phase : ℕ) (past to : Past) (program : Vec Planned Global) (seat : Progress) : Type 0 where
   end : Progress
@@ -123,7 +123,7 @@ all-blocked n to (w ∷ worked) (t ∷ after) met now all =
     let P : Ticket Record → Type 0 = λ process. list_all (is_blocked process.left) (blocked_processes (w ∷ worked)) ≡ true in
     subst (λ (l : Past). list_all (is_blocked l) (blocked_processes (w ∷ worked)) ≡ true) now.0 (All-head P t after all)
 
--- the stand ----------------------------------------------------------------------------------------------------------------
+-- the deadlock -------------------------------------------------------------------------------------------------------------
 
 last-stands : (journal : Past) (programs : List (Vec Planned Global)) (frame : Frame) (last : List WrittenCall) (later : List (List WrittenCall)) (before : List (Ticket Record)) (lines : List ℕ) (after : List (Ticket Record)) (stand : ComesToAStand last before lines after) →
     All (IsOf (length programs)) journal → AreAmpleEnds last before stand.ended stand.each → AreEnds journal after →
@@ -149,7 +149,7 @@ last-stands journal programs frame last later before lines after stand of ample 
       halted-tells frame phase past to runners worked all.count rest lines stand.are stand.some,
     )
 
--- a run that comes to a stand is told of one order
+-- what is printed for a run that deadlocks is what one interleaving gives
 pub stand-told : (script : Whole) (lines : List ℕ) (old new : Option (List ℕ)) (from : Stage) (stop : StopsInDeadlock script lines old new) → IsAmpleStop stop → Begins script from → ComesToStand from 0 (replies_before stop) lines
 stand-told script lines old new from stop ample begins =
     let s = stop.stops in
@@ -166,7 +166,7 @@ stand-told script lines old new from stop ample begins =
     (last-stands journal from.programs (frame_of from []) s.last s.later s.between lines stop.processes stand of ample.1 ends)
     s.first 0 from tickets s.replies s.ran ample.0 first
 
--- and found where every order was tried
+-- and found if all interleavings were tried
 pub stand-found : (from : Stage) (found : List Witnessed) (n : ℕ) (texts : List (List ℕ)) (lines : List ℕ) → length texts ≡ n → AreAll next_stage stands_still told from found → ComesToStand from 0 texts lines → AreFound found 0 texts × (is_among found (stand_told n lines) ≡ true)
 stand-found from found n texts lines count all comes =
     let f = told-found (Stands lines) from from [] found 0 texts all refl comes in

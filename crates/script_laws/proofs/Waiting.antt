@@ -32,7 +32,7 @@ use Rattle.script_laws.proofs.Splitting.{stands}
 pub record_at-grown : (p k : ℕ) (r : Record) (before after : Past) → Grows author p before after [] → record_at before k ≡ Some r → record_at after k ≡ Some r
 record_at-grown p k r before after g at = ap (λ (past : Past). record_at past k) g.is ∙ record_at-more g.behind before k r at
 
--- a journal that goes on from another is legal only where that is
+-- a journal that extends another is legal only if that one is
 pub legal-behind : (more past : Past) → Legal (more ++ past) → Legal past
 legal-behind [] past legal = legal
 legal-behind (x ∷ more) past legal = legal-behind more past legal.0
@@ -61,7 +61,7 @@ message-line : (past : Past) (p by : ℕ) → said_of_message past p by ≡ line
 unfolding line-of
 message-line past p by = refl
 
--- a receive was given the message of the send that answered it, also as a longer journal has it
+-- a receive returned the message of the send that answered it, and a longer journal says the same
 pub received-prints : (past new : Past) (p by : ℕ) (waiting : Call) (before : List ℕ) → Grows author p past new [] → is_receive waiting ≡ true → Answers past by waiting
     → said_of_collect past p by ≡ reply_line p (outcomes.Got (received_at new by)) (with_front (message_at new by) before)
 received-prints past new p by waiting before g kind answers =
@@ -102,7 +102,7 @@ collect-goes phase program p by waited wait progress found legal next waits at =
 
 -- both moves --------------------------------------------------------------------------------------------------------------
 
--- a wait that began, and the journal that its process then left
+-- a wait that began, and the journal that its process left then
 pub record Begun (phase : ℕ) (program : Vec Planned Global) (p : ℕ) (from : Past) (progress : Progress) (left : Past) (call : Call) (given : List ℕ) : Type 0 where
   pub found : Past
   pub is : left ≡ recorded p call given Waits ∷ found
@@ -133,7 +133,7 @@ told-as : (begun n : ℕ) (text line : List ℕ) (past : Past) (o : Option Turne
 told-as begun n text line past o is count same =
     is ∙ ap (λ (k : ℕ). Some (record { past = past; progress = record { begun = k; text = text } })) count ∙ ap (λ (l : List ℕ). Some (record { past = past; progress = record { begun = n; text = l } })) same
 
--- a wait and its collect are two moves, where this is printed of the collect
+-- a wait and its collect are two moves, if this is printed for the collect
 pub waited-moves : (phase : ℕ) (program : Vec Planned Global) (from : Past) (progress : Progress) (old new : Ticket Record) (call : Call) (given line : List ℕ) (by : ℕ)
     → IsAt old.number from old → IsNext phase program progress.begun (steps.Call call) given → Waited old new call given by
     → ((past : Past) → Grows author old.number past new.left [] → Answers past by call → said_of_collect past old.number by ≡ line)

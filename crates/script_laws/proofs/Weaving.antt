@@ -1,4 +1,4 @@
--- Processes that each have a course through a phase go through it in some order.
+-- If each process has a course through a phase, some interleaving takes them through it.
 use Rattle.std.proofs.Common.{◌≡◌, ◌⊎◌, inl, inr, ℕ, zero, suc, ◌+◌, ◌≤◌, ◌==◌, List, [], ◌∷◌, ◌++◌, length, Option, Some, slice_get, slice_set, refl, ap, sym, ◌∙◌, subst, arith, append_assoc, append-nil, length-set, Vec}
 use Rattle.std.specs.List.{All}
 use Rattle.std.specs.Option.{option_and_then}
@@ -73,7 +73,7 @@ find-eager (r ∷ runners) =
 nothing : (a own b : Past) → [] ≡ (a ++ own) ++ b → own ≡ []
 nothing a own b e = (both-empty a own (both-empty (a ++ own) b (sym e)).0).1
 
--- who is numbered so
+-- the process with this number
 reached : (runners : List Runner) (p : ℕ) → (1 ≤ p) × (p ≤ length runners) → (i : ℕ) × (r : Runner) × (slice_get runners i ≡ Some r) × (p ≡ i + 1)
 reached runners zero bounds = let k : ⊥ = omega (arith, bounds.0) in absurd k
 reached runners (suc i) bounds = let there = there-is runners i (omega (arith, bounds.1)) in (i, there.0, there.1, omega arith)
@@ -81,7 +81,7 @@ reached runners (suc i) bounds = let there = there-is runners i (omega (arith, b
 abbrev pub IsOf : ℕ → Record → Type 0
 IsOf count r = (1 ≤ author r) × (author r ≤ count)
 
--- a process makes its next move where the journal stands, and all others stay on their course
+-- a process makes its next move from this journal, and all others stay on their courses
 record Next (phase : ℕ) (to past : Past) (runners : List Runner) : Type 0 where
   at : ℕ
   runner : Runner
@@ -114,7 +114,7 @@ eager-next phase to past runners on e =
       others = λ j r other has. let P : Past → Type 0 = λ own. Course (j + 1) phase r.program to r.end r.moves (own ++ past) r.seat in subst P (sym e.leaves) (on j r has);
     }
 
--- p, whose record stands right in front of the journal
+-- process i + 1, whose record directly follows the journal
 own-next : (phase : ℕ) (to past : Past) (runners : List Runner) (i : ℕ) (runner : Runner) (ys : Past) (r : Record) → AreOnCourse phase to past runners → AreLater runners → slice_get runners i ≡ Some runner → author r ≡ i + 1 → to ≡ (ys ++ r ∷ []) ++ past → (moves : List Move) → runner.moves ≡ moves → Next phase to past runners
 own-next phase to past runners i runner ys r on later has is at [] e =
     let course : CourseOf i phase to past runner [] = subst (λ (moves : List Move). CourseOf i phase to past runner moves) e (on i runner has) in
@@ -140,7 +140,7 @@ own-next phase to past runners i runner ys r on later has is at (move ∷ moves)
           course-goes-on (i + 1) (j + 1) phase other.program to other.end other.moves past other.seat first.0 move.own apart course.0.mine more (later j other there) (on j other there);
     }
 
--- where the journal is the one led to, and each next move leaves a record
+-- if this is the last journal, and each next move adds a record
 no-more : (phase : ℕ) (to past : Past) (runners : List Runner) → AreOnCourse phase to past runners → AreLater runners → to ≡ past → (i : ℕ) (r : Runner) → slice_get runners i ≡ Some r → (moves : List Move) → r.moves ≡ moves → r.moves ≡ []
 no-more phase to past runners on later at i r has [] e = e
 no-more phase to past runners on later at i r has (move ∷ moves) e =
@@ -171,7 +171,7 @@ abbrev moves_left : List Runner → ℕ
 moves_left [] = 0
 moves_left (r ∷ runners) = length r.moves + moves_left runners
 
--- the phase as all processes end it
+-- the stage after the phase
 abbrev pub ended : Frame → ℕ → Past → List Runner → Stage
 ended frame phase to runners =
     record { programs = programs_in runners; phases = frame.phases; start = frame.start; phase = phase; past = to; seats = ends_in runners }
@@ -201,7 +201,7 @@ all-ended frame phase to past runners on all =
     in
     ([], ap (λ (past : Past). made past (seats_in runners)) all.here ∙ ap (λ (seats : List Progress). made to seats) seats)
 
--- after the next move all are on their course
+-- after the next move all are on their courses
 next-on : (phase : ℕ) (to past : Past) (runners : List Runner) → AreOnCourse phase to past runners → (n : Next phase to past runners) → AreOnCourse phase to (n.move.own ++ n.move.found) (slice_set runners n.at (gone n.runner n.move.next n.moves))
 next-on phase to past runners on n i r has =
     split (i == n.at)
@@ -237,7 +237,7 @@ then-weaves frame phase to past runners on n rest =
           ∙ ap (λ (seats : List Progress). made (programs_in runners) seats) (map-set-same (λ (r : Runner). r.end) runners n.at n.runner (gone n.runner n.move.next n.moves) n.has refl))),
     )
 
--- what is left behind the next move
+-- what is added after the next move
 next-behind : (phase : ℕ) (to past : Past) (runners : List Runner) (behind : Past) → AreOnCourse phase to past runners → to ≡ behind ++ past → All (IsOf (length runners)) behind → (n : Next phase to past runners) →
     (more : Past) × (to ≡ more ++ (n.move.own ++ n.move.found)) × All (IsOf (length (slice_set runners n.at (gone n.runner n.move.next n.moves)))) more
 next-behind phase to past runners behind on at of n =

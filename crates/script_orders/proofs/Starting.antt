@@ -58,7 +58,7 @@ goes-again past k r legal is =
     let both : Legal (r ∷ first k past) = rw is at (legal-first past (k + 1) legal) in
     made-again (first k past) r both.1 ∙ ap (λ (journal : Past). Some journal) (sym is)
 
--- the trail of the first calls goes on, and cannot stop there
+-- the trail of the first calls continues, and cannot stop there
 pub goes-on : (past trail new : Past) (k : ℕ) (r : Record) → Legal past → trail ≡ first k past → first (k + 1) past ≡ r ∷ first k past → with_call trail r.entry.process r.entry.call r.payload ≡ Some new → new ≡ first (k + 1) past
 goes-on past trail new k r legal here is step =
     let again : with_call trail r.entry.process r.entry.call r.payload ≡ Some (first (k + 1) past) =

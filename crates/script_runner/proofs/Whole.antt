@@ -19,7 +19,7 @@ whole-of script mq before replies journal count unbounded are runs = record {
   grows = runs.grows;
 }
 
--- the processes of a system that goes on from a journal
+-- the processes of a system that continues from a journal
 pub begin-after : (mq : LockId) (past : Past) (m n : ℕ) (before : List (Ticket Record)) → before ≡ tickets_with mq past 1 m → m ≡ n → before ≡ tickets_with mq past 1 n
 begin-after mq past m n before are same = are ∙ ap (λ (k : ℕ). tickets_with mq past 1 k) same
 
