@@ -27,8 +27,7 @@ pub struct Races<'r> {
     pub steps: &'r [Step],
     /// The threads that are parked at the end.
     pub left: &'r [Parked],
-    /// Whether the run ended by itself, and not because all threads that could go on were in the
-    /// sleep set.
+    /// False if the run ended because all threads that could go on were in the sleep set.
     pub is_whole: bool,
 }
 

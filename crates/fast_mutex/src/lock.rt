@@ -164,9 +164,9 @@ pub trait Lock<S: Logged>: Sized + Drop {
 /// Polling from outside the critical section, by one load, whether the wait of a seat's process is
 /// answered. It never waits.
 pub trait Look<S: Logged>: Lock<S> {
-    /// One poll. If it returns true, the seat is told so. After one poll returned true, every poll
-    /// does until the next critical section of the process. A poll also returns true if the list
-    /// that the process last left answers its wait.
+    /// One poll. If it returns true, the ticket of the seat records that (`told`), and every later
+    /// poll returns true until the next critical section of the process. A poll also returns true
+    /// if the list that the process last left answers its wait.
     fn answered(&self, seat: &mut Self::Seat) -> bool
         requires { (Self.ticket seat.old).lock ≡ Self.id self.now }
         ensures ticket { Self.ticket seat.new ≡

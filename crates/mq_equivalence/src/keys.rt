@@ -22,9 +22,9 @@ pub fn keys_tell()
 
 /// The key of the state that a journal leaves: its queues with their names, limits, messages, waits
 /// and registrations; and for each process its wait with what answered it, its notices and its
-/// descriptors. It reads the journal a few times for each queue and each descriptor, and for each
-/// message and wait that is left once more, back to the open of its descriptor. Fails if memory was
-/// refused.
+/// descriptors. It reads the journal a few times for each queue and each descriptor. For each
+/// message and each wait that is left it reads it once more, back to the open of the descriptor.
+/// Fails if memory was refused.
 pub fn key_of(alloc: Global, journal: &Journal) -> Result<Vec<u64>, AllocError>
     ensures { IfOk result (λ k. k.items ≡ key_of journal.now.records) }
 {
