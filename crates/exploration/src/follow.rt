@@ -231,7 +231,7 @@ pub fn is_local(step: &Step) -> bool {
     }
 }
 
-// The index of the step that let the step at `place` go on: the last one before which its thread
+// The index of the step that let the step at index `place` go on: the last one before which its thread
 // was parked and could not go on.
 fn cause_of(steps: &[Step], place: usize, thread: u32) -> Option<usize> {
     for k in (0..place).rev() {
@@ -250,7 +250,7 @@ fn cause_of(steps: &[Step], place: usize, thread: u32) -> Option<usize> {
     None
 }
 
-/// What the step at a place did.
+/// What the step at index `place` did.
 pub fn deed_of(
     alloc: Global,
     rules: Rules,

@@ -115,7 +115,7 @@ impl Plan {
         }
     }
 
-    // What is known about the node at a place, given the events before it.
+    // What is known about the node at index `place`, given the events before it.
     fn advice_at(&self, alloc: Global, steps: &[Step], place: usize) -> Result<Advice, AllocError> {
         let before = place.checked_sub(1);
         let (Some(advice), Some(event), Some(step)) = (
@@ -205,7 +205,7 @@ impl Plan {
         races.find(alloc, &mut self.advices)
     }
 
-    // Whether the run made the same step at a place as the one before it.
+    // Whether the run made the same step at index `place` as the run before it.
     fn is_same(&self, place: usize, deed: &Deed) -> bool {
         match self.events.get(place) {
             Some(event) => event.deed.choice == deed.choice && event.deed.kind == deed.kind,
@@ -213,8 +213,8 @@ impl Plan {
         }
     }
 
-    /// Takes in the steps of a run whose first `asked` choices were given. Returns the number of
-    /// places at which the search may choose another step.
+    /// Learns from the steps of a run whose first `asked` choices were given. Returns how many steps,
+    /// from the first one on, the search may replace by others.
     pub fn learn(
         &mut self,
         alloc: Global,
@@ -248,7 +248,7 @@ impl Plan {
         Ok(trace.steps.len())
     }
 
-    /// Takes in a whole run without given choices.
+    /// Records the events of a whole run without given choices.
     pub fn learn_order(
         &mut self,
         alloc: Global,

@@ -35,7 +35,7 @@ pub struct Races<'r> {
 #[derive(Clone, Copy, Debug)]
 struct Overtaking {
     thread: u32,
-    /// The events between the two steps end before this place.
+    /// The events between the two steps end before this index.
     end: usize,
     /// The index of the step that races, if it was made.
     made: Option<usize>,
@@ -46,7 +46,7 @@ fn is_same(a: &Parked, b: &Parked) -> bool {
 }
 
 impl Races<'_> {
-    // The threads that are parked after the step at a place and the local steps that follow it.
+    // The threads that are parked after the step at index `place` and the local steps after it.
     fn parked_after(&self, place: usize) -> &[Parked] {
         for i in place.saturating_add(1)..self.steps.len() {
             if !is_local(&self.steps[i]) {
@@ -56,7 +56,7 @@ impl Races<'_> {
         self.left
     }
 
-    // Whether a thread makes one of the local steps after a place, of this kind if one is given.
+    // Whether a thread makes one of the local steps after index `place`, of this kind if one is given.
     fn goes_on_after(&self, place: usize, thread: u32, kind: Option<Kind>) -> bool {
         for i in place.saturating_add(1)..self.steps.len() {
             let step = &self.steps[i];
@@ -268,7 +268,7 @@ impl Races<'_> {
         Ok(())
     }
 
-    // Asks for a run in which a thread comes before the event at a place: adds a choice there that
+    // Asks for a run in which a thread comes before the event at index i: adds a choice there that
     // leads to it.
     fn ask(
         &self,
@@ -297,7 +297,7 @@ impl Races<'_> {
         advice.want(first)
     }
 
-    // Adds a thread at a place, or if it cannot go on there, all that can.
+    // Adds a thread at index i, or if it cannot go on there, all that can.
     fn ask_at(&self, advices: &mut [Advice], i: usize, thread: u32) -> Result<(), AllocError> {
         let (Some(advice), Some(step)) = (advices.get_mut(i), self.steps.get(i)) else {
             return Ok(());
@@ -308,7 +308,7 @@ impl Races<'_> {
         }
     }
 
-    // The place at which the thread of an event was last switched to.
+    // The index at which the thread of an event was last switched to.
     fn first_of_block(&self, i: usize) -> usize {
         let mut first = i;
         let Some(event) = self.events.get(i) else {
@@ -327,7 +327,7 @@ impl Races<'_> {
         first
     }
 
-    // The places after i and before `end` whose events do not come after the event i.
+    // The indices after i and before `end` whose vector clocks do not have the event i.
     fn apart(&self, alloc: Global, i: usize, end: usize) -> Result<Vec<usize>, AllocError> {
         let mut apart = Vec::new(alloc);
         if let Some(event) = self.events.get(i) {
@@ -342,7 +342,7 @@ impl Races<'_> {
         Ok(apart)
     }
 
-    // The threads that can go on at the place and whose event can come first of all these, with the
+    // The threads that can go on at index i and whose event can come first of all these, with the
     // one that overtakes.
     fn firsts(
         &self,
@@ -389,7 +389,7 @@ impl Races<'_> {
         }
     }
 
-    // Whether none of the events at those places before `below` comes before a clock.
+    // Whether none of the events at those indices before `below` comes before a clock.
     fn is_first(&self, apart: &[usize], below: usize, clock: &Clock) -> bool {
         !apart.iter().any(|g| *g < below && self.is_in(clock, *g))
     }

@@ -13,7 +13,7 @@ use crate::request::Request;
 use crate::trace::Room;
 use std::alloc::{AllocError, Global};
 
-/// A place in a run at which the search may choose another step than the last run took.
+/// A point in a run at which the search may choose another step than the last run took.
 #[derive(Debug, Drop)]
 pub struct Node {
     /// The choices that lead to it.
@@ -109,7 +109,7 @@ fn push_choice(choices: &mut Vec<Choice>, choice: Choice) -> Result<(), AllocErr
     Ok(())
 }
 
-// Appends the nodes of the steps from a place on.
+// Appends the nodes of the steps from index `from` on.
 fn add_nodes(
     alloc: Global,
     limits: Limits,
