@@ -10,8 +10,8 @@ use std::fmt;
 /// Why a journal was not read.
 #[derive(Clone, Copy, Debug, PartialEq, Eq)]
 pub enum JournalFault {
-    /// This line, counted from 1, is the first that is not the line of an entry at its place, or of
-    /// a call of a history. A line of an input may also be too long for one.
+    /// This line, counted from 1, is the first that is not the line of an entry with the next
+    /// sequence number, or of a call of a history. A line of an input may also be too long for one.
     BadLine(u64),
     /// A read failed, with whatever error. An interrupted read is not tried again.
     Input,

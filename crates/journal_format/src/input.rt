@@ -18,8 +18,8 @@ use std::io::Read;
 /// line feed.
 ///
 /// - `JournalFault::BadLine`: this line, counted from 1, is the first that is not the line of an
-///   entry at its place, or it has no line feed within `MOST_LINE` bytes. No read was made after
-///   those that returned it.
+///   entry with the next sequence number, or it has no line feed within `MOST_LINE` bytes. No read
+///   was made after those that returned it.
 /// - `JournalFault::Input`: a read failed.
 pub fn read_input<R: Read>(alloc: Global, input: &mut R) -> Result<Journal, JournalFault>
     ensures found { (all : List ℕ) → R.remaining input.old ≡ Some all →

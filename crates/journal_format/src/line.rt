@@ -14,7 +14,7 @@ use percent_encoding::percent_decode;
 use std::alloc::{AllocError, Global};
 use text_io::words::words;
 
-/// The line of an entry with its payload, at a place of a journal.
+/// The line of an entry with this sequence number, and of its payload.
 #[tactic(auto, using(crate::proofs::Parts::line_parts))]
 pub fn line_of(
     alloc: Global,
@@ -51,8 +51,8 @@ fn entry_of<'s>(words: &[&'s [u8]]) -> Option<(Entry, &'s [u8])>
     Some((entry, quoted))
 }
 
-/// The entry and its payload, if this is the line of one at this place of a journal. The line ends
-/// with its line feed.
+/// The entry and its payload, if this is the line of an entry with this sequence number. The line
+/// ends with its line feed.
 pub fn read_line(
     alloc: Global,
     place: u64,

@@ -47,7 +47,8 @@ fn push_line(
 }
 
 /// The journal with this text. `JournalFault::BadLine`: this line, counted from 1, is the first
-/// that is not the line of an entry at its place. A last line without a line feed is not a line.
+/// that is not the line of an entry with the next sequence number. A last line without a line feed
+/// is not a line.
 pub fn read_journal(alloc: Global, text: &[u8]) -> Result<Journal, JournalFault>
     // The text of the journal that is read is this one.
     ensures found { IfOk result (λ journal. AllFit journal.records ×
@@ -68,7 +69,7 @@ pub fn read_journal(alloc: Global, text: &[u8]) -> Result<Journal, JournalFault>
 
 /// Parses the lines at the start of a text, appends them to a journal, and returns what follows the
 /// last line feed. `JournalFault::BadLine`: this line, counted from the start of the journal, is
-/// the first that is not the line of an entry at its place, whatever follows.
+/// the first that is not the line of an entry with the next sequence number, whatever follows.
 pub fn read_lines<'t>(
     alloc: Global,
     journal: &mut Journal,

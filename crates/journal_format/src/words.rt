@@ -71,7 +71,7 @@ pub fn limits_of<'w, 's>(words: &'w [&'s [u8]]) -> Option<(Option<Attr>, &'w [&'
     }
 }
 
-/// This label, and then a place; or none if the next word is another.
+/// This label, and then a sequence number; or none if the next word is another.
 #[tactic(auto, unfolding(crate::specs::Reading::place_at))]
 pub fn place_of<'w, 's>(
     label: &'static [u8],

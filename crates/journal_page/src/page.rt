@@ -9,8 +9,8 @@ use mq_model::journals::Journal;
 use std::alloc::{AllocError, Global};
 
 /// A page: the head of a template, the line of the state before, the lines of `count` entries from
-/// the place `from` on, and the tail of the template. Each `<` in a line is escaped, so that no
-/// line ends the element that it is in.
+/// sequence number `from` on, and the tail of the template. Each `<` in a line is escaped, so that
+/// no line ends the element that it is in.
 pub(crate) fn page_of(
     alloc: Global,
     before: &[u8],
@@ -70,7 +70,7 @@ fn push_lines(
     Ok(())
 }
 
-// Appends the line of the entry at a place.
+// Appends the line of entry `place`.
 #[tactic(auto, unfolding(crate::specs::Page::last_line), using(mq_model::proofs::Prefixes::prefixes))]
 fn push_line(
     alloc: Global,

@@ -44,7 +44,7 @@ pub enum Unviewed {
     Output,
 }
 
-// The first place from `from` to `to`, both included, and the number of entries there.
+// The first sequence number from `from` to `to`, both included, and the number of entries there.
 fn cut(from: u64, to: u64, journal: &Journal) -> (u64, u64)
     ensures first { result.0 ≡ first_viewed from to (length journal.now.records) }
     ensures count { result.1 ≡ count_viewed from to (length journal.now.records) }

@@ -49,7 +49,7 @@ g.refused{fill:#c0392b}\
 </defs>
 ";
 
-/// A picture of a journal in SVG, with `count` entries from the place `from` on.
+/// A picture of a journal in SVG, with `count` entries from sequence number `from` on.
 pub fn picture_of(
     alloc: Global,
     journal: &Journal,
@@ -236,7 +236,7 @@ fn push_entries(
     Ok(())
 }
 
-// Appends the entry at a place.
+// Appends entry `place`.
 #[tactic(auto, unfolding(crate::specs::Picture::last_text), using(mq_model::proofs::Prefixes::prefixes))]
 fn push_entry(
     alloc: Global,

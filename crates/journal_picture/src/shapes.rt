@@ -24,7 +24,7 @@ pub struct Stroke {
     pub y2: u64,
 }
 
-/// The arrow of a message, with the send at the place `sent`.
+/// The arrow of a message, whose send has the sequence number `sent`.
 #[derive(Clone, Copy, Debug, PartialEq, Eq)]
 pub struct Flight {
     pub stroke: Stroke,
@@ -49,7 +49,7 @@ pub fn depth(k: u64) -> u64
     (k + k / 50) * 16 + 60
 }
 
-/// The y coordinate of a place, in a picture that starts at the place `from`.
+/// The y coordinate of entry `place`, in a picture that starts with entry `from`.
 pub fn row(from: u64, place: u64) -> u64
     requires { place - from < 2 ^ 32 }
     ensures row { result ≡ row from place }

@@ -24,7 +24,7 @@ use text_io::output::write_all;
 /// Why there is no short journal.
 #[derive(Clone, Copy, Debug, PartialEq, Eq)]
 pub enum NoShort {
-    /// The entry at this place is the first that is not legal.
+    /// The entry with this sequence number is the first that is not legal.
     Illegal(u64),
     /// A process has not collected a wait that is served.
     Served,

@@ -14,14 +14,14 @@ use mq_state::replay::Misfit;
 use std::alloc::{AllocError, Global};
 use std::fmt;
 
-/// Why no script can continue from a journal. Entries are counted from 0, as in its lines.
+/// Why no script can continue from a journal.
 #[derive(Clone, Copy, Debug, PartialEq, Eq)]
 pub enum NoStart {
-    /// The entry at this place is the first that is not legal.
+    /// The entry with this sequence number is the first that is not legal.
     Illegal(u64),
-    /// The entry at this place is of a process that the script does not have.
+    /// The entry with this sequence number is of a process that the script does not have.
     Foreign(u64),
-    /// The entry at this place waits, and its process has not ended the wait.
+    /// The entry with this sequence number waits, and its process has not ended the wait.
     Waits(u64),
 }
 
@@ -69,7 +69,7 @@ pub fn start_after(
     }
 }
 
-// The place of an open wait: that of the lowest of the processes 1 to n that has one.
+// The sequence number of an open wait: that of the lowest of the processes 1 to n that has one.
 fn first_wait(journal: &Journal, n: u32) -> Option<u64>
     requires few { n ≤ 32 }
     requires legal { Legal journal.now.records }
@@ -84,7 +84,7 @@ fn first_wait(journal: &Journal, n: u32) -> Option<u64>
     None
 }
 
-// The place of the open wait of a process: its last entry, if that waits.
+// The sequence number of the open wait of a process: that of its last entry, if that waits.
 fn open_wait(journal: &Journal, p: u32) -> Option<u64>
     ensures { result ≡ open_wait journal.now.records p }
 {

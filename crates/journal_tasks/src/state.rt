@@ -34,7 +34,7 @@ pub const LAST: Wanted = Wanted {
 pub enum NoState {
     /// It has only this number of entries.
     Beyond(u64),
-    /// The entry at this place is the first that is not legal.
+    /// The entry with this sequence number is the first that is not legal.
     Illegal(u64),
 }
 

@@ -81,7 +81,7 @@ fn cause_text(alloc: Global, cause: Cause) -> Result<String, AllocError>
     }
 }
 
-// The line of the entry at a place.
+// The line of the entry with this sequence number.
 fn line_at(alloc: Global, journal: &Journal, place: u64) -> Result<String, AllocError>
     requires { place < length journal.now.records }
     ensures { IfOk result (λ line. string_bytes line ≡

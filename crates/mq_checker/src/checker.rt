@@ -53,8 +53,8 @@ fn is_legal_at(journal: &Journal, k: u64, tables: &Tables) -> bool
 
 /// Checks that a journal is legal: the number of each process is 1 to 32, each call is allowed, its
 /// reply is the one that the calls before it determine, and its payload is well-formed. `Err` has
-/// the first place at which this is not so. It takes no memory, and time in the square of the
-/// journal's length.
+/// the sequence number of the first entry of which this is not true. It takes no memory, and time
+/// in the square of the journal's length.
 pub fn check_history(journal: &Journal) -> Result<(), u64>
     ensures legal { IsOk result ↔ Legal journal.now.records }
     ensures first_illegal { IfErr result (IsFirstIllegal journal.now.records) }

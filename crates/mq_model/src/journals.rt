@@ -153,7 +153,7 @@ impl Journal {
         self.bytes.len() as u64
     }
 
-    /// The entry at a place, or `None` if there is none.
+    /// The entry with the sequence number `place`, or `None` if there is none.
     #[inline(always)]
     pub fn entry(&self, place: u64) -> Option<Entry>
         ensures { result ≡ option_map (λ r. r.entry) (record_at self.now.records place) }
@@ -165,7 +165,7 @@ impl Journal {
         Some(entry_of(&self.apart, s))
     }
 
-    /// The payload of the entry at a place, or `None` if there is none.
+    /// The payload of entry `place`, or `None` if there is none.
     #[inline(always)]
     pub fn payload(&self, place: u64) -> Option<&[u8]>
         ensures { option_map (λ p. p.now) result ≡ option_map (λ r. r.payload)
@@ -178,7 +178,7 @@ impl Journal {
         Some(&self.bytes[s.start..s.end])
     }
 
-    /// The entry at a place with its payload.
+    /// Entry `place` with its payload.
     pub fn record(&self, place: u64) -> (Entry, &[u8])
         requires { place < length self.now.records }
         ensures { first (place + 1) self.now.records ≡

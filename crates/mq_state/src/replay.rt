@@ -31,7 +31,7 @@ pub enum Cause {
     Reply(Reply),
 }
 
-/// The first place at which a journal is not legal, and why.
+/// The sequence number of the first entry that is not legal, and why.
 #[derive(Clone, Copy, Debug, PartialEq, Eq)]
 pub struct Departure {
     pub place: u64,

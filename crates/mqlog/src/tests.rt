@@ -129,7 +129,7 @@ static TURNED: [&str; 6] = [
     "ENOSPC",
 ];
 
-// The text of a journal whose entry at this place has another reply.
+// The text of a journal whose entry with this sequence number has another reply.
 fn turned(alloc: Global, text: &str, place: usize, reply: &str) -> Result<Vec<u8>, AllocError> {
     let mut all = Vec::new(alloc);
     for (at, line) in text.lines().enumerate() {
@@ -147,7 +147,7 @@ fn turned(alloc: Global, text: &str, place: usize, reply: &str) -> Result<Vec<u8
     Ok(all)
 }
 
-// The place at which a journal is not legal.
+// The sequence number of the first entry that is not legal.
 fn place_of(outcome: Result<Verdict, LogFault>) -> Option<u64> {
     match outcome {
         Ok(Verdict::Illegal(departure)) => Some(departure.place),

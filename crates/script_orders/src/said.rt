@@ -36,7 +36,7 @@ pub fn push_said(
     }
 }
 
-// Appends the text for a receive of the message that was sent at a place.
+// Appends the text for a receive of the message that the entry at `place` sent.
 fn push_message(
     alloc: Global,
     text: &mut Vec<u8>,
@@ -60,7 +60,7 @@ fn push_message(
     )
 }
 
-// Appends the text for a wait that the entry at a place answered.
+// Appends the text for a wait that the entry at `place` answered.
 fn push_collected(
     alloc: Global,
     text: &mut Vec<u8>,

@@ -300,7 +300,7 @@ where
 }
 
 // Writes that the history is ok if the journal is legal. Otherwise writes nothing, and returns the
-// first place that is not legal.
+// sequence number of the first entry that is not legal.
 fn write_last_line<W: Write>(
     output: &mut W,
     alloc: Global,
