@@ -47,7 +47,7 @@ not_small b large = elim (cases_Bool (ltb b 33)) [
   | inr other ↦ grind (arith, nat_tests)
 ]
 
--- what is so of each number below n
+-- what holds of each number below n
 abbrev each_below : ℕ → (ℕ → Bool) → Bool
 each_below zero p = true
 each_below (suc n) p = p n && each_below n p

@@ -1,4 +1,4 @@
--- The calls of a script as those of a history, one more after the others.
+-- The calls of a script as those of a history, by induction on their number.
 use Rattle.std.specs.Option.{option_map}
 use Rattle.std.proofs.lemmas.Option.{slice_get_within}
 use Rattle.std.proofs.Common.{Bool, true, false, Option, Some, None, is_some, ◌≤◌, slice_get, if◌then◌else◌, ◌≡◌, ◌<◌, ◌+◌, ◌++◌, ◌∙◌, ℕ, zero, suc, List, [], ◌∷◌, refl, ap, arith, sym, subst, length, get_or, append_assoc, append-nil, inl, inr, add-one}

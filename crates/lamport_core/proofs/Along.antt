@@ -1,5 +1,5 @@
--- For a crate that keeps the words and the points in a way of its own: the condition speaks only of the values,
--- and one process can be moved, or its flag set, in a function.
+-- For a crate that stores the words and the points in another form: the invariant depends only on
+-- the values, and one process can be moved, or its flag set, in a function.
 use Rattle.std.proofs.Common.{◌≡◌, ℕ, Bool, cond, refl, sym, ap, ◌∙◌, subst, inl, inr}
 use Rattle.std.proofs.lemmas.Bool.{cases_eq, eq-eqb, ne_eqb}
 use Rattle.lamport_core.specs.State.{IsInsidePoint}

@@ -69,7 +69,7 @@ module _ {old stay : Ticket Record} {system : LockId} {books : Kept} {p : ℕ} w
   pub came-bounds : Came old system stay books p → old.lock ≡ system → books.bounds ≡ bounds_of old
   came-bounds c lock = c.bounds ∙ ap (λ (l : LockId). bounds_in l.fixed) (sym lock)
 
-  -- the journal that it found, and that the bounds heeded there are those of its system
+  -- the journal that it found, whose bounds are those of its system
   pub came-found : {records : Past} (call : Call) (given : List ℕ) (reply : Reply) → Came old system stay books p → old.lock ≡ system → records ≡ made p call given reply ++ books.records → HeedsBounds books.bounds books.records p call given reply
       → Found old (record { lock = system; number = stay.number; left = records; told = false }) call given reply
   came-found call given reply c lock is heeds = grind (arith, came-bounds)

@@ -72,7 +72,7 @@ pushed-latest cells levels free count room at prio place push =
     messages-filled relinked free (record { prio = prio; place = place; next = next_at cells before }) within (omega arith) push.low below
     ∙ ap (λ (ms : List (ℕ × ℕ)). (prio, place) ∷ ms) same
 
--- a pop leaves the others as they stood
+-- a pop does not change the others
 pub popped-without : (cells : List Cell) (levels : List Level) (free count room : ℕ) → IsPop cells levels free count room
     → messages (unlinked cells (next_at cells 0) free count) ≡ without (place_at cells (next_at cells 0)) (messages cells)
 popped-without cells levels free count room pop =

@@ -28,7 +28,7 @@ pub record IsNew (n : ℕ) (p t : ℕ → ℕ) (new q s : ℕ) : Type 0 where
   pub place : s < span
   pub newest : (j : ℕ) → j < n → p j < 32768 → t j < s
 
--- a lesser place goes first, unless its priority is lower
+-- a smaller sequence number goes first, unless its priority is lower
 order_of : (a s x q : ℕ) → a < s → s < span → (a + span * q < s + span * x → ⊥) → s + span * x < a + span * q
 order_of a s x q less bound not = elim (cases_lt (a + span * q) (s + span * x)) [ inl h ↦ absurd (not h) | inr h ↦ elim (cases_lt x q) [ inl l ↦ omega arith | inr g ↦ omega arith ] ]
 
@@ -62,7 +62,7 @@ reaches n p t nx before q s old place i il apart ip order =
           (low, omega arith))
     ]
 
--- the used slots have places of their own
+-- the used slots have different sequence numbers
 distinct-linked : (n : ℕ) (p t nx p' t' nx' : ℕ → ℕ) (before new q s : ℕ) → IsChained n p t nx → Linked p t nx p' t' nx' before new q s → IsNew n p t new q s
     → (i j : ℕ) → i < n → j < n → p' i < 32768 → p' j < 32768 → t' i ≡ t' j → i ≡ j
 distinct-linked n p t nx p' t' nx' before new q s old step fresh i j il jl ip jp e =
@@ -92,7 +92,7 @@ distinct-linked n p t nx p' t' nx' before new q s old step fresh i j il jl ip jp
           ])
     ]
 
--- the new slot leads on to what came after `before`
+-- the new slot links to what came after `before`
 next_from_new : (n : ℕ) (p t nx p' t' nx' : ℕ → ℕ) (before new q s : ℕ) → IsChained n p t nx → Linked p t nx p' t' nx' before new q s → IsBefore n p t before q s → IsNew n p t new q s
     → (j : ℕ) → j < n → j ≢ new → p' j < 32768 → t' new + span * p' j < t' j + span * p' new → IsNext n p' t' new j (nx' new)
 next_from_new n p t nx p' t' nx' before new q s old step place fresh j jl other jp order =
@@ -115,7 +115,7 @@ next_from_new n p t nx p' t' nx' before new q s old step place fresh j jl other 
     let near_j = o.nearest in
     subst (λ x. IsNext n p' t' new j x) (sym step.new_nx) (record { within = o.within; used = omega arith; after = omega arith; nearest = omega arith })
 
--- `before` leads on to the new slot
+-- `before` links to the new slot
 next_to_new : (n : ℕ) (p t nx p' t' nx' : ℕ → ℕ) (before new q s : ℕ) → IsChained n p t nx → Linked p t nx p' t' nx' before new q s → IsBefore n p t before q s → IsNew n p t new q s
     → (j : ℕ) → j < n → p' j < 32768 → t' before + span * p' j < t' j + span * p' before → IsNext n p' t' before j (nx' before)
 next_to_new n p t nx p' t' nx' before new q s old step place fresh j jl jp order =
@@ -137,7 +137,7 @@ next_to_new n p t nx p' t' nx' before new q s old step place fresh j jl jp order
     ] in
     subst (λ x. IsNext n p' t' before j x) (sym step.before_nx) (record { within = fresh.within; used = omega arith; after = omega arith; nearest = near })
 
--- another slot leads on as it did
+-- the link of another slot does not change
 next_as_before : (n : ℕ) (p t nx p' t' nx' : ℕ → ℕ) (before new q s : ℕ) → IsChained n p t nx → Linked p t nx p' t' nx' before new q s → IsBefore n p t before q s → IsNew n p t new q s
     → (i j : ℕ) → i < n → j < n → i ≢ new → i ≢ before → p' i ≤ 32768 → p' j < 32768 → t' i + span * p' j < t' j + span * p' i → IsNext n p' t' i j (nx' i)
 next_as_before n p t nx p' t' nx' before new q s old step place fresh i j il jl apart_new apart ip jp order =

@@ -7,7 +7,7 @@ use Rattle.mq_slots.specs.Cells.{cell_at, IsFresh}
 use Rattle.mq_slots.specs.Messages.{messages}
 use Rattle.mq_slots.specs.Sound.{prio_at, place_at, next_at, IsSound}
 
--- a spare slot of fresh ones
+-- a spare slot among new ones
 record IsSpare (cells : List Cell) (i : ℕ) : Type 0 where
   pub prio : prio_at cells i ≡ 32769
   pub place : place_at cells i ≡ i

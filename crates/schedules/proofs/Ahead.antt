@@ -1,4 +1,4 @@
--- What a search has ahead of it: the choices that are left at the nodes of its path.
+-- What remains for a search: the choices that are left at the nodes of its path.
 use Rattle.std.proofs.Common.{◌≡◌, ℕ, ◌+◌, ◌<◌, ◌≤◌, inl, inr, Bool, true, false, List, [], ◌∷◌, ◌++◌, Option, Some, None, IsSome, refl, subst, sym, ap, ◌∙◌}
 use Rattle.std.proofs.lemmas.Bool.{cases_lt}
 use Rattle.std.specs.Option.{option_and_then}
@@ -19,7 +19,7 @@ pub record IsLevel {S : Type 0} (next : S → ℕ → Option S) (IsKey : S → L
 abbrev pub AreLevels : {S : Type 0} → (S → ℕ → Option S) → (S → List ℕ → Type 0) → List ℕ → List Level → S → Type 0
 AreLevels next IsKey path levels s = AreAlong next (IsLevel next IsKey) path levels s
 
--- choices that can't be taken are passed over
+-- choices that cannot be taken are skipped
 pub covered-skips : {S : Type 0} (next : S → ℕ → Option S) (is_goal : S → Bool) (path : List ℕ) (low high : ℕ) (s now : S) →
     after next path s ≡ Some now → ((choice : ℕ) → low ≤ choice → choice < high → next now choice ≡ None) →
     Covered next is_goal (path ++ low ∷ []) s → Covered next is_goal (path ++ high ∷ []) s

@@ -23,7 +23,7 @@ IsOf mq process = process.lock ≡ mq
 abbrev Looks : Ticket Record → Ticket Record → Type 0
 Looks before after = Calls before after []
 
--- the processes that looked are of the same system
+-- processes that polled are of the same system
 pub look-made : (mq : LockId) (old new : List (Ticket Record)) → AllLook old new → All (λ process. process.lock ≡ mq) old → All (λ process. process.lock ≡ mq) new
 look-made mq old new looked made = zip-all Looks (IsOf mq) (IsOf mq) (λ a b looks of. looks.lock ∙ of) old new looked made
 
@@ -42,11 +42,11 @@ met-ready mq shares workers after off ready met =
     zip-all (FindsLength met.n) (IsReady mq) (IsReady mq) (λ a b found is. record { made = found.calls.lock ∙ is.made; free = rw found.calls.number (wait-grown found.calls.grows ∙ is.free) }) (map (λ worked. worked.process) workers) after met.found
     (all-ready mq shares workers off ready)
 
--- as many come back
+-- the same number of processes comes back
 pub met-count : (old new : List (Ticket Record)) → Meet old new → length new ≡ length old
 met-count old new met = AllZip-long (FindsLength met.n) old new met.found
 
--- a process that found a length looked
+-- a process that found a length polled
 pub found-looks : (n : ℕ) (old new : List (Ticket Record)) → AllZip (FindsLength n) old new → AllLook old new
 found-looks n old new found = zip-weaker (FindsLength n) Looks (λ a b finds. finds.calls) old new found
 

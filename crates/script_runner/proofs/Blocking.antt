@@ -29,7 +29,7 @@ send-blocks start waits later = waits-later (rw (send-waits start.reply (Ok fals
 pub receive-blocks : {old mid new : Ticket Record} {call : Call} {before between : List ℕ} → ReceiveCall start_receive_says old mid call before between (Ok None) → WaitsIn mid call → Calls mid new [] → WaitsFor old new call []
 receive-blocks {mid = mid} start waits later = waits-later (rw (receive-waits mid.left start.reply (Ok None) start.says_so refl) at start.calls) waits later
 
--- a poll told the process something
+-- a poll of the process set `told`
 pub calls-told : {old mid new : Ticket Record} {told : Bool} → Calls old mid [] → new ≡ record mid { told = told } → Calls old new []
 calls-told {old} {mid} {new} {told} calls is = rw is (record { lock = calls.lock; number = calls.number; legal = calls.legal; grows = calls.grows })
 

@@ -1,4 +1,4 @@
--- The completions and shares of a phase, one more after the others.
+-- The completions and shares of a phase, by induction on their number.
 use Rattle.std.proofs.Common.{◌≡◌, ◌<◌, ◌+◌, ◌++◌, ℕ, List, [], ◌∷◌, length, get_or, take, ap, sym, ◌∙◌}
 use Rattle.std.specs.List.{flat_map}
 use Rattle.std.proofs.lemmas.List.{flat_map_more, take_more, map-append}

@@ -1,4 +1,4 @@
--- A script that was run whole on a system, which was new or went on from a journal.
+-- A script that was run completely on a system that was new or continued from a journal.
 use Rattle.std.proofs.Common.{◌≡◌, ◌≤◌, ◌∙◌, ℕ, List, All, None, ap, length, subst, sym}
 use Rattle.fast_mutex.specs.Items.{LockId, Ticket, tickets_from, tickets_with}
 use Rattle.mq.specs.Calls.{author, bounds_in}

@@ -1,4 +1,4 @@
--- Calls, shares and phases, one more after the others.
+-- Calls, shares and phases, by induction on their number.
 use Rattle.std.proofs.Common.{◌≡◌, ◌<◌, ◌≤◌, ◌+◌, ◌++◌, ℕ, List, [], ◌∷◌, length, get_or, take, map, refl, ap, arith, sym, ◌∙◌, subst, append_assoc, append-nil, All, Vec, Global, None, zero, suc}
 use Rattle.std.proofs.lemmas.List.{length-map, take_more, map-append}
 use Rattle.std.proofs.lemmas.List.Elements.{All-nil, All-cons, All-head, All-tail, All-from_recursion, All-map, recursion_from_All}
@@ -20,13 +20,13 @@ use Rattle.script_runner.specs.declared.turns.Worked.{Worked}
 use Rattle.script_runner.proofs.SideBySide.{zip-all}
 use denote.Ref.{Bor}
 
--- one more call after the others
+-- one more call
 pub RunsCalls-push : (calls : List WrittenCall) (call : WrittenCall) (completions : List Completion) (completion : Completion) (old mid new : Ticket Record) → RunsCalls calls completions old mid → Performs call.moment call.command (buffer_given call.command) completion.buffer.items mid new completion.outcome → RunsCalls (calls ++ call ∷ []) (completions ++ completion ∷ []) old new
 RunsCalls-push [] call [] completion old mid new ran last = grind arith
 RunsCalls-push (c ∷ calls) call (a ∷ completions) completion old mid new ran last = grind (arith, RunsCalls-push calls call completions completion ran.0 mid new ran.2 last)
 RunsCalls-push calls call completions completion old mid new ran last = absurd ran
 
--- what holds of all that is shown
+-- what holds of the image of each element
 all-unmap : {X Y : Type 0} (P : X → Type 0) (f : Y → X) (ys : List Y) → All P (map f ys) → All (λ y. P (f y)) ys
 all-unmap P f [] all = All-nil (λ y. P (f y))
 all-unmap P f (y ∷ ys) all = All-cons (λ y. P (f y)) y ys (All-head P (f y) (map f ys) all) (all-unmap P f ys (All-tail P (f y) (map f ys) all))
@@ -41,7 +41,7 @@ all-ready mq shares workers off ready =
     All-map (IsReady mq) (λ worked. worked.process) workers
     (zip-all WorksOff (λ (s : Share (Ticket Record)). IsReady mq s.process) (λ (w : Worked (Ticket Record)). IsReady mq w.process) (λ s w works is. record { made = works.same.lock ∙ is.made; free = works.free }) shares workers off ready)
 
--- shares of these calls were worked off: the phase was run
+-- the shares of these calls were completed: the phase was run
 phase-ran : (calls : List WrittenCall) (shares : List (Share (Ticket Record))) (workers : List (Worked (Ticket Record))) → AllWorkOff shares workers → ByRecursion (λ (share : Share (Ticket Record)). calls_in share.turns.items ≡ calls_of share.process.number calls) shares → RunsPhase calls (map (λ (share : Share (Ticket Record)). share.process) shares) (map (λ (worked : Worked (Ticket Record)). worked.process) workers) (text_in workers)
 phase-ran calls [] [] off dealt = refl
 phase-ran calls (s ∷ shares) (w ∷ workers) off dealt = grind (arith, phase-ran calls shares workers off.1 dealt.1)
@@ -50,7 +50,7 @@ phase-ran calls shares workers off dealt = absurd off
 pub phase-done : (calls : List WrittenCall) (shares : List (Share (Ticket Record))) (workers : List (Worked (Ticket Record))) (before after : List (Ticket Record)) (text : List ℕ) → AllWorkOff shares workers → All (λ share. calls_in share.turns.items ≡ calls_of share.process.number calls) shares → map (λ share. share.process) shares ≡ before → after ≡ map (λ worked. worked.process) workers → text ≡ text_in workers → RunsPhase calls before after text
 phase-done calls shares workers before after text off dealt processes back is = grind (arith, phase-ran, recursion_from_All)
 
--- one more phase after the others
+-- one more phase
 RunsPhases-push : (phases : List (List WrittenCall)) (calls : List WrittenCall) (before mid after : List (Ticket Record)) (text more : List ℕ) → RunsPhases phases before mid text → RunsAndMeets calls mid after more → RunsPhases (phases ++ calls ∷ []) before after (text ++ more)
 RunsPhases-push [] calls before mid after text more ran last =
     let P : List (Ticket Record) → Type 0 = λ m. RunsPhase calls m last.ended more in
@@ -93,7 +93,7 @@ count-after lock past k (suc n) = ap suc (count-after lock past (suc k) n)
 pub new-count : (lock : LockId) (k n : ℕ) → length (tickets_from {I = Record} lock k n) ≡ n
 new-count lock k n = count-after lock [] k n
 
--- processes that go on from a journal in which none of them waits are ready
+-- processes that continue from a journal in which none of them waits are ready
 each-after-ready : (lock : LockId) (past : Past) (k n : ℕ) → ((p : ℕ) → k ≤ p → p < k + n → open_wait past p ≡ None) → ByRecursion (IsReady lock) (tickets_with lock past k n)
 each-after-ready lock past k zero free = tt
 each-after-ready lock past k (suc n) free =

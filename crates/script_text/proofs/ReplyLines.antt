@@ -1,4 +1,4 @@
--- The lines of replies, one more after the others.
+-- The lines of replies, by induction on their number.
 use Rattle.std.proofs.Common.{◌≡◌, ◌<◌, ◌+◌, ◌++◌, ℕ, List, [], ◌∷◌, length, get_or, take, ap, sym, ◌∙◌, append_assoc, append-nil}
 use Rattle.std.proofs.lemmas.List.{take_more}
 use Rattle.script_text.specs.Replies.{reply_line}

@@ -4,13 +4,13 @@ use Rattle.std.specs.List.{All}
 use Rattle.std.proofs.Common.{ap, ne_eqb}
 use Rattle.std.proofs.lemmas.List.Elements.{All-head}
 
--- who has rung and heard, the latest first
+-- the processes that rang and heard the bell, the latest first
 abbrev pub bell_items : Bool → Bool → List ℕ
 bell_items rung true = 1 ∷ 2 ∷ []
 bell_items true false = 2 ∷ []
 bell_items false false = []
 
--- a process is answered while another one came last
+-- a process is answered if the latest item is that of another process
 abbrev pub is_called : ℕ → List ℕ → Bool
 is_called p [] = false
 is_called p (x ∷ xs) = cond (eqb x p) false true
