@@ -13,7 +13,8 @@ pub enum Workload {
     Pair { rounds: u32 },
     /// One process fills a queue to its depth and drains it.
     Deep { depth: u32, rounds: u32 },
-    /// One of 32 processes, which have 16 descriptors each on 64 queues, sends and receives in turn.
+    /// One of 32 processes, which have 16 descriptors each on 64 queues, sends and receives in
+    /// turn.
     Wide { rounds: u32 },
     /// Two processes in two threads send a message back and forth.
     PingPong { rounds: u32 },

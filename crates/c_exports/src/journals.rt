@@ -47,7 +47,8 @@ pub extern "C" fn yak_room(alloc: Global, process: &mut Handle, room: &mut Room)
     reading::room(alloc, process, room)
 }
 
-/// Whether no process of the system can make a call any more. The process may have an open wait, and keeps it.
+/// Whether no process of the system can make a call any more. The process may have an open wait,
+/// and keeps it.
 #[unsafe(no_mangle)]
 pub extern "C" fn yak_nobody_can_call(alloc: Global, process: &mut Handle) -> u32
     ensures { GivesNobody (process_in process.old) (process_in process.new) result }

@@ -139,7 +139,8 @@ fn room_shown(left: Option<Bounds>) -> Room
     }
 }
 
-/// Whether no process of the system can make a call any more. The process may have an open wait, and keeps it.
+/// Whether no process of the system can make a call any more. The process may have an open wait,
+/// and keeps it.
 pub fn nobody_can_call(alloc: Global, process: &mut Handle) -> u32
     ensures { GivesNobody (process_in process.old) (process_in process.new) result }
 {

@@ -56,7 +56,8 @@ pub fn bounded(alloc: Global, processes: &mut [Handle], entries: u64, bytes: u64
     }
 }
 
-/// The same, with a journal that is a history variable: contracts speak of it, and no byte of it is stored.
+/// The same, with a journal that is a history variable: contracts speak of it, and no byte of it is
+/// stored.
 pub fn unstored(alloc: Global, processes: &mut [Handle]) -> u32
     ensures { Makes None false processes.old processes.new result }
 {

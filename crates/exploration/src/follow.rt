@@ -231,8 +231,8 @@ pub fn is_local(step: &Step) -> bool {
     }
 }
 
-// The index of the step that let the step at index `place` go on: the last one before which its thread
-// was parked and could not go on.
+// The index of the step that let the step at index `place` go on: the last one before which its
+// thread was parked and could not go on.
 fn cause_of(steps: &[Step], place: usize, thread: u32) -> Option<usize> {
     for k in (0..place).rev() {
         let step = steps.get(k)?;

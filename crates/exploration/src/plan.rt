@@ -213,8 +213,8 @@ impl Plan {
         }
     }
 
-    /// Learns from the steps of a run whose first `asked` choices were given. Returns how many steps,
-    /// from the first one on, the search may replace by others.
+    /// Learns from the steps of a run whose first `asked` choices were given. Returns how many
+    /// steps, from the first one on, the search may replace by others.
     pub fn learn(
         &mut self,
         alloc: Global,

@@ -56,7 +56,8 @@ impl Races<'_> {
         self.left
     }
 
-    // Whether a thread makes one of the local steps after index `place`, of this kind if one is given.
+    // Whether a thread makes one of the local steps after index `place`, of this kind if one is
+    // given.
     fn goes_on_after(&self, place: usize, thread: u32, kind: Option<Kind>) -> bool {
         for i in place.saturating_add(1)..self.steps.len() {
             let step = &self.steps[i];

@@ -6,9 +6,10 @@ const SHORTEST: u32 = 1_024;
 
 const LONGEST: u32 = 16_384;
 
-/// Exponential backoff: half a microsecond, then each time twice as long, up to some microseconds. A poll takes the words of the lock out
-/// of the holder's cache, so a thread polls only now and then. Under contention long pauses let the holder make several calls in a row,
-/// with all that they touch in its own cache.
+/// Exponential backoff: half a microsecond, then each time twice as long, up to some microseconds.
+/// A poll takes the words of the lock out of the holder's cache, so a thread polls only now and
+/// then. Under contention long pauses let the holder make several calls in a row, with all that
+/// they touch in its own cache.
 #[derive(Drop)]
 pub(crate) struct Backoff {
     next: u32,

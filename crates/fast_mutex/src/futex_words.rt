@@ -1,23 +1,27 @@
-//! The futex words on which threads sleep. The lock's algorithm never reads them, and nothing is proved of them: every sleep ends by
-//! itself, so a thread that misses a wake-up is late, not lost.
+//! The futex words on which threads sleep. The lock's algorithm never reads them, and nothing is
+//! proved of them: every sleep ends by itself, so a thread that misses a wake-up is late, not lost.
 use std::alloc::{AllocError, Global};
 use std::sync::Wait;
 use std::sync::atomic::AtomicU64;
 use std::sync::atomic::Ordering::SeqCst;
 use std::time::Duration;
 
-// Enough for the most processes: the futex word of y, one for each flag b[j], one for the answer to each process, and then the misses of
-// each process. Behind them is a word that never changes, with fifteen unused words on either side. A thread that backs off loads it again
-// and again. Without the unused words it would take its neighbours, or what the allocator puts next, out of the cache of the lock's holder.
+// Enough for the most processes: the futex word of y, one for each flag b[j], one for the answer to
+// each process, and then the misses of each process. Behind them is a word that never changes, with
+// fifteen unused words on either side. A thread that backs off loads it again and again. Without
+// the unused words it would take its neighbours, or what the allocator puts next, out of the cache
+// of the lock's holder.
 const WORDS: u32 = 128;
 
 const UNCHANGED: usize = 112;
 
-// The longest sleep of a thread that waits for the lock, in milliseconds. Then it takes its next step anyway.
+// The longest sleep of a thread that waits for the lock, in milliseconds. Then it takes its next
+// step anyway.
 const LONGEST_SLEEP: u64 = 10;
 
-// Adaptive spinning. A process polls for its answer some seven times before it sleeps, or once if at least one in four of its recent waits
-// missed, that is, no poll found the answer. It polls once for the next 64 waits, and then tries seven times again.
+// Adaptive spinning. A process polls for its answer some seven times before it sleeps, or once if
+// at least one in four of its recent waits missed, that is, no poll found the answer. It polls once
+// for the next 64 waits, and then tries seven times again.
 const LONG_POLLS: u32 = 7;
 
 const SHORT_POLLS: u32 = 1;
@@ -28,9 +32,9 @@ const FOR_A_MISS: u64 = 3;
 
 const WAITS_WITH_FEW_POLLS: u64 = 64;
 
-/// Futex words. Each is 1 if a thread may sleep on it. A thread that is about to sleep stores 1, checks once more what it waits for, and
-/// sleeps while the word is 1. A thread that changes what others wait for stores 0 and wakes one. All accesses are sequentially
-/// consistent.
+/// Futex words. Each is 1 if a thread may sleep on it. A thread that is about to sleep stores 1,
+/// checks once more what it waits for, and sleeps while the word is 1. A thread that changes what
+/// others wait for stores 0 and wakes one. All accesses are sequentially consistent.
 #[derive(Drop)]
 pub struct FutexWords {
     words: Vec<AtomicU64>,
@@ -88,7 +92,8 @@ impl FutexWords {
         }
     }
 
-    /// Announces a sleep on this futex word, and wakes one thread that sleeps until this one lowers its own flag.
+    /// Announces a sleep on this futex word, and wakes one thread that sleeps until this one lowers
+    /// its own flag.
     pub(crate) fn announce_sleep(&self, futex_word: u32, own: u32) {
         self.wake(own);
         self.sleepers.fetch_add(1, SeqCst);
@@ -100,8 +105,9 @@ impl FutexWords {
         self.sleep(rt, futex_word, Duration::from_millis(LONGEST_SLEEP));
     }
 
-    /// Ends an announced sleep. The thread that was woken announces for those that still sleep, and the next release wakes the next one.
-    /// Perhaps no other thread lowers that flag again, so a thread that slept on a flag's word wakes the next one there itself.
+    /// Ends an announced sleep. The thread that was woken announces for those that still sleep, and
+    /// the next release wakes the next one. Perhaps no other thread lowers that flag again, so a
+    /// thread that slept on a flag's word wakes the next one there itself.
     pub(crate) fn end_sleep(&self, futex_word: u32) {
         if self.sleepers.fetch_sub(1, SeqCst) != 1 {
             self.set(futex_word, 1);
@@ -116,7 +122,8 @@ impl FutexWords {
         self.set(FutexWords::of_answer(process), 1);
     }
 
-    /// Sleeps until the process is answered, if its last poll found no answer, for `at_most` at the longest.
+    /// Sleeps until the process is answered, if its last poll found no answer, for `at_most` at the
+    /// longest.
     pub(crate) fn sleep_until_answered<R: Wait>(&self, rt: &R, process: u32, at_most: Duration) {
         self.sleep(rt, FutexWords::of_answer(process), at_most);
     }
@@ -146,7 +153,8 @@ impl FutexWords {
         self.wake(FutexWords::of_flag(process));
     }
 
-    // Wakes the processes that sleep until they are answered and whose bits are set: bit p - 1 stands for process p.
+    // Wakes the processes that sleep until they are answered and whose bits are set: bit p - 1
+    // stands for process p.
     #[cold]
     #[inline(never)]
     fn wake_answered(&self, answered: u32) {
@@ -159,7 +167,8 @@ impl FutexWords {
         }
     }
 
-    /// Takes the time of a number of loads. The compiler leaves out a loop that only says that it spins.
+    /// Takes the time of a number of loads. The compiler leaves out a loop that only says that it
+    /// spins.
     pub(crate) fn load_again(&self, loads: u32) {
         if let Some(word) = self.words.get(UNCHANGED) {
             for _ in 0..loads {
@@ -205,9 +214,10 @@ impl FutexWords {
         }
     }
 
-    /// The address of the first of the 65 futex words, for threads that sleep on them outside Rattle: that of y, then one for each flag
-    /// b[j], then one for the answer to each process. A thread stores 1, checks once more, and sleeps while the word is 1. The thread that
-    /// stores 0 wakes it. The words stay at their addresses as long as the lock lives.
+    /// The address of the first of the 65 futex words, for threads that sleep on them outside
+    /// Rattle: that of y, then one for each flag b[j], then one for the answer to each process. A
+    /// thread stores 1, checks once more, and sleeps while the word is 1. The thread that stores 0
+    /// wakes it. The words stay at their addresses as long as the lock lives.
     pub fn address(&self) -> Option<*const u64> {
         match self.words.first() {
             Some(word) => Some(word.as_ptr() as *const u64),

@@ -48,7 +48,8 @@ impl Queues {
         self.queues.len()
     }
 
-    /// The priorities and kinds of the messages of a queue, in the order in which they are received.
+    /// The priorities and kinds of the messages of a queue, in the order in which they are
+    /// received.
     pub fn messages(&self, queue: usize) -> &[(u32, usize)] {
         match self.queues.get(queue) {
             Some(contents) => contents.messages.as_slice(),

@@ -227,8 +227,8 @@ impl Unstored {
         self.len += 1;
     }
 
-    // The same, after the entry that the latest one ended has left its slot. The new entry itself is
-    // only for the history. The one number needed of it is passed separately in `ended`, so that
+    // The same, after the entry that the latest one ended has left its slot. The new entry itself
+    // is only for the history. The one number needed of it is passed separately in `ended`, so that
     // the compiler need not build an entry whose call is known at compile time.
     #[inline(never)]
     fn pass(&mut self, entry: &Entry, payload: &[u8], ended: Option<u64>)

@@ -133,7 +133,8 @@ impl Play {
         self.trail.journal()
     }
 
-    /// The journal after each schedule is legal. The function does nothing: its contract is the law.
+    /// The journal after each schedule is legal. The function does nothing: its contract is the
+    /// law.
     pub fn stays_legal(&self)
         ensures { AreLegal (first_stage self.now) }
     {
