@@ -30,7 +30,7 @@ const NOTHING: Note = Note {
 pub struct Index {
     // the number of notes is a power of two
     notes: Vec<Note>,
-    vacant: [usize; CLASSES],
+    vacant: [usize; CLASSES as usize],
 }
 
 impl Index {
@@ -38,7 +38,7 @@ impl Index {
     pub fn new(alloc: Global) -> Index {
         Index {
             notes: Vec::new(alloc),
-            vacant: [NOBODY; CLASSES],
+            vacant: [NOBODY; CLASSES as usize],
         }
     }
 
@@ -77,9 +77,9 @@ impl Index {
 
     /// The vacant slot of a class to try first.
     #[inline(always)]
-    pub fn first_vacant(&self, class: usize) -> usize {
+    pub fn first_vacant(&self, class: u32) -> usize {
         if class < CLASSES {
-            self.vacant[class]
+            self.vacant[class as usize]
         } else {
             NOBODY
         }
@@ -87,9 +87,9 @@ impl Index {
 
     /// Makes this slot the first of the vacant ones of its class.
     #[inline(always)]
-    pub fn set_vacant(&mut self, class: usize, key: usize) {
+    pub fn set_vacant(&mut self, class: u32, key: usize) {
         if class < CLASSES {
-            self.vacant[class] = key;
+            self.vacant[class as usize] = key;
         }
     }
 

@@ -7,7 +7,7 @@ use std::alloc::{AllocError, Global};
 #[derive(Clone, Copy, Debug)]
 struct Share {
     queue: u64,
-    class: usize,
+    class: u32,
     messages: usize,
 }
 
@@ -69,7 +69,7 @@ impl Paid {
 
     /// How many slots of a class the queues need: for their messages, for the messages of waiting
     /// calls, and for names.
-    pub fn owed(&self, class: usize) -> usize {
+    pub fn owed(&self, class: u32) -> usize {
         if class == GROWING {
             return self.processes.saturating_add(SPARE);
         }
@@ -98,15 +98,9 @@ impl Paid {
         }
     }
 
-    /// Whether nothing is paid for.
-    #[inline(always)]
-    pub fn is_nothing(&self) -> bool {
-        self.processes == 0
-    }
-
     /// The class of slots for the messages of a queue.
     #[inline(never)]
-    pub fn class_for(&self, queue: u64) -> usize {
+    pub fn class_for(&self, queue: u64) -> u32 {
         if let Some(share) = self.latest {
             if share.queue == queue {
                 return share.class;

@@ -23,8 +23,8 @@ pub struct Slot {
     place: u64,
     home: Option<u64>,
     prio: u32,
+    class: u32,
     bytes: Vec<u8>,
-    class: usize,
     // the next vacant slot of its class, if it is vacant
     next: usize,
 }
@@ -42,7 +42,7 @@ impl Model for Slot {
 
 impl Slot {
     /// A vacant slot of a class, with the next one after it.
-    fn vacant(alloc: Global, class: usize, next: usize) -> Result<Slot, AllocError>
+    fn vacant(alloc: Global, class: u32, next: usize) -> Result<Slot, AllocError>
         ensures { IfOk result (λ slot. slot ≡ None) }
     {
         Ok(Slot {
@@ -105,7 +105,7 @@ impl Slot {
 
     // The class of the slot.
     #[inline(always)]
-    fn class(&self) -> usize {
+    fn class(&self) -> u32 {
         self.class
     }
 
@@ -296,7 +296,7 @@ fn search(slots: &[Slot], place: u64) -> Option<usize>
 
 // Takes the first vacant slot of a class from its list.
 #[inline(always)]
-fn take_vacant(slots: &[Slot], index: &mut Index, class: usize) -> usize {
+fn take_vacant(slots: &[Slot], index: &mut Index, class: u32) -> usize {
     let key = index.first_vacant(class);
     if key < slots.len() {
         index.set_vacant(class, slots[key].next());
@@ -306,7 +306,7 @@ fn take_vacant(slots: &[Slot], index: &mut Index, class: usize) -> usize {
 
 // A vacant slot, of this class if there is one.
 #[inline(always)]
-fn vacant_slot(slots: &[Slot], index: &mut Index, class: usize) -> usize
+fn vacant_slot(slots: &[Slot], index: &mut Index, class: u32) -> usize
     requires { 0 < vacant_in slots.now }
     ensures within { result < length slots.now }
     ensures vacant { slice_index_or slots.now result None ≡ None }
@@ -360,7 +360,7 @@ pub fn put(
     home: Option<u64>,
     next: &mut Vec<u8>,
     payload: &[u8],
-    class: usize,
+    class: u32,
 ) -> usize
     requires place { place < NOWHERE }
     requires vacant { 0 < vacant_in slots.old.items }
@@ -445,7 +445,7 @@ pub fn grow(
     index: &mut Index,
     vacant: &mut usize,
     wanted: usize,
-    class: usize,
+    class: u32,
 ) -> Result<(), AllocError>
     requires { vacant.old ≡ vacant_in slots.old.items }
     ensures added { HasMoreVacant slots.old.items slots.new.items vacant.old vacant.new }
@@ -466,7 +466,7 @@ fn add_vacant(
     slots: &mut Vec<Slot>,
     index: &mut Index,
     vacant: &mut usize,
-    class: usize,
+    class: u32,
 ) -> Result<(), AllocError>
     requires { vacant.old ≡ vacant_in slots.old.items }
     ensures added { HasMoreVacant slots.old.items slots.new.items vacant.old vacant.new }
@@ -497,6 +497,6 @@ fn reindex(alloc: Global, slots: &[Slot], index: &mut Index) -> Result<(), Alloc
 }
 
 /// The number of slots of a class.
-pub fn count_of(slots: &[Slot], class: usize) -> usize {
+pub fn count_of(slots: &[Slot], class: u32) -> usize {
     slots.iter().filter(|slot| slot.class() == class).count()
 }

@@ -29,15 +29,18 @@ pub struct Unstored {
     slots: Vec<Slot>,
     // how many slots are vacant
     vacant: usize,
-    index: Index,
     // The entry that the latest one ended, and perhaps its slot; or the slot of the latest entry.
     ended: Option<u64>,
     last: usize,
     // Whether the index has that slot. Its entry often ends before another is looked up, so the
     // note is made late.
     is_last_noted: bool,
+    // whether any queue has slots of its own
+    is_prepaid: bool,
     // the spare buffer, for the next payload
     next: Vec<u8>,
+    // Most calls touch the fields above and the first two of the index: two lines of a cache.
+    index: Index,
     // the messages for which there are slots of their own
     paid: Paid,
 }
@@ -102,11 +105,12 @@ impl Unstored {
             len: 0,
             slots: Vec::new(alloc),
             vacant: 0,
-            index: Index::new(alloc),
             ended: None,
             last: 0,
             is_last_noted: true,
+            is_prepaid: false,
             next: Vec::new(alloc),
+            index: Index::new(alloc),
             paid: Paid::new(alloc),
         }
     }
@@ -189,14 +193,7 @@ impl Unstored {
     // Appends an entry that is kept and ends no other, with this priority, lost with the queue
     // `home`, in a slot of this class if there is one.
     #[inline(always)]
-    fn add_kept(
-        &mut self,
-        entry: &Entry,
-        payload: &[u8],
-        prio: u32,
-        home: Option<u64>,
-        class: usize,
-    )
+    fn add_kept(&mut self, entry: &Entry, payload: &[u8], prio: u32, home: Option<u64>, class: u32)
         requires room { 0 < self.old.entry_room }
         requires bytes { length payload.now ≤ self.old.byte_room }
         requires ended { ended_by entry.now.reply ≡ None }
@@ -247,7 +244,7 @@ impl Unstored {
     }
 
     #[inline(never)]
-    fn keep(&mut self, entry: &Entry, payload: &[u8], prio: u32, home: Option<u64>, class: usize)
+    fn keep(&mut self, entry: &Entry, payload: &[u8], prio: u32, home: Option<u64>, class: u32)
         requires room { 0 < self.old.entry_room }
         requires bytes { length payload.now ≤ self.old.byte_room }
         requires ended { ended_by entry.now.reply ≡ None }
@@ -352,8 +349,8 @@ impl Unstored {
 
     // The class of slots for a kept entry that is made on queue q.
     #[inline(always)]
-    fn class_of(&self, reply: Reply, q: u64) -> usize {
-        if self.paid.is_nothing() {
+    fn class_of(&self, reply: Reply, q: u64) -> u32 {
+        if !self.is_prepaid {
             return GROWING;
         }
         match reply {
@@ -389,6 +386,7 @@ impl Unstored {
         ensures keeps { (k : ℕ) → HasPlace self.old.places k → HasPlace self.new.places k }
     {
         let exists = self.is_latest_there();
+        self.is_prepaid = true;
         self.paid
             .expect(exists, self.len, messages, size, processes)?;
         for class in 0..CLASSES {
@@ -402,7 +400,7 @@ impl Unstored {
     }
 
     // Adds the slots of a class that are paid for and do not exist yet.
-    fn make_slots(&mut self, class: usize) -> Result<(), AllocError>
+    fn make_slots(&mut self, class: u32) -> Result<(), AllocError>
         ensures records { self.new.records ≡ self.old.records }
         ensures entry_room { self.old.entry_room ≤ self.new.entry_room }
         ensures byte_room { self.new.byte_room ≡ self.old.byte_room }
