@@ -109,9 +109,7 @@ static void settle(unsigned slot)
     bool is_held = all->queues[slot].is_bound;
     for (uint32_t d = 0; d < DESCRIPTIONS && !is_held; ++d)
         is_held = all->descriptions[d].made != 0 && all->descriptions[d].queue == slot;
-    for (unsigned i = 0; i < PROCESSES * PER_DISPATCHER && !is_held; ++i)
-        is_held = all->replicas[i / PER_DISPATCHER][i % PER_DISPATCHER] == slot + 1;
-    the_program.tables.queues[slot].is_there = is_held;
+    the_program.tables.queues[slot].is_there = is_held || all->holders[slot] != 0;
 }
 
 static void apply_open(unsigned process, uint32_t d, const opened *it, const uint8_t *name,
@@ -126,8 +124,10 @@ static void apply_open(unsigned process, uint32_t d, const opened *it, const uin
         of->len = len;
         memcpy(of->name, name, len);
     }
-    if (it->whose == FOR_REPLICA)
+    if (it->whose == FOR_REPLICA) {
         the_program.tables.replicas[process][d] = (uint8_t)(it->queue + 1);
+        the_program.tables.holders[it->queue] |= 1u << process;
+    }
     if (it->whose != FOR_DESCRIPTION)
         return;
     to = &the_program.tables.descriptions[program_description(process, d)];
@@ -148,6 +148,7 @@ static void apply_close(unsigned process, uint32_t d)
         if ((slot = all->replicas[process][d]) == 0)
             return;
         all->replicas[process][d] = 0;
+        all->holders[slot - 1] &= ~(1u << process);
         settle(slot - 1);
         return;
     }

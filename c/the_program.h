@@ -3,11 +3,11 @@
  * One system of the library serves the whole program, with its forked children. Its process 1 is a
  * dispatcher: it holds a descriptor for each open description of the program, always nonblocking,
  * and makes each call on it. If a send or a receive is refused with YAK_AGAIN, and the description
- * is blocking, it is made again by a waiter, the lowest of the processes that are not dispatchers
- * and have no open wait, which opens the queue too when it is first needed there, and keeps the
- * call until its wait ends. So the order of messages, who is served and every refusal are the
- * library's. If the program has more than 16 open descriptions, waiters become dispatchers, from
- * process 32 down.
+ * is blocking, it is made again by a waiter: of the processes that are not dispatchers and have no
+ * open wait, the lowest that holds the queue, or if none does, the lowest with room, which opens
+ * it. The waiter keeps the call until its wait ends. So the order of messages, who is served and
+ * every refusal are the library's. If the program has more than 16 open descriptions, waiters
+ * become dispatchers, from process 32 down.
  *
  * All of this lies in memory that parent and forked children share (arena.h), and is guarded by one
  * lock, which is held for the time of a call and never while a call waits. If a process dies inside
@@ -115,6 +115,7 @@ typedef struct tables {
     registration registrations[DESCRIPTIONS];
     uint8_t replicas[PROCESSES]
                     [PER_DISPATCHER]; /* by a waiter's descriptor: its queue and 1, or 0 */
+    uint32_t holders[QUEUES];         /* the waiters that hold a queue, by bits */
     pending waits[PROCESSES];
     uint32_t waiters; /* the processes that are not dispatchers, by bits */
     uint32_t idle;    /* the waiters without an open wait */
