@@ -39,14 +39,27 @@ unsigned program_forks(void)
     return forks;
 }
 
-bool program_shares(void)
+static bool is_fork_word(const char *word)
 {
     const char *wanted = getenv("YAK_FORK");
+    return wanted != 0 && strcmp(wanted, word) == 0;
+}
+
+bool program_shares(void)
+{
 #ifdef YAK_SEEDED
     if (yak_seed_decides())
         return false;
 #endif
-    return wanted == 0 || strcmp(wanted, "new") != 0;
+    return !is_fork_word("new");
+}
+
+void program_read_fork_word(void)
+{
+    const char *wanted = getenv("YAK_FORK");
+    if (wanted != 0 && *wanted != 0 && !is_fork_word("new") && !is_fork_word("shared"))
+        fprintf(stderr, "yakyrombe: YAK_FORK=%s is neither new nor shared: it counts as shared\n",
+                wanted);
 }
 
 /* Whether a fork copies the queues: each run of yak-explore is a child of its own. */
@@ -572,7 +585,6 @@ void program_come_to_family(void)
 
 static void in_child(void)
 {
-    const char *wanted = getenv("YAK_FORK");
     ++forks;
     is_first = false;
     program_here->me = 0;
@@ -603,7 +615,7 @@ static void in_child(void)
         program_place = OUTSIDE;
     if (coming != 0) {
         take_part_in_family();
-    } else if (wanted != 0 && strcmp(wanted, "new") == 0) {
+    } else if (is_fork_word("new")) {
         arena_unmap((char *)program_at);
         program_at = 0;
         begin_arena();

@@ -551,6 +551,8 @@ bool program_is_alone(void);
 /* Whether the processes of this program share their queues: no seed decides, and YAK_FORK is not
  * new. */
 bool program_shares(void);
+/* If YAK_FORK is neither of its words, says so on the error stream. */
+void program_read_fork_word(void);
 /* Whether a process holds this description. */
 bool program_is_held(uint32_t d);
 /* Mends what a process that died inside may have left undone. */
