@@ -10,6 +10,7 @@
 #include <dirent.h>
 #include <errno.h>
 #include <fcntl.h>
+#include <limits.h>
 #include <linux/futex.h>
 #include <stdlib.h>
 #include <string.h>
@@ -475,6 +476,19 @@ static void hang_picture(void)
     drop_picture();
 }
 
+/* From now on other processes may sleep on the words of the waits, and wake those who do. A thread
+ * that sleeps on a private word wakes, and sleeps again. */
+static void share_words(void)
+{
+    if (atomic_load(&the_program.is_shared))
+        return;
+    for (unsigned process = 0; process < PROCESSES; ++process) {
+        atomic_fetch_add(&the_program.news[process], 1);
+        yak_wake_on_(program_news(process), INT_MAX);
+    }
+    atomic_store(&the_program.is_shared, true);
+}
+
 /* Takes a place for the child, which has the numbers of its parent. From then on the log is to
  * count, which the next call sees to. */
 static void make_place(void)
@@ -486,6 +500,7 @@ static void make_place(void)
     atomic_store(&coming->is_made, 0);
     atomic_store(&coming->state, OWNER_COMING);
     the_program.arena.openings += !the_program.is_logged;
+    share_words();
     if (program_has_thread_notices() || program_has_polls())
         program_begin_notifier();
 }

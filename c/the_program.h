@@ -196,10 +196,11 @@ typedef struct program {
     pthread_mutex_t lock; /* its memory alone: lock.c */
     arena arena;
     bool is_ready;
-    bool is_stored;      /* the journal is */
-    bool is_logged;      /* the log counts */
-    bool is_torn;        /* the system is to be made again before the next call */
-    bool is_lost;        /* it can't be */
+    bool is_stored;         /* the journal is */
+    bool is_logged;         /* the log counts */
+    _Atomic bool is_shared; /* other processes may sleep on the words of the waits */
+    bool is_torn;           /* the system is to be made again before the next call */
+    bool is_lost;           /* it can't be */
     int64_t until_large; /* how many bytes the journal may still take; below 0 the error stream is
                             to say that it is large. If it is not stored, it never is */
     unsigned opens;
@@ -249,10 +250,14 @@ extern _Thread_local volatile int program_place;
 extern _Thread_local waiting program_own_wait;
 extern waiting *program_waits;
 
-/* The word on which the wait of a process of the library sleeps. */
+/* The word on which the wait of a process of the library sleeps. Until the first fork it is private
+ * to the process of the machine, for which the kernel takes less time. */
 static inline yak_word_ program_news(unsigned process)
 {
-    const yak_word_ news = {.at = (uint32_t *)&the_program.news[process], .is_shared = true};
+    const yak_word_ news = {
+        .at = (uint32_t *)&the_program.news[process],
+        .is_shared = atomic_load_explicit(&the_program.is_shared, memory_order_relaxed),
+    };
     return news;
 }
 
