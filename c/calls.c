@@ -337,10 +337,12 @@ static inline __attribute__((always_inline)) int make(const char *call, bool is_
                                                       yak_message *message,
                                                       const struct timespec *until)
 {
+    const bool is_reply = !is_send && program_has_sent;
     yak_moment moment = {0};
     outcome end;
     uint32_t answer, d;
     int error;
+    program_has_sent = is_send;
     /* A pointer that is no good is met outside the lock. */
     if (until != 0) {
         moment.sec = (int64_t)until->tv_sec;
@@ -371,6 +373,7 @@ static inline __attribute__((always_inline)) int make(const char *call, bool is_
                 .number = mqdes,
                 .is_send = is_send,
                 .is_timed = until != 0,
+                .is_reply = is_reply,
                 .until = until != 0 ? moment : program_never,
                 .bytes = bytes,
                 .len = len,

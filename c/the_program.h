@@ -155,6 +155,7 @@ typedef struct request {
     int number; /* as the program has it */
     bool is_send;
     bool is_timed;
+    bool is_reply;    /* it is a receive, and the thread's last send or receive was a send */
     yak_moment until; /* the last moment of all if it is not timed */
     uint8_t *bytes;
     size_t len;
@@ -246,6 +247,8 @@ extern bool program_is_watched;
 /* Whether this process has come to its end. */
 extern bool program_is_ending;
 extern _Thread_local volatile int program_place;
+/* Whether the last send or receive of this thread was a send. */
+extern _Thread_local bool program_has_sent;
 /* The wait of this thread, and those of this process. */
 extern _Thread_local waiting program_own_wait;
 extern waiting *program_waits;
