@@ -14,7 +14,10 @@
 #include <unistd.h>
 
 enum {
-    TRIES = 4, /* before a thread sleeps */
+    /* So often a thread tries before it sleeps, and passes so many turns of a loop between: some
+       six microseconds. */
+    TRIES = 128,
+    PAUSE = 128,
     /* So many nanoseconds a sleeper sleeps until it looks whether the holder lives. */
     LONGEST_SLEEP = 50000000
 };
@@ -111,7 +114,10 @@ static bool take(void)
             if (__atomic_compare_exchange_n(word, &seen, program_thread | waiters | sleepers, false,
                                             __ATOMIC_ACQUIRE, __ATOMIC_RELAXED))
                 return (seen & FUTEX_OWNER_DIED) != 0;
-        } else if (!yak_spin_(&tries, TRIES)) {
+        } else if (tries < TRIES) {
+            ++tries;
+            yak_pause_(PAUSE);
+        } else {
             if (sleepers == 0 &&
                 !__atomic_compare_exchange_n(word, &seen, seen | (int)FUTEX_WAITERS, false,
                                              __ATOMIC_RELAXED, __ATOMIC_RELAXED))

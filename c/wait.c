@@ -128,8 +128,7 @@ bool yak_spin_(unsigned *tries, unsigned most)
         return false;
     for (unsigned i = 0; i < *tries && left < YAK_LONG_BACKOFF_; ++i)
         left *= 2;
-    for (; left != 0; --left)
-        __asm__ volatile("" ::: "memory"); /* so that the loop stays */
+    yak_pause_(left);
     ++*tries;
     return true;
 }

@@ -67,6 +67,13 @@ int yak_sleep_on_(yak_word_ word, uint32_t value, const yak_sleep_ *sleep);
 /* Wakes so many threads that sleep on the word. */
 void yak_wake_on_(yak_word_ word, int most);
 
+/* Passes so many turns of a loop. */
+static inline void yak_pause_(unsigned turns)
+{
+    for (; turns != 0; --turns)
+        __asm__ volatile("" ::: "memory"); /* so that the loop stays */
+}
+
 /* Passes some time before the next try, each time twice as long, or is false after so many tries.
  * Long pauses let the process inside make several calls in a row if threads crowd. */
 bool yak_spin_(unsigned *tries, unsigned most);
