@@ -61,7 +61,8 @@ enum {
     X(LOAD, "getattr", "an atomic load", "an atomic load")                        \
     X(STORE, "setattr", "an atomic store", "an atomic store")                     \
     X(READ, "getattr", "a read", "a read")                                        \
-    X(WRITE, "setattr", "a write", "a write")
+    X(WRITE, "setattr", "a write", "a write")                                     \
+    X(HANDLE, "setattr", "a call on queues", "a call on queues")
 
 typedef enum yak_kind {
 #define YAK_KIND(name, word, call, timed_call) STEP_##name,

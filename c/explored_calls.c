@@ -5,6 +5,15 @@
 
 #include <string.h>
 
+enum { MOST_MADE = 1024 };
+
+static machine_queue queues[QUEUES];
+/* The queue that a descriptor had at last. */
+static uint32_t number_queue[NUMBERS];
+/* Queues that were created. */
+static unsigned made;
+static uint32_t made_queue[MOST_MADE];
+
 /* The names of queues are one object. */
 static const char names;
 
@@ -22,7 +31,7 @@ static bool is_step(void)
 
 static const machine_queue *queue_of(uint32_t d)
 {
-    return &the_machine.queues[the_program.tables.descriptions[d].queue];
+    return &queues[the_program.tables.descriptions[d].queue];
 }
 
 /* A number that stands for no description has the queue of its last one. */
@@ -33,7 +42,7 @@ static uint32_t object_of(int mqdes)
     if (d < DESCRIPTIONS)
         object = queue_of(d)->object;
     else if (number < NUMBERS)
-        object = the_machine.number_queue[number];
+        object = number_queue[number];
     return object != 0 ? object : names_object();
 }
 
@@ -100,7 +109,7 @@ void explored_moved(bool is_send, uint32_t d, int error, const uint8_t *bytes, s
     if (!machine_decides())
         return;
     if (error == 0 && d < DESCRIPTIONS)
-        the_machine.queues[the_program.tables.descriptions[d].queue].current += is_send ? 1 : -1;
+        queues[the_program.tables.descriptions[d].queue].current += is_send ? 1 : -1;
     explored_gave(error, error == 0 ? hash_of(bytes, len) : 0);
 }
 
@@ -108,8 +117,8 @@ void explored_moved(bool is_send, uint32_t d, int error, const uint8_t *bytes, s
 static uint32_t given_before(const char *name)
 {
     uint32_t count = 0;
-    for (unsigned i = 0; i < the_machine.made; ++i)
-        count += strcmp(the_machine.shared->object[the_machine.made_queue[i] - 1].name, name) == 0;
+    for (unsigned i = 0; i < made; ++i)
+        count += strcmp(the_machine.shared->object[made_queue[i] - 1].name, name) == 0;
     return count;
 }
 
@@ -140,13 +149,13 @@ static void meet_queue(machine_queue *it, const uint8_t *name, size_t len, int64
     it->room = room;
     it->current = 0;
     it->object = queue_object(text, (uint32_t)room);
-    if (the_machine.made < MACHINE_MADE)
-        the_machine.made_queue[the_machine.made++] = it->object;
+    if (made < MOST_MADE)
+        made_queue[made++] = it->object;
 }
 
 void explored_queue(unsigned slot, const uint8_t *name, size_t len, const yak_opening *opening)
 {
-    machine_queue *it = &the_machine.queues[slot];
+    machine_queue *it = &queues[slot];
     if (!machine_decides())
         return;
     /* Without limits a queue has those of Linux's. */
@@ -156,10 +165,10 @@ void explored_queue(unsigned slot, const uint8_t *name, size_t len, const yak_op
 
 void explored_number(unsigned number, uint32_t d)
 {
-    uint32_t before = the_machine.number_queue[number];
+    uint32_t before = number_queue[number];
     if (!machine_decides())
         return;
-    the_machine.number_queue[number] = queue_of(d)->object;
+    number_queue[number] = queue_of(d)->object;
     /* A call on the number that came before would have failed. */
     if (before != 0)
         machine_also(STEP_OPEN, before);
@@ -179,7 +188,7 @@ static bool has_entry(uint64_t place)
     return answer == YAK_SHORT;
 }
 
-uint64_t explored_entries(uint64_t before)
+uint64_t machine_entries(uint64_t before)
 {
     if (program_at == 0 || !the_program.is_ready || !the_program.is_stored)
         return before;
@@ -187,6 +196,62 @@ uint64_t explored_entries(uint64_t before)
         ++before;
     return before;
 }
+
+/* ---- what the library asks, and the machine asks of it ---- */
+
+bool explored_decides(void)
+{
+    return the_machine.is_on;
+}
+
+typedef struct looked {
+    const _Atomic uint32_t *word;
+    uint32_t value;
+} looked;
+
+static bool has_changed(void *of)
+{
+    const looked *it = of;
+    return atomic_load(it->word) != it->value;
+}
+
+void explored_await(const _Atomic uint32_t *word, uint32_t value, const struct timespec *until)
+{
+    looked with = {.word = word, .value = value};
+    machine_waits(has_changed, &with, until, 0);
+}
+
+void explored_journal(void)
+{
+    the_machine.write = program_write_journal;
+}
+
+void explored_cancels(pthread_t thread)
+{
+    machine_cancels(thread);
+}
+
+void explored_signals(void)
+{
+    the_machine.signals = true;
+}
+
+void machine_meet_child(void)
+{
+    program_meet_thread();
+}
+
+static struct timespec now(void)
+{
+    return the_machine.now;
+}
+
+/* A call on queues has parked before. */
+static void take_turn(void)
+{
+}
+
+const yak_turns_ machine_turns = {.turn = take_turn, .now = now};
 
 /* ---- calls by handles ----
  *

@@ -1,5 +1,5 @@
-/* explored_calls.h: what calls on queues tell the machine of libyakyrombe-explore. In the other
- * libraries it is nothing. */
+/* explored_calls.h: what calls on queues tell the machine of libyakyrombe-seed and
+ * libyakyrombe-explore. In the other libraries it is nothing. */
 #ifndef YAKYROMBE_EXPLORED_CALLS_H
 #define YAKYROMBE_EXPLORED_CALLS_H
 
@@ -22,8 +22,14 @@ void explored_moved(bool is_send, uint32_t d, int error, const uint8_t *bytes, s
 /* Inside the lock: a queue was created, and a descriptor was given. */
 void explored_queue(unsigned slot, const uint8_t *name, size_t len, const yak_opening *opening);
 void explored_number(unsigned number, uint32_t d);
-/* How many entries the stored journal has, of which so many were there before. */
-uint64_t explored_entries(uint64_t before);
+/* Whether the machine decides who runs. */
+bool explored_decides(void);
+/* Waits until the word changes, or the deadline, which may be null. */
+void explored_await(const _Atomic uint32_t *word, uint32_t value, const struct timespec *until);
+/* The program has a journal; a thread is cancelled; the program is sent a signal. */
+void explored_journal(void);
+void explored_cancels(pthread_t thread);
+void explored_signals(void);
 
 #pragma GCC visibility pop
 
@@ -36,6 +42,11 @@ uint64_t explored_entries(uint64_t before);
 #define explored_moved(is_send, d, error, bytes, len) ((void)0)
 #define explored_queue(slot, name, len, opening) ((void)0)
 #define explored_number(number, d) ((void)0)
+#define explored_decides() false
+#define explored_await(word, value, until) ((void)0)
+#define explored_journal() ((void)0)
+#define explored_cancels(thread) ((void)0)
+#define explored_signals() ((void)0)
 
 #endif
 

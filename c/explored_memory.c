@@ -254,7 +254,7 @@ void __cxa_guard_release(uint64_t *guard)
     const uintptr_t granule = (uintptr_t)guard - (uintptr_t)guard % RACES_GRANULE;
     if (is_seen())
         machine_also(STEP_STORE, granule_object(granule));
-    find___cxa_guard_release()(guard);
+    YAK_REAL(__cxa_guard_release)(guard);
 }
 
 /* ---- memory that is used anew ---- */
@@ -263,12 +263,12 @@ void free(void *memory)
 {
     if (the_machine.sees_memory && memory != 0 && is_seen())
         races_forget((uintptr_t)memory, malloc_usable_size(memory));
-    find_free()(memory);
+    YAK_REAL(free)(memory);
 }
 
 void *realloc(void *memory, size_t size)
 {
     if (the_machine.sees_memory && memory != 0 && is_seen())
         races_forget((uintptr_t)memory, malloc_usable_size(memory));
-    return find_realloc()(memory, size);
+    return YAK_REAL(realloc)(memory, size);
 }

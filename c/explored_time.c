@@ -1,7 +1,7 @@
-/* The names of the system that libyakyrombe-explore takes: time, and the end of the program.
+/* The names of the system that the machine takes: time, and signals.
  *
  * Time stands still, but if a deadline passes. A thread sees a microsecond more each time it reads
- * the clock. */
+ * the clock. Under a seed each choice takes a microsecond, and reading the clock none. */
 #define _GNU_SOURCE
 #include "machine.h"
 
@@ -13,7 +13,8 @@
 /* The simulated time as this thread reads it. */
 static struct timespec read_clock(void)
 {
-    const struct timespec more = {.tv_nsec = 1000L * (long)++machine_seat()->reads};
+    const long reads = the_machine.seed == 0 ? (long)++machine_seat()->reads : 0;
+    const struct timespec more = {.tv_nsec = 1000L * reads};
     machine_also(STEP_CLOCK, machine_clock_object());
     return machine_later(&more);
 }
@@ -21,7 +22,7 @@ static struct timespec read_clock(void)
 int clock_gettime(clockid_t clock, struct timespec *now)
 {
     if (!machine_decides() || (clock != CLOCK_REALTIME && clock != CLOCK_MONOTONIC))
-        return find_clock_gettime()(clock, now);
+        return YAK_REAL(clock_gettime)(clock, now);
     *now = read_clock();
     return 0;
 }
@@ -54,7 +55,7 @@ int clock_nanosleep(clockid_t clock, int flags, const struct timespec *time, str
 {
     struct timespec until;
     if (!machine_decides())
-        return find_clock_nanosleep()(clock, flags, time, left);
+        return YAK_REAL(clock_nanosleep)(clock, flags, time, left);
     until = (flags & TIMER_ABSTIME) != 0 ? *time : machine_later(time);
     sleep_until(&until);
     return 0;
@@ -64,7 +65,7 @@ int nanosleep(const struct timespec *time, struct timespec *left)
 {
     struct timespec until;
     if (!machine_decides())
-        return find_nanosleep()(time, left);
+        return YAK_REAL(nanosleep)(time, left);
     until = machine_later(time);
     sleep_until(&until);
     return 0;
@@ -74,7 +75,7 @@ unsigned sleep(unsigned seconds)
 {
     const struct timespec time = {.tv_sec = (time_t)seconds};
     if (!machine_decides())
-        return find_sleep()(seconds);
+        return YAK_REAL(sleep)(seconds);
     nanosleep(&time, 0);
     return 0;
 }
@@ -89,17 +90,21 @@ int usleep(useconds_t micros)
 int sched_yield(void)
 {
     if (!machine_decides())
-        return find_sched_yield()();
+        return YAK_REAL(sched_yield)();
     machine_acts(STEP_YIELD, 0, 0);
     return 0;
 }
 
-/* ---- the end of the program ---- */
+/* ---- signals, whose handlers end no wait here ---- */
 
-void _exit(int status)
+int pthread_kill(pthread_t thread, int number)
 {
-    machine_exits(status);
-    machine_quit(status);
+    the_machine.signals = the_machine.signals || number != 0;
+    return YAK_REAL(pthread_kill)(thread, number);
 }
 
-void _Exit(int status) __attribute__((alias("_exit")));
+int kill(pid_t process, int number)
+{
+    the_machine.signals = the_machine.signals || number != 0;
+    return YAK_REAL(kill)(process, number);
+}

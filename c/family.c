@@ -5,6 +5,7 @@
  * kernel marks when the thread that took it ends, or calls exec. A process whose mutex is marked is
  * looked for in /proc. What the dead held is taken away when somebody needs it: nothing polls. */
 #define _GNU_SOURCE
+#include "explored_calls.h"
 #include "log.h"
 
 #include <dirent.h>
@@ -29,7 +30,6 @@ enum {
 
 program *program_at;
 here *program_here;
-bool program_is_ending;
 bool program_is_apart;
 waiting *program_waits;
 static bool is_first; /* this process made the arena */
@@ -48,10 +48,8 @@ static bool is_fork_word(const char *word)
 
 bool program_shares(void)
 {
-#ifdef YAK_SEEDED
-    if (yak_seed_decides())
+    if (explored_decides())
         return false;
-#endif
     return !is_fork_word("new");
 }
 
@@ -67,7 +65,7 @@ void program_read_fork_word(void)
 static bool is_copied(void)
 {
 #ifdef YAK_EXPLORED
-    return yak_seed_decides() || getenv("YAK_EXPLORE") != 0 || getenv("YAK_SCHEDULE") != 0;
+    return explored_decides() || getenv("YAK_EXPLORE") != 0 || getenv("YAK_SCHEDULE") != 0;
 #else
     return false;
 #endif

@@ -2,23 +2,30 @@
  */
 #define _GNU_SOURCE
 #include "machine.h"
-#include "explored_calls.h"
 #include "races.h"
 
 #include <limits.h>
 #include <linux/futex.h>
+#include <stdlib.h>
 #include <string.h>
 #include <sys/syscall.h>
+#include <unistd.h>
 
 machine the_machine;
 
 /* The number of this thread; 0 if the machine does not know it, and HAS_LEFT once it has ended. */
-enum { HAS_LEFT = YAK_SEATS + 1 };
+enum { HAS_LEFT = MACHINE_SEATS + 1 };
 static __thread unsigned number_here;
 
-static void stop(const char *why)
+/* ThreadSanitizer, if it is there, is told that a turn comes after the one before it. */
+extern void __tsan_acquire(void *at) __attribute__((weak));
+extern void __tsan_release(void *at) __attribute__((weak));
+
+void machine_stop(const char *why)
 {
-    fprintf(stderr, "yakyrombe: the run ends: %s\n", why);
+    const char *seed = the_machine.seed;
+    fprintf(stderr, "yakyrombe: the run%s%s ends: %s\n", seed != 0 ? " with seed " : "",
+            seed != 0 ? seed : "", why);
     the_machine.is_on = false;
     machine_quit(2);
 }
@@ -30,7 +37,7 @@ bool machine_decides(void)
     if (number_here == 0 && the_machine.is_inner)
         return false;
     if (number_here == 0)
-        stop("there is a thread that was not started by pthread_create");
+        machine_stop("there is a thread that was not started by pthread_create");
     return true;
 }
 
@@ -55,7 +62,7 @@ uint32_t machine_object(const void *at, yak_kind kind)
 {
     yak_explored *all = the_machine.shared;
     yak_object *it;
-    if (at == 0)
+    if (at == 0 || (the_machine.is_direct && !the_machine.sees_memory))
         return 0;
     for (uint32_t i = 0; i < all->objects; ++i)
         if (all->object[i].at == (uint64_t)(uintptr_t)at && all->object[i].name[0] == 0)
@@ -129,117 +136,20 @@ void machine_note_entries(void)
     uint64_t count;
     if (the_machine.threads == 0 || number_here == 0 || number_here == HAS_LEFT)
         return;
-    count = explored_entries(the_machine.entries);
+    count = machine_entries(the_machine.entries);
     for (; the_machine.entries < count; ++the_machine.entries)
         dprintf(the_machine.threads, "%llu %u %u\n", (unsigned long long)the_machine.entries,
                 number_here, the_machine.steps);
 }
 
-/* ---- who can go on ---- */
+/* ---- who may be chosen ---- */
 
-/* The kernel's number of the thread that holds a mutex; 0 if nobody does. */
-static pid_t holder(const pthread_mutex_t *mutex)
-{
-    const int word = __atomic_load_n(&mutex->__data.__lock, __ATOMIC_RELAXED);
-    return (word & ~(int)FUTEX_OWNER_DIED) == 0 ? 0 : mutex->__data.__owner;
-}
-
-/* A mutex that its own thread locks again is recursive, or the system refuses it; else the thread
- * waits for itself, for ever. */
-static bool is_free(const pthread_mutex_t *mutex, const seat *it)
-{
-    const pid_t tid = holder(mutex);
-    return tid == 0 || (tid == it->tid && (mutex->__data.__kind & 3) != PTHREAD_MUTEX_NORMAL &&
-                        (mutex->__data.__kind & 3) != PTHREAD_MUTEX_ADAPTIVE_NP);
-}
-
-/* The number of readers stands above three bits. A writer that asks again is refused. */
-static bool is_rwlock_free(const pthread_rwlock_t *lock, bool is_writer, const seat *it)
-{
-    if (lock->__data.__cur_writer != 0)
-        return lock->__data.__cur_writer == it->tid;
-    return !is_writer || lock->__data.__readers >> 3 == 0;
-}
-
-static bool has_count(const void *at)
-{
-    int value = 0;
-    sem_getvalue((sem_t *)(uintptr_t)at, &value);
-    return value > 0;
-}
-
-static bool can_move(const machine_op *op)
-{
-    const machine_queue *it = op->with;
-    if (it == 0)
-        return true;
-    return op->kind == STEP_SEND ? it->current < it->room : it->current > 0;
-}
-
-static bool is_cancelled_in(const seat *it)
-{
-    switch (it->op.kind) {
-    case STEP_JOIN:
-    case STEP_WAKE:
-    case STEP_SEMWAIT:
-    case STEP_SLEEP:
-    case STEP_SEND:
-    case STEP_RECEIVE:
-        return it->is_cancelled;
-    default:
-        return false;
-    }
-}
-
-/* Whether what an operation waits for is there. */
-static bool is_there(const seat *it)
-{
-    const machine_op *op = &it->op;
-    if ((op->flags & (YAK_TRY | YAK_NEVER_BLOCKS)) != 0)
-        return true;
-    switch (op->kind) {
-    case STEP_JOIN:
-        return the_machine.seats[op->arg - 1].state == SEAT_OUT;
-    case STEP_LOCK:
-        return is_free(op->at, it);
-    case STEP_WAKE:
-        return it->told != 0;
-    case STEP_SEMWAIT:
-        return has_count(op->at);
-    case STEP_RDLOCK:
-    case STEP_WRLOCK:
-        return is_rwlock_free(op->at, op->kind == STEP_WRLOCK, it);
-    case STEP_ONCE:
-        return (*(const int *)op->at & 1) == 0;
-    case STEP_SEND:
-    case STEP_RECEIVE:
-        return can_move(op);
-    case STEP_COLLECT:
-        return op->goes_on(op->with);
-    case STEP_SLEEP:
-        return false;
-    default:
-        return true;
-    }
-}
-
-static unsigned ability(const seat *it)
-{
-    const machine_op *op = &it->op;
-    if (it->state != SEAT_PARKED)
-        return YAK_CANNOT;
-    /* A wait for a condition ends with its mutex, also at its deadline. */
-    if (op->mutex != 0 && !is_free(op->mutex, it))
-        return YAK_CANNOT;
-    if (is_there(it) || is_cancelled_in(it))
-        return YAK_CAN;
-    return (op->flags & YAK_TIMED) != 0 ? YAK_LATE : YAK_CANNOT;
-}
-
-/* What no other thread can see is done at once, and is no choice. */
+/* What no other thread can see is done at once, and is no choice. By a seed it is one, since
+ * threads may share memory unseen. */
 static bool is_local(yak_kind kind)
 {
-    return kind == STEP_START || kind == STEP_JOIN || kind == STEP_COLLECT;
+    return the_machine.seed == 0 &&
+           (kind == STEP_START || kind == STEP_JOIN || kind == STEP_COLLECT);
 }
 
 static void keep_only(uint8_t *able, unsigned chosen)
@@ -259,29 +169,30 @@ static unsigned count_of(const uint8_t *able, unsigned ability)
 /* The parked thread whose deadline comes first. */
 static unsigned first_late(const uint8_t *able)
 {
-    unsigned first = YAK_SEATS;
+    unsigned first = MACHINE_NONE;
     for (unsigned i = 0; i < the_machine.used; ++i)
         if (able[i] == YAK_LATE &&
-            (first == YAK_SEATS || simulation_is_before(&the_machine.seats[i].op.until,
-                                                        &the_machine.seats[first].op.until)))
+            (first == MACHINE_NONE || simulation_is_before(&the_machine.seats[i].op.until,
+                                                           &the_machine.seats[first].op.until)))
             first = i;
     return first;
 }
 
+/* By a seed a yield is a choice as any other. */
 static bool yields(const seat *it)
 {
-    return it->state == SEAT_PARKED && it->op.kind == STEP_YIELD;
+    return it->state == SEAT_PARKED && it->op.kind == STEP_YIELD && the_machine.seed == 0;
 }
 
 /* Threads that yield run only if no other thread can, in the order in which they did. */
 static void hold_back_yields(uint8_t *able)
 {
     bool others = !the_machine.shared->is_last && count_of(able, YAK_LATE) != 0;
-    unsigned first = YAK_SEATS;
+    unsigned first = MACHINE_NONE;
     for (unsigned i = 0; i < the_machine.used; ++i) {
         const seat *it = &the_machine.seats[i];
         others = others || (able[i] == YAK_CAN && !yields(it));
-        if (yields(it) && (first == YAK_SEATS || it->ran < the_machine.seats[first].ran))
+        if (yields(it) && (first == MACHINE_NONE || it->ran < the_machine.seats[first].ran))
             first = i;
     }
     for (unsigned i = 0; i < the_machine.used; ++i)
@@ -302,11 +213,11 @@ static void hold_back_deadlines(uint8_t *able)
 }
 
 /* Who can go on, by seats. If one has a step to make at once, it is that one alone, which is
- * returned; else YAK_SEATS. */
+ * returned; else MACHINE_NONE. */
 static unsigned look(uint8_t *able)
 {
     for (unsigned i = 0; i < the_machine.used; ++i) {
-        able[i] = (uint8_t)ability(&the_machine.seats[i]);
+        able[i] = (uint8_t)machine_ability(&the_machine.seats[i]);
         if (able[i] == YAK_CAN && is_local(the_machine.seats[i].op.kind)) {
             memset(able, YAK_CANNOT, the_machine.used);
             able[i] = YAK_CAN;
@@ -315,7 +226,7 @@ static unsigned look(uint8_t *able)
     }
     hold_back_yields(able);
     hold_back_deadlines(able);
-    return YAK_SEATS;
+    return MACHINE_NONE;
 }
 
 /* ---- the choice ---- */
@@ -397,7 +308,7 @@ static unsigned by_rule(const uint8_t *able)
     for (unsigned i = 0; i < the_machine.used; ++i)
         if (is_awake(able, i))
             return i;
-    return YAK_SEATS;
+    return MACHINE_NONE;
 }
 
 /* The seat that goes on, and the variant of its step. */
@@ -414,7 +325,7 @@ static unsigned decide(const uint8_t *able, unsigned local, unsigned *variant)
             machine_end_run(YAK_END_UNFIT, 7);
         return chosen;
     }
-    if (local != YAK_SEATS)
+    if (local != MACHINE_NONE)
         return local;
     for (unsigned i = 0; i < the_machine.used; ++i)
         awake += is_awake(able, i);
@@ -442,7 +353,7 @@ static void begin_step(seat *it, unsigned able, unsigned variant)
 {
     const machine_op *op = &it->op;
     it->is_late = able == YAK_LATE;
-    it->variant = (uint8_t)variant;
+    it->variant = variant;
     it->ran = the_machine.steps;
     touch(op->object);
     the_machine.touches_all = op->kind == STEP_EXIT || op->kind == STEP_YIELD ||
@@ -472,10 +383,36 @@ static void note_choice(const seat *it, unsigned variant)
         .what = YAK_CHOSE, .thread = (uint8_t)number_of(it), .variants = (uint8_t)variant});
 }
 
+static void end_by_deadlock(void)
+{
+    const char *doubt = the_machine.seed != 0 ? machine_doubt() : 0;
+    char why[256];
+    if (doubt == 0)
+        machine_end_run(YAK_END_DEADLOCK, 5);
+    snprintf(why, sizeof why, "no thread that the machine knows can go on, but %s", doubt);
+    machine_stop(why);
+}
+
+/* A run by a seed may have any number of steps. */
+static bool has_too_many_steps(void)
+{
+    return the_machine.seed == 0 &&
+           (the_machine.steps - the_machine.first >= the_machine.shared->most_steps ||
+            the_machine.steps >= YAK_MOST_STEPS || is_full());
+}
+
+static void let_go_on(seat *it)
+{
+    if (__tsan_release != 0)
+        __tsan_release(&it->go);
+    __atomic_store_n(&it->go, 1, __ATOMIC_SEQ_CST);
+    YAK_REAL(syscall)(SYS_futex, &it->go, FUTEX_WAKE_PRIVATE, 1, 0, 0, 0);
+}
+
 /* Chooses who goes on, and lets it; null if no thread is left. */
 static seat *choose(void)
 {
-    uint8_t able[YAK_SEATS] = {0};
+    uint8_t able[MACHINE_SEATS];
     unsigned parked = 0, variant, local, chosen;
     seat *it;
     machine_note_entries();
@@ -486,9 +423,8 @@ static seat *choose(void)
         return 0;
     local = look(able);
     if (count_of(able, YAK_CANNOT) == the_machine.used)
-        machine_end_run(YAK_END_DEADLOCK, 5);
-    if (the_machine.steps - the_machine.first >= the_machine.shared->most_steps ||
-        the_machine.steps >= YAK_MOST_STEPS || is_full())
+        end_by_deadlock();
+    if (has_too_many_steps())
         machine_end_run(YAK_END_STEPS, 6);
     chosen = decide(able, local, &variant);
     it = &the_machine.seats[chosen];
@@ -497,24 +433,24 @@ static seat *choose(void)
             note(record_of(&the_machine.seats[i], YAK_AT, able[i]));
     note_choice(it, variant);
     begin_step(it, able[chosen], variant);
-    if (it != machine_seat()) {
-        __atomic_store_n(&it->go, 1, __ATOMIC_SEQ_CST);
-        machine_futex(&it->go, FUTEX_WAKE_PRIVATE, 1);
-    }
+    if (it != machine_seat())
+        let_go_on(it);
     return it;
 }
 
 static void await_turn(seat *it)
 {
     while (__atomic_load_n(&it->go, __ATOMIC_SEQ_CST) != 1)
-        machine_futex(&it->go, FUTEX_WAIT_PRIVATE, 0);
+        YAK_REAL(syscall)(SYS_futex, &it->go, FUTEX_WAIT_PRIVATE, 0, 0, 0, 0);
     __atomic_store_n(&it->go, 0, __ATOMIC_SEQ_CST);
+    if (__tsan_acquire != 0)
+        __tsan_acquire(&it->go);
 }
 
 /* A thread that is alone has no choice, unless it waits. */
 static bool goes_on_alone(seat *it)
 {
-    if (ability(it) != YAK_CAN)
+    if (machine_ability(it) != YAK_CAN)
         return false;
     machine_note_entries();
     the_machine.is_noted = false;
@@ -528,9 +464,12 @@ static bool goes_on_alone(seat *it)
 
 bool machine_act(const machine_op *op)
 {
+    static const struct timespec moment = {.tv_nsec = 1000};
     seat *it = machine_seat();
     if (it->state == SEAT_PARKED)
-        stop("a signal handler, which interrupted a thread that is parked, made a call");
+        machine_stop("a signal handler, which interrupted a thread that is parked, made a call");
+    if (the_machine.seed != 0)
+        the_machine.now = machine_later(&moment);
     it->op = *op;
     it->state = SEAT_PARKED;
     it->is_late = false;
@@ -542,7 +481,7 @@ bool machine_act(const machine_op *op)
     if (choose() != it)
         await_turn(it);
     /* A wait for a condition ends with its mutex, also then. */
-    if (is_cancelled_in(it) && op->kind != STEP_WAKE)
+    if (machine_is_cancelled_in(it) && op->kind != STEP_WAKE)
         pthread_testcancel();
     return !it->is_late;
 }
@@ -566,6 +505,16 @@ int machine_acts(yak_kind kind, const void *at, const struct timespec *until)
     return machine_act(&op) ? 0 : ETIMEDOUT;
 }
 
+bool machine_waits(bool (*goes_on)(void *with), void *with, const struct timespec *until,
+                   const char *what)
+{
+    machine_op op = machine_op_on(STEP_COLLECT, 0, until);
+    op.goes_on = goes_on;
+    op.with = with;
+    op.what = what;
+    return machine_act(&op);
+}
+
 unsigned machine_tell(const void *at, unsigned most)
 {
     unsigned skipped = most == 1 ? machine_seat()->variant : 0, told = 0;
@@ -585,21 +534,48 @@ unsigned machine_tell(const void *at, unsigned most)
 
 /* ---- threads ---- */
 
+/* Whether a thread has ended, and nobody waits for that. */
+static bool is_over(const seat *it)
+{
+    for (unsigned i = 0; i < the_machine.used; ++i)
+        if (the_machine.seats[i].state == SEAT_PARKED &&
+            the_machine.seats[i].op.kind == STEP_JOIN &&
+            the_machine.seats[i].op.arg == number_of(it))
+            return false;
+    return it->state == SEAT_OUT || it->state == SEAT_FREE;
+}
+
+/* Whether there may be any number of threads, one after the other. A trace, and the clocks of
+ * races.c, know each by its number. */
+static bool reuses_seats(void)
+{
+    return the_machine.seed != 0 && !the_machine.sees_memory;
+}
+
+/* The seat of the first thread is its own for good. */
+static unsigned place_of_new(void)
+{
+    unsigned at = 1;
+    while (at < the_machine.used && !(reuses_seats() && is_over(&the_machine.seats[at])))
+        ++at;
+    return at;
+}
+
 seat *machine_add_seat(void)
 {
-    seat *it;
-    if (the_machine.used == YAK_SEATS)
+    const unsigned at = place_of_new();
+    seat *it = &the_machine.seats[at];
+    if (at >= (reuses_seats() ? (unsigned)MACHINE_SEATS : (unsigned)YAK_SEATS))
         return 0;
-    it = &the_machine.seats[the_machine.used];
-    it->op = (machine_op){.kind = STEP_START};
-    it->state = SEAT_PARKED;
-    ++the_machine.used;
+    *it = (seat){.state = SEAT_PARKED, .op = {.kind = STEP_START}};
+    the_machine.used += at == the_machine.used;
     return it;
 }
 
-void machine_drop_seat(void)
+void machine_drop_seat(seat *it)
 {
-    the_machine.seats[--the_machine.used].state = SEAT_FREE;
+    it->state = SEAT_FREE;
+    the_machine.used -= number_of(it) == the_machine.used;
 }
 
 /* The stack of a thread may have been that of another. */
@@ -619,7 +595,7 @@ void machine_sit_down(seat *it, bool is_first)
 {
     number_here = number_of(it);
     it->thread = pthread_self();
-    it->tid = (pid_t)syscall(SYS_gettid);
+    it->tid = gettid();
     pthread_setspecific(the_machine.key, &the_machine);
     if (!is_first)
         await_turn(it);
@@ -637,6 +613,14 @@ void machine_leave(void)
     number_here = HAS_LEFT;
 }
 
+void machine_cancels(pthread_t thread)
+{
+    for (unsigned i = 0; machine_decides() && i < the_machine.used; ++i)
+        if (the_machine.seats[i].state != SEAT_FREE && !the_machine.seats[i].is_joined &&
+            pthread_equal(the_machine.seats[i].thread, thread))
+            the_machine.seats[i].is_cancelled = true;
+}
+
 struct timespec machine_later(const struct timespec *time)
 {
     return simulation_later(&the_machine.now, time);
@@ -650,10 +634,12 @@ static void say_who_waits(void)
         const seat *it = &the_machine.seats[i];
         const uint32_t object = it->op.object;
         const char *name = object != 0 ? the_machine.shared->object[object - 1].name : "";
+        const char *call = the_machine.seed != 0 && it->op.what != 0
+                               ? it->op.what
+                               : yak_call_name(it->op.kind, it->op.flags, it->op.mutex != 0);
         if (it->state == SEAT_PARKED)
-            fprintf(stderr, "yakyrombe: thread %u waits in %s%s%s\n", i + 1,
-                    yak_call_name(it->op.kind, it->op.flags, it->op.arg), *name != 0 ? " on " : "",
-                    name);
+            fprintf(stderr, "yakyrombe: thread %u waits in %s%s%s\n", i + 1, call,
+                    *name != 0 ? " on " : "", name);
     }
 }
 
@@ -673,9 +659,9 @@ static void say_end(yak_end why)
 
 void machine_keep_journal(void)
 {
-    const char *path = program_journal_path();
+    const char *path = getenv("YAK_JOURNAL");
     FILE *to;
-    if (path == 0 || the_machine.write == 0 || (to = fopen(path, "we")) == 0)
+    if (path == 0 || *path == 0 || the_machine.write == 0 || (to = fopen(path, "we")) == 0)
         return;
     the_machine.write(the_machine.with, to);
     fclose(to);
@@ -686,7 +672,7 @@ static void note_holder(const seat *it)
 {
     const pthread_mutex_t *mutex = it->op.kind == STEP_LOCK ? it->op.at : it->op.mutex;
     for (unsigned i = 0; mutex != 0 && i < the_machine.used; ++i)
-        if (the_machine.seats[i].tid == holder(mutex) && holder(mutex) != 0)
+        if (the_machine.seats[i].tid == machine_holder(mutex) && machine_holder(mutex) != 0)
             note((yak_record){.what = YAK_HOLDS,
                               .thread = (uint8_t)(i + 1),
                               .object = machine_object(mutex, STEP_LOCK)});
@@ -700,7 +686,7 @@ static void end_trace(yak_end why)
         const seat *it = &the_machine.seats[i];
         if (it->state != SEAT_PARKED)
             continue;
-        note(record_of(it, YAK_LEFT, ability(it)));
+        note(record_of(it, YAK_LEFT, machine_ability(it)));
         note_holder(it);
     }
     note((yak_record){.what = YAK_END, .kind = (uint8_t)why});

@@ -1,22 +1,35 @@
-/* machine.h: the machine of libyakyrombe-explore, which runs the threads of a program one at a
- * time. It stands in the place of that of seeds (seed_machine.h), under the names that the other
- * files of c call.
+/* machine.h: the machine, which runs the threads of a program one at a time: by a seed, or by a
+ * schedule that yak-explore asks for.
  *
  * A thread that comes to an operation that others can see parks in front of it. The thread that
- * parks chooses who goes on: by the choices that are asked for, and then by a rule. What was
- * chosen, what all parked threads were about to do, and what the step did, is the trace
+ * parks chooses who goes on: by the choices that are asked for, and then by a rule, or at random.
+ * What was chosen, what all parked threads were about to do, and what the step did, is the trace
  * (explore.h). Up to the first pthread_create a thread is alone; of what it does until then only
- * the calls on queues are steps, since the trace is to show what the queues hold. */
+ * the calls on queues are steps, since the trace is to show what the queues hold.
+ *
+ * libyakyrombe-seed and libyakyrombe-explore have the machine with the calls of <mqueue.h>
+ * (explored_calls.c), and libyakyrombe.a has it with those by handles (seed_handles.c). */
 #ifndef YAKYROMBE_MACHINE_H
 #define YAKYROMBE_MACHINE_H
 
 #include "explore.h"
+#include "real.h"
 #include "simulation.h"
-#include "the_program.h"
+#include "wait.h"
 
+#include <errno.h>
+#include <pthread.h>
+#include <semaphore.h>
+#include <stdio.h>
+#include <sys/types.h>
 #include <time.h>
 
-enum { MACHINE_TOUCHED = 64, MACHINE_ASLEEP = 8, MACHINE_MADE = 1024 };
+enum {
+    MACHINE_SEATS = 1024, /* of threads that have not ended, by a seed; by a schedule YAK_SEATS */
+    MACHINE_NONE = MACHINE_SEATS, /* no seat */
+    MACHINE_TOUCHED = 64,
+    MACHINE_ASLEEP = 8
+};
 
 /* What a thread is about to do. */
 typedef struct machine_op {
@@ -29,23 +42,25 @@ typedef struct machine_op {
     pthread_mutex_t *mutex; /* of a wait for a condition */
     bool (*goes_on)(void *with);
     void *with;
+    const char *what; /* what a run by a seed says of it; null for the name of its kind */
 } machine_op;
 
 typedef enum seat_state { SEAT_FREE, SEAT_PARKED, SEAT_RUNS, SEAT_OUT } seat_state;
 
-/* A thread; its number is that of its seat, from 1. */
+/* A thread; its number is that of its seat, from 1. By a seed the seat of one that has ended is
+ * given to another. */
 typedef struct seat {
     seat_state state;
     pthread_t thread;
     pid_t tid;
     bool is_joined;
     bool is_cancelled;
-    bool is_late;    /* its deadline has passed */
-    unsigned told;   /* by which step its wait was ended; 0 if none has */
-    uint8_t variant; /* of its step */
-    unsigned ran;    /* at which step it ran last */
-    unsigned reads;  /* of the clock */
-    unsigned asleep; /* how many objects wake it, if it sleeps */
+    bool is_late;     /* its deadline has passed */
+    unsigned told;    /* by which step its wait was ended; 0 if none has */
+    unsigned variant; /* of its step */
+    unsigned ran;     /* at which step it ran last */
+    unsigned reads;   /* of the clock */
+    unsigned asleep;  /* how many objects wake it, if it sleeps */
     uint32_t wakes[MACHINE_ASLEEP];
     machine_op op;
     uint32_t go; /* a futex word */
@@ -59,11 +74,13 @@ typedef struct machine_queue {
 
 typedef struct machine {
     bool is_on;       /* it decides, and time is simulated */
+    const char *seed; /* YAK_SEED, by which it decides, or null */
     bool is_inner;    /* a part of the program is explored, and its other threads are not known */
     bool sees_memory; /* the program tells of its accesses to memory (explored_memory.c) */
     bool chooses;     /* there has been a second thread */
     bool is_noted;    /* the step that runs is in the trace */
     bool is_direct;
+    bool signals; /* the program has sent itself a signal */
     pid_t process;
     int link; /* to yak-explore */
     yak_explored *shared;
@@ -78,12 +95,8 @@ typedef struct machine {
     void *with;
     int threads; /* the file for the threads of the journal's entries, or 0 */
     uint64_t entries;
-    machine_queue queues[QUEUES];
-    uint32_t number_queue[NUMBERS]; /* the queue that a descriptor had at last */
-    unsigned made;                  /* queues that were created */
-    uint32_t made_queue[MACHINE_MADE];
     pthread_key_t key;
-    seat seats[YAK_SEATS];
+    seat seats[MACHINE_SEATS];
 } machine;
 
 #pragma GCC visibility push(hidden)
@@ -97,7 +110,7 @@ bool machine_decides(void);
 /* The seat of this thread, and its number. */
 seat *machine_seat(void);
 unsigned machine_number(void);
-/* The number of an object at an address. */
+/* The number of an object at an address; 0 if no trace is kept. */
 uint32_t machine_object(const void *at, yak_kind kind);
 /* An operation on an object. A deadline may be null. */
 machine_op machine_op_on(yak_kind kind, const void *at, const struct timespec *until);
@@ -105,6 +118,10 @@ machine_op machine_op_on(yak_kind kind, const void *at, const struct timespec *u
 bool machine_act(const machine_op *op);
 /* Parks, and says what the program is told of a deadline that has passed: 0, or an error. */
 int machine_acts(yak_kind kind, const void *at, const struct timespec *until);
+/* Parks until `goes_on` is true: false if its deadline, which may be null, came first. `what` says
+ * it in words, or is null. */
+bool machine_waits(bool (*goes_on)(void *with), void *with, const struct timespec *until,
+                   const char *what);
 /* What the step that runs did too, and what came of it. */
 void machine_also(yak_kind kind, uint32_t object);
 void machine_gave(int error, uint32_t value);
@@ -117,10 +134,12 @@ uint32_t machine_clock_object(void);
 /* A new thread takes a seat, null if there is none, and waits there for its turn. The first thread
  * does not wait. */
 seat *machine_add_seat(void);
-void machine_drop_seat(void);
+void machine_drop_seat(seat *it);
 void machine_sit_down(seat *it, bool is_first);
 /* A thread has ended. */
 void machine_leave(void);
+/* A thread is cancelled: it goes on. */
+void machine_cancels(pthread_t thread);
 /* The program ends by this step. */
 void machine_exits(int status);
 /* The simulated time, and a moment so much later. */
@@ -128,8 +147,21 @@ struct timespec machine_later(const struct timespec *time);
 /* Begins the choices. If yak-explore asks for runs, this returns in a child for each. */
 void machine_begin_choices(void);
 void machine_quit(int status) __attribute__((noreturn));
-/* A futex call of the system itself. */
-long machine_futex(uint32_t *word, int how, uint32_t value);
+
+/* What a call that fails with this error returns. */
+static inline int machine_fails(int error)
+{
+    errno = error;
+    return -1;
+}
+
+/* ---- what the machine wants of the calls on queues (explored_calls.c, seed_handles.c) ---- */
+
+extern const yak_turns_ machine_turns;
+/* How many entries the stored journal has, of which so many were there before. */
+uint64_t machine_entries(uint64_t before);
+/* This is a child that makes a run. */
+void machine_meet_child(void);
 
 /* ---- for the crate for Rust, which is another library (machine_server.c, explored_calls.c) ----
  */
@@ -158,8 +190,18 @@ void machine_keep_journal(void);
 /* Writes which entries this thread has made since somebody did this, by its last step. */
 void machine_note_entries(void);
 
-/* Reads YAK_SCHEDULE. */
-void machine_read_schedule(const char *text, yak_explored *to);
+/* Whether a parked thread can go on, as YAK_CANNOT and its kin say (machine_able.c); whether a
+ * cancellation lets it; and the kernel's number of the thread that holds a mutex, 0 if none does.
+ */
+unsigned machine_ability(const seat *it);
+bool machine_is_cancelled_in(const seat *it);
+pid_t machine_holder(const pthread_mutex_t *mutex);
+
+/* Why it is not certain that no thread can go on, or null if it is (doubt.c). */
+const char *machine_doubt(void);
+
+/* Ends the run, which can't be decided. */
+void machine_stop(const char *why) __attribute__((noreturn));
 void machine_end_run(yak_end why, int status) __attribute__((noreturn));
 
 #pragma GCC visibility pop

@@ -1,4 +1,5 @@
-/* The machine's begin; YAK_SCHEDULE; and the server that makes a child for each run. */
+/* The machine's begin; YAK_SEED and YAK_SCHEDULE; and the server that makes a child for each run.
+ */
 #define _GNU_SOURCE
 #include "machine.h"
 
@@ -29,7 +30,20 @@ static void stop(const char *why)
     machine_quit(2);
 }
 
-/* ---- YAK_SCHEDULE ---- */
+/* ---- YAK_SEED and YAK_SCHEDULE ---- */
+
+/* A seed is a number, with the word `last` in front if a deadline passes only if no thread can run.
+ */
+static void read_yak_seed(const char *text, yak_explored *to)
+{
+    to->is_random = to->is_each = true;
+    to->is_last = strncmp(text, "last ", 5) == 0;
+    if (!simulation_read_seed(text + (to->is_last ? 5 : 0), &to->seed)) {
+        fprintf(stderr, "yakyrombe: YAK_SEED=%s is not a whole number below 2^64\n", text);
+        machine_quit(2);
+    }
+    the_machine.seed = text;
+}
 
 static void stop_at(const char *text)
 {
@@ -76,7 +90,7 @@ static void read_seed(const char *word, yak_explored *to)
         stop_at(word);
 }
 
-void machine_read_schedule(const char *text, yak_explored *to)
+static void read_schedule(const char *text, yak_explored *to)
 {
     char *copy = strdup(text), *rest = copy;
     if (copy == 0)
@@ -135,9 +149,9 @@ static void serve(void)
         child = _Fork();
         if (child == 0) {
             close(the_machine.link);
-            machine_seat()->tid = (pid_t)syscall(SYS_gettid);
+            machine_seat()->tid = gettid();
             the_machine.process = getpid();
-            program_meet_thread();
+            machine_meet_child();
             return;
         }
         if (child < 0)
@@ -170,9 +184,16 @@ static void end_thread(void *of)
     machine_leave();
 }
 
+/* A child that a program forks is not explored. By a seed it goes on, with one thread. */
 static void in_child(void)
 {
-    the_machine.is_on = false;
+    the_machine.is_on = the_machine.is_on && the_machine.seed != 0;
+    if (!machine_decides())
+        return;
+    for (unsigned i = 0; i < the_machine.used; ++i)
+        if (&the_machine.seats[i] != machine_seat())
+            the_machine.seats[i].state = SEAT_OUT;
+    machine_seat()->tid = the_machine.process = getpid();
 }
 
 /* Maps the memory of yak-explore, by the numbers of its files: those of the memory and of the
@@ -193,7 +214,8 @@ static void meet_explorer(const char *files)
     the_machine.shared->version = YAK_EXPLORE_VERSION;
 }
 
-/* A run that ends by a signal leaves its journal too. All other threads are parked. */
+/* A run that ends by a signal leaves its journal too, unless a sanitizer or another library handles
+ * the signal. All other threads are parked. */
 static void crash(int number)
 {
     machine_note_entries();
@@ -206,8 +228,11 @@ static void keep_journal_at_crash(void)
 {
     static const int crashes[] = {SIGABRT, SIGSEGV, SIGBUS, SIGFPE, SIGILL};
     struct sigaction action = {.sa_handler = crash, .sa_flags = (int)SA_RESETHAND};
-    for (unsigned i = 0; i < sizeof crashes / sizeof crashes[0]; ++i)
-        sigaction(crashes[i], &action, 0);
+    for (unsigned i = 0; i < sizeof crashes / sizeof crashes[0]; ++i) {
+        struct sigaction before;
+        if (sigaction(crashes[i], 0, &before) == 0 && before.sa_handler == SIG_DFL)
+            sigaction(crashes[i], &action, 0);
+    }
 }
 
 /* Opens the file for the threads of the entries, far from the files that the program opens. */
@@ -224,7 +249,7 @@ static void open_threads(void)
     close(file);
 }
 
-static void begin_alone(const char *schedule)
+static void begin_alone(void (*read)(const char *text, yak_explored *to), const char *text)
 {
     keep_journal_at_crash();
     open_threads();
@@ -234,22 +259,12 @@ static void begin_alone(const char *schedule)
         stop("no memory");
     the_machine.is_direct = true;
     the_machine.shared->most_steps = YAK_MOST_STEPS;
-    machine_read_schedule(schedule, the_machine.shared);
-}
-
-static struct timespec now(void)
-{
-    return the_machine.now;
-}
-
-static void take_turn(void)
-{
+    read(text, the_machine.shared);
 }
 
 /* The calling thread is the first. */
 static void begin_machine(void)
 {
-    static const yak_turns_ turns = {.turn = take_turn, .now = now};
     the_machine.now.tv_sec = SIMULATION_BEGIN;
     pthread_key_create(&the_machine.key, end_thread);
     pthread_atfork(0, 0, in_child);
@@ -260,16 +275,19 @@ static void begin_machine(void)
     the_machine.is_on = true;
     /* Also a program that never has a second thread has a run. */
     on_exit(end_program, 0);
-    yak_follow_(&turns);
+    yak_follow_(&machine_turns);
 }
 
 static __attribute__((constructor)) void begin(void)
 {
-    const char *schedule = getenv("YAK_SCHEDULE"), *files = getenv("YAK_EXPLORE");
+    const char *schedule = getenv("YAK_SCHEDULE"), *files = getenv("YAK_EXPLORE"),
+               *seed = getenv("YAK_SEED");
     if (files != 0)
         meet_explorer(files);
     else if (schedule != 0)
-        begin_alone(schedule);
+        begin_alone(read_schedule, schedule);
+    else if (seed != 0 && *seed != 0)
+        begin_alone(read_yak_seed, seed);
     else
         return;
     the_machine.is_inner = getenv("YAK_MODEL") != 0;
@@ -324,48 +342,4 @@ bool yak_explored_begin(void)
     begin_machine();
     machine_begin_choices();
     return true;
-}
-
-/* ---- what the other files of c call ---- */
-
-/* So that the linker leaves out the machine of seeds. */
-const char yak_seed_machine;
-
-bool yak_seed_decides(void)
-{
-    return the_machine.is_on;
-}
-
-/* A call on queues has parked before (explored_calls.h). */
-void yak_seed_turn(void)
-{
-}
-
-bool yak_seed_wait(bool (*goes_on)(void *with), void *with, const struct timespec *until,
-                   const char *what)
-{
-    machine_op op = machine_op_on(STEP_COLLECT, 0, until);
-    (void)what;
-    op.goes_on = goes_on;
-    op.with = with;
-    return machine_act(&op);
-}
-
-void yak_seed_writes_journal(void (*write)(void *with, FILE *to), void *with)
-{
-    the_machine.write = write;
-    the_machine.with = with;
-}
-
-/* A thread that is cancelled goes on. */
-void yak_seed_cancels(pthread_t thread)
-{
-    for (unsigned i = 0; machine_decides() && i < the_machine.used; ++i)
-        if (the_machine.seats[i].state != SEAT_FREE &&
-            pthread_equal(the_machine.seats[i].thread, thread))
-            the_machine.seats[i].is_cancelled = true;
-}
-
-void yak_seed_signals(void)
-{
 }

@@ -1,4 +1,5 @@
-/* races.h: which accesses to memory nothing orders. Private to libyakyrombe-explore.
+/* races.h: which accesses to memory nothing orders. Private to libyakyrombe-explore. Its functions
+ * are weak, since the machine is in other libraries too.
  *
  * A thread has a clock, which counts its steps, and knows of each other thread the steps that come
  * before its own. A step learns what all earlier steps on its object knew. */
@@ -27,6 +28,10 @@ typedef struct races_other {
 } races_other;
 
 #pragma GCC visibility push(hidden)
+#pragma weak races_step
+#pragma weak races_create
+#pragma weak races_join
+#pragma weak races_forget
 
 /* A thread makes a step on an object, creates a thread, and learns that one has ended. Threads have
  * their numbers from 1. */

@@ -1,5 +1,4 @@
-/* simulation.h: the time and the choices of the machines that run threads one at a time: that of
- * seeds (seed_machine.c) and that of schedules (machine.c). */
+/* simulation.h: the time and the random choices of the machine. */
 #ifndef YAKYROMBE_SIMULATION_H
 #define YAKYROMBE_SIMULATION_H
 

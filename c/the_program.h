@@ -16,7 +16,7 @@
 #ifndef YAKYROMBE_THE_PROGRAM_H
 #define YAKYROMBE_THE_PROGRAM_H
 
-#ifdef YAK_SEEDED
+#ifdef YAK_EXPLORED
 #include "real.h"
 #define REAL(name) YAK_REAL(name)
 #else
@@ -244,8 +244,6 @@ extern program *program_at;
 extern here *program_here;
 /* Whether ThreadSanitizer is told of the lock. */
 extern bool program_is_watched;
-/* Whether this process has come to its end. */
-extern bool program_is_ending;
 extern _Thread_local volatile int program_place;
 /* Whether the last send or receive of this thread was a send. */
 extern _Thread_local bool program_has_sent;
@@ -375,10 +373,6 @@ static inline int program_enter(void)
 {
     if (program_place != OUTSIDE || program_here->me == 0)
         return program_enter_apart();
-#ifdef YAK_SEEDED
-    if (!program_is_ending)
-        yak_seed_turn();
-#endif
     return program_come_in();
 }
 

@@ -200,6 +200,89 @@ static void ends(void)
         WANT(pthread_join(threads[i], 0) == 0);
 }
 
+static pthread_barrier_t barrier;
+static pthread_once_t once = PTHREAD_ONCE_INIT;
+static atomic_int met, begun, last;
+
+static void begin(void)
+{
+    sched_yield();
+    atomic_fetch_add(&begun, 1);
+}
+
+static void *meet(void *of)
+{
+    WANT(pthread_once(&once, begin) == 0 && begun == 1);
+    for (int i = 1; i <= 10; ++i) {
+        atomic_fetch_add(&met, 1);
+        if (pthread_barrier_wait(&barrier) == PTHREAD_BARRIER_SERIAL_THREAD)
+            atomic_fetch_add(&last, 1);
+        WANT(met >= 3 * i);
+    }
+    return of;
+}
+
+/* Three meet ten times, and one of them is the last each time. */
+static void meets(void)
+{
+    pthread_t threads[3];
+    WANT(pthread_barrier_init(&barrier, 0, 3) == 0);
+    for (int i = 0; i < 3; ++i)
+        threads[i] = start(meet, 0);
+    for (int i = 0; i < 3; ++i)
+        WANT(pthread_join(threads[i], 0) == 0);
+    WANT(last == 10);
+}
+
+static void unlock(void *of)
+{
+    pthread_mutex_unlock(of);
+}
+
+static void *wait_for_condition(void *of)
+{
+    WANT(pthread_mutex_lock(&mutex) == 0);
+    pthread_cleanup_push(unlock, &mutex);
+    for (;;)
+        pthread_cond_wait(&cond, &mutex);
+    pthread_cleanup_pop(1);
+    return of;
+}
+
+/* A thread that is cancelled leaves its wait, and its mutex. */
+static void cancels(void)
+{
+    pthread_t thread = start(wait_for_condition, 0);
+    void *result;
+    sched_yield();
+    WANT(pthread_cancel(thread) == 0 && pthread_join(thread, &result) == 0);
+    WANT(result == PTHREAD_CANCELED);
+    WANT(pthread_mutex_lock(&mutex) == 0 && pthread_mutex_unlock(&mutex) == 0);
+}
+
+static void *end(void *of)
+{
+    return of;
+}
+
+static void *sleep_and_end(void *of)
+{
+    sleep(1);
+    return of;
+}
+
+/* A thread that nobody joins leaves its name to a later one, for which somebody waits. */
+static void names(void)
+{
+    for (int i = 0; i < 50; ++i) {
+        pthread_t thread = start(end, 0);
+        void *result;
+        WANT(pthread_detach(thread) == 0);
+        thread = start(sleep_and_end, &thread);
+        WANT(pthread_join(thread, &result) == 0 && result == &thread);
+    }
+}
+
 /* ---- what it can't decide ---- */
 
 static int send_from_c11(void *of)
@@ -277,29 +360,6 @@ static void timer(void)
     WANT(sem_wait(&sem) == 0);
 }
 
-static void unlock(void *of)
-{
-    pthread_mutex_unlock(of);
-}
-
-static void *wait_for_condition(void *of)
-{
-    (void)of;
-    WANT(pthread_mutex_lock(&mutex) == 0);
-    pthread_cleanup_push(unlock, &mutex);
-    for (;;)
-        pthread_cond_wait(&cond, &mutex);
-    pthread_cleanup_pop(1);
-    return 0;
-}
-
-static void cancels(void)
-{
-    pthread_t thread = start(wait_for_condition, 0);
-    sched_yield();
-    WANT(pthread_cancel(thread) == 0 && pthread_join(thread, 0) == 0);
-}
-
 static void shared(void)
 {
     sem_t *both = mmap(0, sizeof *both, PROT_READ | PROT_WRITE, MAP_SHARED | MAP_ANONYMOUS, -1, 0);
@@ -314,13 +374,6 @@ static void shared(void)
     WANT(sem_wait(both) == 0 && waitpid(child, 0, 0) == child);
 }
 
-static void barrier(void)
-{
-    pthread_barrier_t it;
-    WANT(pthread_barrier_init(&it, 0, 1) == 0);
-    WANT(pthread_barrier_wait(&it) == PTHREAD_BARRIER_SERIAL_THREAD);
-}
-
 int main(int count, char **words)
 {
     static const struct {
@@ -333,13 +386,14 @@ int main(int count, char **words)
         {"many", many},
         {"turns", takes_turns},
         {"ends", ends},
+        {"meets", meets},
+        {"cancels", cancels},
+        {"names", names},
         {"c11", c11},
         {"quiet", c11_quiet},
         {"suspends", suspends},
         {"timer", timer},
-        {"cancels", cancels},
         {"shared", shared},
-        {"barrier", barrier},
     };
     struct mq_attr attr = room_for(1);
     WANT(sem_init(&sem, 0, 0) == 0);

@@ -1,0 +1,104 @@
+/* The machine: whether a parked thread can go on. It looks into the objects of the system, as the
+ * GNU C library lays them out. */
+#define _GNU_SOURCE
+#include "machine.h"
+
+#include <linux/futex.h>
+
+pid_t machine_holder(const pthread_mutex_t *mutex)
+{
+    const int word = __atomic_load_n(&mutex->__data.__lock, __ATOMIC_RELAXED);
+    return (word & ~(int)FUTEX_OWNER_DIED) == 0 ? 0 : mutex->__data.__owner;
+}
+
+/* A mutex that its own thread locks again is recursive, or the system refuses it; else the thread
+ * waits for itself, for ever. */
+static bool is_free(const pthread_mutex_t *mutex, const seat *it)
+{
+    const pid_t tid = machine_holder(mutex);
+    return tid == 0 || (tid == it->tid && (mutex->__data.__kind & 3) != PTHREAD_MUTEX_NORMAL &&
+                        (mutex->__data.__kind & 3) != PTHREAD_MUTEX_ADAPTIVE_NP);
+}
+
+/* The number of readers stands above three bits. A writer that asks again is refused. */
+static bool is_rwlock_free(const pthread_rwlock_t *lock, bool is_writer, const seat *it)
+{
+    if (lock->__data.__cur_writer != 0)
+        return lock->__data.__cur_writer == it->tid;
+    return !is_writer || lock->__data.__readers >> 3 == 0;
+}
+
+static bool has_count(const void *at)
+{
+    int value = 0;
+    sem_getvalue((sem_t *)(uintptr_t)at, &value);
+    return value > 0;
+}
+
+static bool can_move(const machine_op *op)
+{
+    const machine_queue *it = op->with;
+    if (it == 0)
+        return true;
+    return op->kind == STEP_SEND ? it->current < it->room : it->current > 0;
+}
+
+bool machine_is_cancelled_in(const seat *it)
+{
+    switch (it->op.kind) {
+    case STEP_JOIN:
+    case STEP_WAKE:
+    case STEP_SEMWAIT:
+    case STEP_SLEEP:
+    case STEP_SEND:
+    case STEP_RECEIVE:
+        return it->is_cancelled;
+    default:
+        return false;
+    }
+}
+
+/* Whether what an operation waits for is there. */
+static bool is_there(const seat *it)
+{
+    const machine_op *op = &it->op;
+    if ((op->flags & (YAK_TRY | YAK_NEVER_BLOCKS)) != 0)
+        return true;
+    switch (op->kind) {
+    case STEP_JOIN:
+        return the_machine.seats[op->arg - 1].state == SEAT_OUT;
+    case STEP_LOCK:
+        return is_free(op->at, it);
+    case STEP_WAKE:
+        return it->told != 0;
+    case STEP_SEMWAIT:
+        return has_count(op->at);
+    case STEP_RDLOCK:
+    case STEP_WRLOCK:
+        return is_rwlock_free(op->at, op->kind == STEP_WRLOCK, it);
+    case STEP_ONCE:
+        return (*(const int *)op->at & 1) == 0;
+    case STEP_SEND:
+    case STEP_RECEIVE:
+        return can_move(op);
+    case STEP_COLLECT:
+        return op->goes_on(op->with);
+    case STEP_SLEEP:
+        return false;
+    default:
+        return true;
+    }
+}
+
+unsigned machine_ability(const seat *it)
+{
+    const machine_op *op = &it->op;
+    if (it->state != SEAT_PARKED)
+        return YAK_CANNOT;
+    /* A wait for a condition ends with its mutex, also at its deadline. */
+    if (op->mutex != 0 && !is_free(op->mutex, it))
+        return YAK_CANNOT;
+    if (is_there(it) || machine_is_cancelled_in(it))
+        return YAK_CAN;
+    return (op->flags & YAK_TIMED) != 0 ? YAK_LATE : YAK_CANNOT;
+}
