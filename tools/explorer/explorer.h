@@ -35,7 +35,7 @@ typedef struct run {
 
 typedef struct program {
     const options *options;
-    char *library;
+    char *library; /* with the machine; null if the program has that in it */
     pid_t server;
     int link, printed; /* files */
     off_t before;      /* what was printed before the first run */

@@ -7,6 +7,7 @@
 #include "explorer.h"
 
 #include <errno.h>
+#include <fcntl.h>
 #include <getopt.h>
 #include <limits.h>
 #include <sched.h>
@@ -14,6 +15,7 @@
 #include <stdarg.h>
 #include <stdlib.h>
 #include <string.h>
+#include <sys/mman.h>
 #include <time.h>
 #include <unistd.h>
 
@@ -74,12 +76,32 @@ char *find_beside(const char *name, const char *const *folders)
     return 0;
 }
 
-/* The library beside yak-explore, or where it is installed; else the system looks for it. */
-static char *find_library(void)
+/* Whether a program has the machine in it, as seed.h puts it there: only that has this message. */
+static bool has_machine(const char *path)
+{
+    static const char message[] = "YAK_SEED=%s is not";
+    const int file = open(path, O_RDONLY | O_CLOEXEC);
+    const off_t size = file >= 0 ? lseek(file, 0, SEEK_END) : 0;
+    void *bytes = size > 0 ? mmap(0, (size_t)size, PROT_READ, MAP_PRIVATE, file, 0) : MAP_FAILED;
+    bool has = false;
+    if (bytes != MAP_FAILED) {
+        has = memmem(bytes, (size_t)size, message, sizeof message - 1) != 0;
+        munmap(bytes, (size_t)size);
+    }
+    if (file >= 0)
+        close(file);
+    return has;
+}
+
+/* The library beside yak-explore, or where it is installed; else the system looks for it. Null if
+ * the program needs none. */
+static char *find_library(const char *program)
 {
     static const char *const folders[] = {".", YAK_NEAR, 0};
     const char *named = getenv("YAK_EXPLORE_LIBRARY");
     char *found;
+    if (has_machine(program))
+        return 0;
     if (named != 0 && *named != 0)
         return need(strdup(named));
     found = find_beside("libyakyrombe-explore.so", folders);
@@ -315,7 +337,7 @@ int main(int count, char **words)
     signal(SIGPIPE, SIG_IGN);
     stay_on_one_processor();
     clock_gettime(CLOCK_MONOTONIC, &it.began);
-    it.program.library = find_library();
+    it.program.library = find_library(options.words[0]);
     program_start(&it.program, &options);
     if (it.program.is_gone)
         make_run(&it, &result, &fails);

@@ -39,6 +39,7 @@ static const char *noun_of(const yak_object *it)
         [STEP_WRITE] = "memory",
         [STEP_OPEN] = "the names of queues",
         [STEP_UNLINK] = "the names of queues",
+        [STEP_HANDLE] = "the queues",
     };
     const char *noun = nouns[it->kind % STEP_KINDS];
     return noun != 0 ? noun : "object";

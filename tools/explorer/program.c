@@ -28,10 +28,12 @@ static void set_library(const program *it)
 {
     const char *before = getenv("LD_PRELOAD");
     char *value;
-    if (asprintf(&value, "%s%s%s", it->library, before != 0 ? ":" : "", before != 0 ? before : "") <
-        0)
-        _exit(2);
-    setenv("LD_PRELOAD", value, 1);
+    if (it->library != 0) {
+        if (asprintf(&value, "%s%s%s", it->library, before != 0 ? ":" : "",
+                     before != 0 ? before : "") < 0)
+            _exit(2);
+        setenv("LD_PRELOAD", value, 1);
+    }
     unsetenv("YAK_SEED");
     unsetenv("YAK_JOURNAL");
     unsetenv("YAK_THREADS");
@@ -130,8 +132,8 @@ void program_start(program *it, const options *options)
     if (it->is_gone && WIFEXITED(it->status) && WEXITSTATUS(it->status) == NOT_FOUND)
         stop("%s", read_printed(it));
     if (it->shared->version != YAK_EXPLORE_VERSION)
-        stop("%s was not loaded into %s, which may be linked statically; it said:\n%s", it->library,
-             options->words[0], read_printed(it));
+        stop("%s was not loaded into %s, which may be linked statically; it said:\n%s",
+             it->library != 0 ? it->library : "the machine", options->words[0], read_printed(it));
 }
 
 void program_run(program *it, run *result)

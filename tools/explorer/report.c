@@ -34,7 +34,9 @@ static void write_words(FILE *to, char *const *words)
 static void write_command(FILE *to, const outcome *of, const program *it)
 {
     char *schedule = schedule_of(of, it->options->is_last);
-    fprintf(to, "YAK_SCHEDULE=\"%s\" LD_PRELOAD=%s", schedule, it->library);
+    fprintf(to, "YAK_SCHEDULE=\"%s\"", schedule);
+    if (it->library != 0)
+        fprintf(to, " LD_PRELOAD=%s", it->library);
     write_words(to, it->options->words);
     fputc('\n', to);
     free(schedule);
