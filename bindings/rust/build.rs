@@ -1,6 +1,6 @@
-//! Links the proved library, `libyakyrombe.a`. It is looked for, in this order, in the folder that
-//! `YAKYROMBE_LIB` names, in the folder that pkg-config names, and in the folder of the crate:
-//! its own `lib`, or that of the repository or archive that has the crate as `bindings/rust`.
+//! Links the proved library, `libyakyrombe.a`. The build looks for it, in this order, in the folder
+//! that `YAKYROMBE_LIB` names, in the folder that pkg-config names, in `lib` of the crate, and in
+//! `lib` of the repository or archive that has the crate as `bindings/rust`.
 
 use std::env;
 use std::path::{Path, PathBuf};
@@ -20,7 +20,7 @@ fn main() {
             println!("cargo:rerun-if-changed={}", folder.join(LIBRARY).display());
             println!("cargo:rustc-link-search=native={}", folder.display());
             println!("cargo:rustc-link-lib=static=yakyrombe");
-            // Where the feature `model` looks for yak-explore.
+            // The feature `model` looks for yak-explore there.
             println!("cargo:rustc-env=YAKYROMBE_FOLDER={}", folder.display());
         }
         Err(why) => {
@@ -56,7 +56,7 @@ fn find() -> Result<PathBuf, String> {
     ))
 }
 
-/// The folder, by its whole path, if the library is there.
+/// The absolute path of the folder, if it has the library.
 fn has_library(folder: PathBuf) -> Option<PathBuf> {
     let is_there = folder.join(LIBRARY).is_file();
     is_there.then(|| folder.canonicalize().unwrap_or(folder))
@@ -70,8 +70,8 @@ fn own_folders() -> [PathBuf; 2] {
     [own.join("lib"), above]
 }
 
-/// The folder of an installed library of this version. pkg-config speaks of the machine that
-/// builds.
+/// The folder of an installed library of this version. pkg-config knows only the build machine, so
+/// it is not asked in a cross build.
 fn by_pkg_config() -> Option<PathBuf> {
     if env::var_os("HOST") != env::var_os("TARGET")
         && env::var_os("PKG_CONFIG_ALLOW_CROSS").is_none()

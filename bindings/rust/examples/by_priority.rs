@@ -29,7 +29,7 @@ fn main() -> Result<(), Error> {
     println!("{done} orders carried out, in this order:");
     let journal = first.journal()?;
     let lines: Vec<&str> = journal.lines().collect();
-    // `got 2` is the receive of the message whose send stands at place 2.
+    // `got 2` is the reply of the receive that takes the message of entry 2.
     for place in lines
         .iter()
         .filter_map(|line| line.split_once("-> got ")?.1.parse::<usize>().ok())

@@ -1,4 +1,5 @@
-//! Async tasks in one thread, by an executor over `std`: numbers go through a queue of one message.
+//! Async tasks in one thread, with an executor over `std`: numbers pass through a queue that holds
+//! one message.
 
 use std::future::Future;
 use std::sync::{atomic::AtomicBool, atomic::Ordering::SeqCst, Arc};
@@ -8,7 +9,7 @@ use yakyrombe::{Error, OpenOptions, Process, System};
 
 type Task = std::pin::Pin<Box<dyn Future<Output = Result<(), Error>>>>;
 
-/// Whether a task is to be polled, and the thread that polls it.
+/// Whether a task should be polled, and the thread that polls it.
 struct Due(AtomicBool, Thread);
 
 impl Wake for Due {

@@ -1,5 +1,5 @@
-//! `pair N` and `crowd P N`, as `experiments/peers/yak_queue.c` has them: what an operation costs from
-//! Rust. Behind `unstored` no journal is stored.
+//! The cost of an operation from Rust: `pair N` and `crowd P N`, as in
+//! `experiments/peers/yak_queue.c`. With `unstored` before them, no journal is stored.
 
 use std::env;
 use std::process::exit;
@@ -11,7 +11,7 @@ use yakyrombe::{Error, OpenOptions, Process, System};
 const MESSAGE: &[u8; 16] = b"sixteen bytes ..";
 const QUEUE: OpenOptions = OpenOptions::read_write().create().limits(10, 16);
 
-/// How many processes are made, with a stored journal or without.
+/// Makes a number of processes, with a stored journal or without.
 type Make = fn(usize) -> Result<Vec<Process>, Error>;
 
 fn stored(count: usize) -> Result<Vec<Process>, Error> {

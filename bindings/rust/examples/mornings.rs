@@ -6,7 +6,7 @@ use yakyrombe::{Clock, Error, Journal, OpenOptions, System, VirtualClock};
 const JOBS: OpenOptions = OpenOptions::read_write().create().limits(64, 16);
 const HOUR: Duration = Duration::from_secs(3600);
 
-/// A day: a job comes each hour, and the workshop does one each two hours.
+/// A day: a job arrives every hour, and the workshop does one every two hours.
 fn day() -> Result<Journal, Error> {
     let clock = VirtualClock::new();
     let (_, [office, workshop]) =
@@ -22,7 +22,7 @@ fn day() -> Result<Journal, Error> {
     Ok(office.journal()?.compacted()?)
 }
 
-/// A morning from there, on which a job takes so long: how many are left at noon.
+/// The morning after, on which each job takes `job`; returns how many jobs are left at noon.
 fn morning(midnight: &Journal, job: Duration) -> Result<usize, Error> {
     let clock = VirtualClock::new();
     clock.advance_to(24 * HOUR);

@@ -1,4 +1,4 @@
-//! A pool of workers, and a control message that overtakes the jobs which are still in the queue.
+//! A pool of workers, and a control message that overtakes the jobs that are still in the queue.
 
 use std::thread;
 use yakyrombe::{Error, OpenOptions, Process, Queue, System};
@@ -16,7 +16,7 @@ fn main() -> Result<(), Error> {
     for job in 0..JOBS {
         pool.send(job.to_string().as_bytes(), JOB)?;
     }
-    // The pool is told to stop before it has begun: the jobs stay where they are.
+    // The pool gets the order to stop before it starts, so the jobs stay in the queue.
     for _ in 0..WORKERS {
         pool.send(b"stop", CONTROL)?;
     }

@@ -7,7 +7,7 @@ use yakyrombe::{Clock, Deadline, Error, OpenOptions, Process, Queue, System, Vir
 const QUEUE: OpenOptions = OpenOptions::read_write().create().limits(64, 32);
 const END: Duration = Duration::from_millis(100);
 
-/// What happens again and again.
+/// A periodic action.
 struct Periodic {
     period: Duration,
     next: Duration,
@@ -19,7 +19,7 @@ fn every(millis: u64, act: impl FnMut(Duration) -> Result<(), Error> + 'static) 
     Periodic { period, next: period, act: Box::new(act) }
 }
 
-/// Each 10 milliseconds: a value, which grows.
+/// Every 10 milliseconds: sends a growing value.
 fn sensor(values: Queue<Process>) -> Periodic {
     let mut value = 0_u32;
     every(10, move |_| {
@@ -28,7 +28,7 @@ fn sensor(values: Queue<Process>) -> Periodic {
     })
 }
 
-/// Each 20 milliseconds: the mean of the values since then.
+/// Every 20 milliseconds: reports the mean of the values since the last report.
 fn control(values: Queue<Process>, reports: Queue<Process>) -> Periodic {
     every(20, move |_| {
         let (mut sum, mut count) = (0.0, 0.0);
@@ -41,7 +41,7 @@ fn control(values: Queue<Process>, reports: Queue<Process>) -> Periodic {
     })
 }
 
-/// Each 50 milliseconds: what was reported, urgent reports first.
+/// Every 50 milliseconds: prints the reports, urgent ones first.
 fn logger(reports: Queue<Process>) -> Periodic {
     every(50, move |now| {
         for report in reports.try_iter() {
@@ -67,7 +67,7 @@ fn main() -> Result<(), Error> {
         control(open(two, "/values")?, open(three, "/reports")?),
         logger(open(four, "/reports")?),
     ];
-    // A stop that nobody sends: waiting for it takes the time from one event to the next.
+    // Nobody sends a stop: waiting for it advances the clock to the next event.
     let stop = five.open("/stop", QUEUE)?;
     loop {
         let next = tasks.iter().map(|task| task.next).min().unwrap_or(END);

@@ -5,7 +5,7 @@ use crate::raw::{answer, errno_of};
 use std::fmt;
 use std::io;
 
-/// Why a call failed. It prints as the name that POSIX gives the error; `NOMEMORY`, `JOURNALFULL`,
+/// Why a call failed. It prints as the POSIX name of the error; `NOMEMORY`, `JOURNALFULL`,
 /// `UNSTORED`, `WAITING` and `NOTWAITING` are the library's own.
 ///
 /// ```
@@ -21,41 +21,42 @@ use std::io;
 #[repr(u32)]
 #[non_exhaustive]
 pub enum Error {
-    /// `EAGAIN`: the call would wait, and its queue is nonblocking, or it is a `try_` call.
+    /// `EAGAIN`: the call would wait, but its queue is nonblocking, or it is a `try_` call.
     Again = 1,
-    /// `EBADF`: the queue is not open for what the call does.
+    /// `EBADF`: the queue is not open with the access that the call needs.
     BadDescriptor = 2,
-    /// `EBUSY`: a process is registered on the queue already.
+    /// `EBUSY`: a process is already registered on the queue.
     Busy = 3,
-    /// `EEXIST`: the name is bound, and the open asks for a new queue.
+    /// `EEXIST`: the name exists, and the open asks for a new queue.
     Exists = 4,
-    /// `EINVAL`: a priority, limits, a name's form, a removal or a number of processes that the
-    /// call does not allow.
+    /// `EINVAL`: an invalid priority, limit, name or number of processes, or a deregistration by a
+    /// process that is not registered.
     Invalid = 5,
     /// `EMFILE`: the process has 16 queues open.
     TooManyOpen = 6,
-    /// `EMSGSIZE`: the message is longer than those of the queue may be, or the buffer is shorter.
+    /// `EMSGSIZE`: the message is longer, or the buffer shorter, than the longest message that the
+    /// queue takes.
     MessageSize = 7,
-    /// `ENAMETOOLONG`: a name with more than 255 bytes after its slash.
+    /// `ENAMETOOLONG`: the name has more than 255 bytes after its slash.
     NameTooLong = 8,
-    /// `ENOENT`: the name is not bound.
+    /// `ENOENT`: no queue has the name.
     NoEntry = 9,
     /// `ENOSPC`: 64 queues exist.
     NoSpace = 10,
-    /// `NOMEMORY`: memory for the call was refused. Nothing has changed.
+    /// `NOMEMORY`: an allocation failed. Nothing has changed.
     NoMemory = 11,
     /// `ETIMEDOUT`: the deadline of the call has passed.
     TimedOut = 12,
-    /// `JOURNALFULL`: the journal has bounds, and no room for what the call needs. Nothing has
+    /// `JOURNALFULL`: the journal is bounded and has no room for what the call needs. Nothing has
     /// changed.
     JournalFull = 13,
-    /// `WAITING`: the process has an open wait, and makes no other call on queues until it is
+    /// `WAITING`: the process has an open wait, and can make no other call on queues until it is
     /// collected or cancelled.
     Waiting = answer::WAITING,
     /// `NOTWAITING`: this queue has no open wait of the kind that the call collects.
     NotWaiting = answer::NOT_WAITING,
-    /// `UNSTORED`: the call reads the journal, and that of the system is not stored
-    /// ([`Builder::journal`](crate::Builder::journal) stores it).
+    /// `UNSTORED`: the call reads the journal, but the system does not store it
+    /// ([`Builder::journal`](crate::Builder::journal) does).
     Unstored = answer::UNSTORED,
 }
 
@@ -80,7 +81,7 @@ impl Error {
         Error::Unstored,
     ];
 
-    /// The name that POSIX gives the error, as `EAGAIN`.
+    /// The POSIX name of the error, such as `EAGAIN`.
     #[must_use]
     pub const fn name(self) -> &'static str {
         match self {
@@ -103,9 +104,9 @@ impl Error {
         }
     }
 
-    /// The number of the error in `errno.h` of this system: for `NoMemory` that of `ENOMEM`, for
-    /// `JournalFull` that of `ENOSPC`, for `Waiting` that of `EBUSY`, for `NotWaiting` that of
-    /// `EINVAL`, for `Unstored` that of `ENOTSUP`.
+    /// The number of the error in `errno.h` of this system. `NoMemory` has that of `ENOMEM`,
+    /// `JournalFull` of `ENOSPC`, `Waiting` of `EBUSY`, `NotWaiting` of `EINVAL`, and `Unstored` of
+    /// `ENOTSUP`.
     #[must_use]
     pub fn errno(self) -> i32 {
         errno_of(self as u32)
@@ -137,7 +138,7 @@ impl From<Error> for io::Error {
 impl TryFrom<&io::Error> for Error {
     type Error = ();
 
-    /// The error of the same number. Of several with one number it is that of POSIX.
+    /// The error with the same number. If several have it, it is the one that POSIX defines.
     fn try_from(error: &io::Error) -> Result<Error, ()> {
         let number = error.raw_os_error().ok_or(())?;
         Error::ALL.into_iter().find(|it| it.errno() == number).ok_or(())
@@ -147,16 +148,16 @@ impl TryFrom<&io::Error> for Error {
 impl TryFrom<io::Error> for Error {
     type Error = io::Error;
 
-    /// The error of the same number, or what was given if no call fails with that.
+    /// The error with the same number, or the argument if no call fails with that.
     fn try_from(error: io::Error) -> Result<Error, io::Error> {
         Error::try_from(&error).map_err(|()| error)
     }
 }
 
-/// Why no system goes on from a journal ([`System::resume`](crate::System::resume)). Lines count
+/// Why a journal can't be resumed ([`System::resume`](crate::System::resume)). Lines are numbered
 /// from 1.
 ///
-/// `?` makes an [`Error`] of it: [`Invalid`](Error::Invalid) if a line is to blame.
+/// `?` converts it into an [`Error`]: [`Invalid`](Error::Invalid) if a line is at fault.
 ///
 /// ```
 /// use yakyrombe::{Error, Journal, ResumeError, System};
@@ -170,14 +171,14 @@ impl TryFrom<io::Error> for Error {
 #[derive(Clone, Copy, Debug, PartialEq, Eq, PartialOrd, Ord, Hash)]
 #[non_exhaustive]
 pub enum ResumeError {
-    /// This line is not that of an entry.
+    /// This line is malformed: it is not the line of an entry.
     BadLine(u64),
-    /// The entry of this line is not legal: no queues have it there.
+    /// The entry of this line is not legal after the entries before it.
     Illegal(u64),
-    /// The entry of this line is of a process above the number of processes.
+    /// The entry of this line has a process number above the number of processes.
     Foreign(u64),
-    /// No line is to blame: [`JournalFull`](Error::JournalFull) if the journal is too long for the
-    /// bounds, [`Invalid`](Error::Invalid) if there are not 1 to 32 processes, or
+    /// No line is at fault: [`JournalFull`](Error::JournalFull) if the journal is too long for the
+    /// bounds, [`Invalid`](Error::Invalid) if the number of processes is not 1 to 32, or
     /// [`NoMemory`](Error::NoMemory).
     Refused(Error),
 }
@@ -229,9 +230,9 @@ impl From<ResumeError> for Error {
     }
 }
 
-/// A call that takes its process, failed, and gives it back.
+/// The error of a call that takes its process by value; it returns the process.
 ///
-/// `?` makes an [`Error`] of it, and then the process is dropped.
+/// `?` converts it into an [`Error`], and then the process is dropped.
 ///
 /// ```
 /// use yakyrombe::{Error, OpenOptions, Queue, System};
@@ -258,7 +259,7 @@ impl<P> Refused<P> {
         self.error
     }
 
-    /// What the call was given to hold its process.
+    /// Returns the holder that the call was given.
     #[must_use]
     pub fn into_holder(self) -> P {
         self.holder

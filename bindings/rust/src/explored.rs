@@ -1,9 +1,9 @@
-//! Handles whose calls are steps of an exploration ([`crate::model()`]). Outside of one each call
+//! Handles whose calls are steps of an exploration ([`crate::model()`]). Outside of one, each call
 //! is that of the library.
 //!
-//! A call on a queue waits for its turn in front of the library's lock, and then is made by a
-//! thread that runs alone. So it never waits inside of the library: a send or a receive gets its
-//! turn when it can be made, or when its deadline passes.
+//! A call on a queue waits for its turn before it reaches the library's lock. Then its thread makes
+//! it while no other runs. So it never waits inside the library: a send or a receive gets its turn
+//! when it can be made, or when its deadline passes.
 
 use crate::raw::machine::{self, Queue, NEVER_BLOCKS, TRY};
 use crate::raw::{
@@ -71,7 +71,7 @@ impl Open {
 /// The queues of a system by their names.
 type Names = Mutex<HashMap<Vec<u8>, Arc<Known>>>;
 
-/// What is told of the calls of a process.
+/// What the exploration knows of the calls of a process.
 struct Told {
     names: Arc<Names>,
     /// By their descriptors.
@@ -80,10 +80,10 @@ struct Told {
     registered: RefCell<Vec<Arc<Known>>>,
 }
 
-/// A process, or none, as that of the library.
+/// A process, or empty, like the handle of the library.
 pub struct Handle {
     raw: raw::Handle,
-    /// There if the system was made in an exploration.
+    /// Present if the system was made in an exploration.
     told: Option<Told>,
 }
 
@@ -97,7 +97,7 @@ fn error_of(answer: u32) -> i32 {
 
 impl Told {
     fn names(&self) -> MutexGuard<'_, HashMap<Vec<u8>, Arc<Known>>> {
-        // Nobody waits for it: one thread runs at a time, and none stops while it has this.
+        // No thread waits for it: one thread runs at a time, and none stops while it holds this.
         self.names.lock().unwrap_or_else(PoisonError::into_inner)
     }
 
@@ -109,8 +109,8 @@ impl Told {
         self.registered.borrow().iter().any(|it| Arc::ptr_eq(it, known))
     }
 
-    /// Waits until a descriptor may be closed, if that can matter to others: it may end a
-    /// registration, or the queue.
+    /// Waits for the turn of a close, if other processes could notice the close: it may end a
+    /// registration, or destroy the queue.
     fn await_close(&self, open: &Open) {
         if self.is_registered(&open.known) {
             machine::call(b"notify\0", Some(&open.known.queue));
@@ -133,8 +133,8 @@ impl Handle {
         Ok(handles.into_iter().map(|raw| Handle { raw, told: names.as_ref().map(told) }).collect())
     }
 
-    /// As `of_system`, for a system that goes on from a journal. What it has is not told, so no
-    /// exploration makes one.
+    /// Like `of_system`, for a system that continues from a journal. The exploration would not
+    /// know what that system has, so a model can't make one.
     pub fn resumed(count: usize, journal: &[u8], kept: Kept) -> Result<Vec<Handle>, (u32, u64)> {
         assert!(!machine::decides(), "a model resumes no system, and makes no journal short");
         let handles = raw::Handle::resumed(count, journal, kept)?;
@@ -146,7 +146,7 @@ impl Handle {
         raw::Handle::finish(handles.into_iter().map(|it| it.raw).collect());
     }
 
-    /// What is told of the calls, in an exploration.
+    /// What the exploration knows of the calls; `None` outside of one.
     fn told(&self) -> Option<&Told> {
         match &self.told {
             Some(told) => machine::decides().then_some(told),
@@ -214,7 +214,7 @@ impl Handle {
     }
 
     pub fn next_notice(&self, value: &mut u64) -> u32 {
-        // A notice is of some queue on which the process has registered.
+        // A notice is from a queue on which the process has registered.
         let registered = self.told().map(|told| told.registered.borrow().clone());
         if let Some((first, others)) = registered.as_deref().and_then(<[_]>::split_first) {
             machine::call(b"notify\0", Some(&first.queue));
@@ -237,13 +237,13 @@ impl Handle {
         answer
     }
 
-    /// As `getattr`, for the limits alone. They stay the same, so it is no step.
+    /// Like `getattr`, for the limits only. They never change, so it is not a step.
     pub fn limits(&self, d: u32, attributes: &mut Attributes) -> u32 {
         self.raw.limits(d, attributes)
     }
 
     pub fn setattr(&self, d: u32, nonblock: bool, before: &mut Attributes) -> u32 {
-        // The flag is that of the process alone, so this changes nothing for others.
+        // The flag belongs to this process, so other processes do not notice the change.
         if let Some(told) = self.told() {
             if let Some(open) = told.open_as(d) {
                 machine::call(b"getattr\0", Some(&open.known.queue));
@@ -342,7 +342,8 @@ impl Handle {
         answer
     }
 
-    /// A call may not leave an open wait, which would be answered while its thread runs on.
+    /// Panics if the call could leave an open wait, which would be answered while its thread
+    /// continues.
     fn refuse_wait(&self, until: Moment, now: Moment) {
         assert!(
             until <= now || self.told().is_none(),
@@ -351,7 +352,7 @@ impl Handle {
     }
 }
 
-/// Calls that are none: they are about the process alone, or about the journal.
+/// Calls that are not steps: they concern only the process, or the journal.
 impl Handle {
     pub fn number(&self) -> u32 {
         self.raw.number()

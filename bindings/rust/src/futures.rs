@@ -1,7 +1,7 @@
 //! Sends and receives as futures.
 //!
-//! The call that answers a wait knows whose waits it answered, and wakes their futures before it
-//! returns. So there is no thread that waits for others, and nothing that polls.
+//! A call knows whose waits it answered, and wakes their futures before it returns. So no thread is
+//! needed to wait for others, and nothing polls.
 
 use crate::error::Error;
 use crate::holder::Holder;
@@ -15,7 +15,7 @@ use std::pin::Pin;
 use std::sync::{Mutex, MutexGuard, PoisonError};
 use std::task::{Context, Poll, Waker};
 
-/// Who is to be woken when the wait of a process is answered, process 1 first.
+/// The wakers to call when the wait of a process is answered, process 1 first.
 #[derive(Default)]
 pub(crate) struct Wakers([Mutex<Option<Waker>>; MOST_PROCESSES]);
 
@@ -30,7 +30,7 @@ impl Wakers {
         drop(before);
     }
 
-    /// Wakes the futures of the processes whose bits are set, that of process p by bit p - 1.
+    /// Wakes the futures of the processes whose bits are set; process p has bit p - 1.
     #[cold]
     pub fn wake(&self, processes: u32) {
         let mut left = processes;
@@ -47,9 +47,9 @@ impl Wakers {
 /// Futures, with the feature `futures`. They need no runtime: the call of another process that
 /// answers the wait wakes them. A future of a queue that owns its process is `Send`.
 ///
-/// A process has one open wait at a time, so futures that wait side by side are of different
-/// processes; else the later one fails with [`Waiting`](Error::Waiting). Two of one queue are not
-/// there at once:
+/// A process has one open wait at a time, so futures that wait concurrently must belong to
+/// different processes; otherwise the later one fails with [`Waiting`](Error::Waiting). The
+/// compiler rejects two futures of one queue at once:
 ///
 /// ```compile_fail,E0499
 /// use yakyrombe::{OpenOptions, System};
@@ -70,23 +70,23 @@ impl Wakers {
 /// is_send(queue.send_async(b"one", 0));
 /// ```
 impl<P: Holder> Queue<P> {
-    /// As [`send`](Queue::send), as a future. If it is dropped before it is ready the send is
-    /// withdrawn, unless it is done already.
+    /// Like [`send`](Queue::send), as a future. If it is dropped before it is ready, the send is
+    /// withdrawn, unless it is already done.
     pub fn send_async<'q>(&'q mut self, message: &'q [u8], priority: u32) -> SendFuture<'q, P> {
         SendFuture { queue: self, message, priority, stage: Stage::Begins }
     }
 
-    /// As [`receive`](Queue::receive), as a future. If it is dropped before it is ready no message
-    /// is lost: one that was handed to it already is given by the next receive by this queue.
+    /// Like [`receive`](Queue::receive), as a future. If it is dropped before it is ready, no
+    /// message is lost: the next receive by this queue returns one that was already handed to it.
     pub fn receive_async<'q>(&'q mut self, buf: &'q mut [u8]) -> ReceiveFuture<'q, P> {
         ReceiveFuture { queue: self, buf, stage: Stage::Begins }
     }
 
-    /// As [`receive_async`](Queue::receive_async), into a vector, as
+    /// Like [`receive_async`](Queue::receive_async), into a vector, like
     /// [`receive_vec`](Queue::receive_vec).
     ///
     /// # Errors
-    /// As of `receive`.
+    /// Those of `receive`.
     pub async fn receive_vec_async(&mut self) -> Result<Message, Error> {
         let mut bytes = vec![0; self.msgsize()?];
         let Received { len, priority } = self.receive_async(&mut bytes).await?;
@@ -94,11 +94,12 @@ impl<P: Holder> Queue<P> {
         Ok(Message { priority, bytes })
     }
 
-    /// Has the task woken when the open wait of this queue is answered, unless it is answered now.
+    /// Registers the task to be woken when the open wait of this queue is answered, and returns
+    /// whether it is already answered.
     fn is_answered_or_wakes(&self, context: &Context<'_>) -> bool {
         let process = self.process();
         process.system().shared.wakers.set(process, Some(context.waker().clone()));
-        // An answer that came before is seen here; one that comes later finds the waker.
+        // An answer before this load is seen here; a later one finds the waker.
         self.is_answered()
     }
 
@@ -149,7 +150,7 @@ enum Stage {
     IsOver,
 }
 
-/// A send that is under way ([`Queue::send_async`]).
+/// A send in progress ([`Queue::send_async`]).
 ///
 /// ```
 /// use std::future::Future;
@@ -195,7 +196,7 @@ impl<P: Holder> Drop for SendFuture<'_, P> {
     }
 }
 
-/// A receive that is under way ([`Queue::receive_async`]).
+/// A receive in progress ([`Queue::receive_async`]).
 ///
 /// ```
 /// use std::future::Future;

@@ -1,16 +1,15 @@
-//! What a queue has its process by.
+//! How a queue holds its process.
 
 use crate::process::Process;
 use std::borrow::Borrow;
 use std::rc::Rc;
 
-/// What a [`Queue`](crate::Queue) has its process by: a reference to it, the process itself, or an
-/// [`Rc`] of it.
+/// How a [`Queue`](crate::Queue) holds its process: by a reference, by value, or by an [`Rc`].
 ///
 /// | | Moves to another thread | Several queues of one process | In a struct with its process |
 /// |---|---|---|---|
 /// | `Queue<&Process>` | | yes | |
-/// | `Queue<Process>` | yes | by its [`process`](crate::Queue::process) | yes |
+/// | `Queue<Process>` | yes | through its [`process`](crate::Queue::process) | yes |
 /// | `Queue<Rc<Process>>` | | yes | yes |
 ///
 /// ```
@@ -53,7 +52,7 @@ use std::rc::Rc;
 /// });
 /// ```
 ///
-/// Nothing else is a holder, so a queue has the same process at each call:
+/// No other type is a holder, so a queue has the same process at each call:
 ///
 /// ```compile_fail,E0277
 /// use std::borrow::Borrow;

@@ -14,7 +14,7 @@ impl<'q, P: Holder> IntoIterator for &'q Queue<P> {
     }
 }
 
-/// The messages that come to a queue, for ever ([`Queue::iter`]).
+/// The messages that arrive at a queue, without end ([`Queue::iter`]).
 ///
 /// ```
 /// use yakyrombe::{OpenOptions, System};

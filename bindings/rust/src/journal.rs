@@ -1,4 +1,4 @@
-//! The journal of a system as text, and what a system that goes on from one finds.
+//! The journal of a system as text, and what a system that continues from one finds.
 
 use crate::error::{Error, ResumeError};
 use crate::process::{done, OpenWait};
@@ -8,7 +8,7 @@ use crate::time::Limit;
 use crate::Handle;
 use std::fmt;
 
-/// The journal of a system as text, a line an entry, the oldest first.
+/// The journal of a system as text: one line for each entry, the oldest first.
 ///
 /// ```
 /// use yakyrombe::{OpenOptions, System};
@@ -25,7 +25,7 @@ use std::fmt;
 /// # }
 /// ```
 ///
-/// A text becomes one by [`From`], unchecked: [`System::resume`](crate::System::resume) and
+/// [`From`] converts a text without checking it; [`System::resume`](crate::System::resume) and
 /// [`compacted`](Journal::compacted) check it.
 #[derive(Clone, Debug, Default, PartialEq, Eq, PartialOrd, Ord, Hash)]
 pub struct Journal(String);
@@ -37,15 +37,15 @@ impl Journal {
         &self.0
     }
 
-    /// The lines of the entries, as `0 1 open bc "/q" -> fd 0 created`.
+    /// The lines of the entries, such as `0 1 open bc "/q" -> fd 0 created`.
     pub fn lines(&self) -> std::str::Lines<'_> {
         self.0.lines()
     }
 
-    /// A short journal, after which the same calls have the same results: its length goes by what
-    /// is there, and not by what was called.
+    /// A short journal after which the same calls have the same results. Its length depends on the
+    /// state at the end, not on the number of calls.
     ///
-    /// If an answered wait is not collected, it is this journal.
+    /// If an answered wait is not yet collected, the result is this journal unchanged.
     ///
     /// ```
     /// use yakyrombe::{OpenOptions, System};
@@ -65,7 +65,7 @@ impl Journal {
     /// ```
     ///
     /// # Errors
-    /// The line that is to blame, if the journal is not legal; [`NoMemory`](Error::NoMemory).
+    /// The line at fault, if the journal is not legal; [`NoMemory`](Error::NoMemory).
     pub fn compacted(&self) -> Result<Journal, ResumeError> {
         let handles = Handle::resumed(MOST_PROCESSES, self.0.as_bytes(), Kept::Short)
             .map_err(|(answer, line)| ResumeError::of_answer(answer, line))?;
@@ -74,13 +74,13 @@ impl Journal {
         Ok(short?)
     }
 
-    /// The greatest number of a process that has an entry, 0 if there is none.
+    /// The greatest process number of any entry; 0 if there are no entries.
     pub(crate) fn process_count(&self) -> usize {
         let process_of = |line: &str| line.split(' ').nth(1)?.parse().ok();
         self.lines().filter_map(process_of).max().unwrap_or(0)
     }
 
-    /// What each of so many processes has after the calls of the journal, which is legal.
+    /// What each of `count` processes has after the calls of the journal, which must be legal.
     pub(crate) fn left(&self, count: usize) -> Vec<Left> {
         let mut left = vec![Left::default(); count];
         for line in self.lines() {
@@ -94,7 +94,7 @@ impl Journal {
     }
 }
 
-/// What a process has when a system goes on from a journal.
+/// What a process has when a system continues from a journal.
 #[derive(Clone, Copy, Default)]
 pub(crate) struct Left {
     /// Its descriptors, as bits.
@@ -103,7 +103,7 @@ pub(crate) struct Left {
 }
 
 impl Left {
-    /// Notes an entry of the process: its line has these words.
+    /// Applies an entry of the process whose line has these words.
     fn note(&mut self, words: &[&str]) {
         let number = |at: usize| words.get(at).and_then(|word| word.parse::<u32>().ok());
         let (call, reply) = match words.iter().position(|word| *word == "->") {
@@ -131,13 +131,13 @@ fn wait_of(d: u32, words: &[&str]) -> OpenWait {
     let integer = |at: usize| words.get(at).and_then(|it| it.parse::<i64>().ok());
     let limit = words.iter().position(|word| *word == "until").and_then(|at| {
         let until = Moment { sec: integer(at + 1)?, nsec: integer(at + 2)? };
-        // That is the deadline of a wait that has none here.
+        // `Moment::LAST` stands for no deadline.
         (until != Moment::LAST).then_some(Limit { until, is_real: false })
     });
     OpenWait { d, is_send, len, limit }
 }
 
-/// The journal of the system of a handle, up to the last entry that is there when this comes to it.
+/// The journal of the system of a handle, up to the last entry at the moment of the last read.
 pub(crate) fn text_of(handle: &Handle) -> Result<Journal, Error> {
     let mut text = Vec::new();
     let mut place = 0;
@@ -147,7 +147,7 @@ pub(crate) fn text_of(handle: &Handle) -> Result<Journal, Error> {
     Ok(Journal(string_of(text)))
 }
 
-/// Appends the line of an entry to the text, or is false if there is none.
+/// Appends the line of an entry to the text; false if there is no such entry.
 pub(crate) fn push_entry(handle: &Handle, place: u64, text: &mut Vec<u8>) -> Result<bool, Error> {
     let front = text.len();
     let mut len = 64;

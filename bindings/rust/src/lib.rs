@@ -1,8 +1,8 @@
 //! POSIX message queues inside one program, over a library whose every call is proved.
 //!
-//! A [`System`] has 1 to 32 processes that share queues. A [`Process`] is a value: it goes to
-//! another thread by a move, and one thread at a time calls by it. A [`Queue`] is a queue that a
-//! process has open. A message has a priority; a receive gets the oldest of the highest.
+//! A [`System`] has 1 to 32 processes that share queues. A [`Process`] is a value: it moves to
+//! another thread, and one thread at a time makes its calls. A [`Queue`] is a queue that a process
+//! has open. A message has a priority; a receive takes the oldest message of the highest priority.
 //!
 //! ```
 //! use yakyrombe::{OpenOptions, System};
@@ -24,8 +24,8 @@
 //!
 //! # Threads
 //!
-//! Each thread has a process of its own. A pool of workers is some threads that receive from one
-//! queue. A call that waits sleeps until a call of another thread answers it.
+//! Each thread has a process of its own. A pool of workers is a set of threads that receive from
+//! one queue. A call that waits sleeps until a call of another thread answers it.
 //!
 //! ```
 //! use std::thread;
@@ -69,7 +69,7 @@
 //!
 //! [`send_until`](Queue::send_until) and [`receive_until`](Queue::receive_until) take a
 //! [`Duration`](std::time::Duration), an [`Instant`](std::time::Instant) or another [`Deadline`].
-//! Durations are measured by the clock of the system. That is real time unless
+//! Durations are measured by the clock of the system, which is a monotonic clock unless
 //! [`Builder::clock`] names another [`Clock`]. With a [`VirtualClock`] the same calls run a
 //! simulation in one thread: a call that would wait moves the clock to its deadline. Here three
 //! tasks report every 10, 20 and 50 milliseconds:
@@ -94,7 +94,7 @@
 //! let mut count = 0;
 //! while clock.now() < millis(100) {
 //!     let next = tasks.iter().map(|task| task.3).min().unwrap();
-//!     // Nothing comes until a task runs again, so then it is that moment.
+//!     // No report arrives before a task runs again, so the clock jumps to that moment.
 //!     while reports.receive_vec_until(Deadline::Moment(next)) != Err(Error::TimedOut) {
 //!         count += 1;
 //!     }
@@ -117,14 +117,14 @@
 //! wait that is collected later ([waits in two parts](Queue#waits-in-two-parts)).
 //!
 //! With the feature `futures`, `Queue` also has `send_async`, `receive_async` and
-//! `receive_vec_async`. They stand over [`std::future`] alone, so any executor runs them: the one
-//! in the documentation of `ReceiveFuture` has ten lines.
+//! `receive_vec_async`. They need only [`std::future`], so any executor can run them: the one in
+//! the documentation of `ReceiveFuture` has ten lines.
 //!
 //! # The journal
 //!
-//! The *journal* lists all calls with their replies. By default it is not stored, so a program may
-//! run for ever in the same memory. [`Builder::journal`] stores it, for a program that reads it,
-//! and [`Builder::bounded`] does so in memory that is all taken at once:
+//! The *journal* lists all calls with their replies. By default it is not stored, so a program can
+//! run indefinitely in constant memory. [`Builder::journal`] stores it for a program that reads
+//! it. [`Builder::bounded`] stores it in memory that is allocated when the system is built:
 //!
 //! ```
 //! use yakyrombe::{Error, OpenOptions, System};
@@ -141,21 +141,21 @@
 //! # }
 //! ```
 //!
-//! A system may go on from the journal of another ([`System::resume`]), or from a short one in its
-//! place ([`Journal::compacted`]): to come back to a state, or to try several ways from there.
+//! A system can continue from the journal of another ([`System::resume`]), or from a shorter
+//! equivalent one ([`Journal::compacted`]): to return to a state, or to try several continuations
+//! of it.
 //!
 //! # Errors
 //!
-//! Any call may also fail with [`NoMemory`](Error::NoMemory) in a system without bounds and with
-//! [`JournalFull`](Error::JournalFull) in one with bounds. Such a call has changed nothing, and has
-//! no entry in the journal. Nor has one that fails with [`Waiting`](Error::Waiting). Every other
-//! call has an entry.
+//! Any call can also fail with [`NoMemory`](Error::NoMemory) in a system without bounds, and with
+//! [`JournalFull`](Error::JournalFull) in one with bounds. Such a call changes nothing and has no
+//! entry in the journal. A call that fails with [`Waiting`](Error::Waiting) has none either. Every
+//! other call has an entry.
 //!
 //! # What to keep in mind
 //!
-//! - A wait without a deadline that no other call answers lasts for ever, as that of a channel
-//!   does.
-//! - The library takes its memory from C's `malloc`.
+//! - A wait without a deadline that no other call answers never ends, as with a channel.
+//! - The library allocates with C's `malloc`.
 //! - No call may be made from a signal handler, or in a forked child of a program with threads.
 #![deny(missing_docs)]
 
@@ -179,8 +179,8 @@ pub mod sync;
 mod system;
 mod time;
 
-/// As [`std::thread`]: the starts, ends, joins, parks and sleeps of its threads are steps of a
-/// [`model`](crate::model()).
+/// The same as [`std::thread`]: the starts, ends, joins, parks and sleeps of its threads are steps
+/// of a [`model`](crate::model()).
 #[cfg(feature = "model")]
 pub mod thread {
     pub use std::thread::*;

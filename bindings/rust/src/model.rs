@@ -1,4 +1,4 @@
-//! A test under every order of its threads' steps.
+//! Runs a test under every order of its threads' steps.
 
 use crate::raw::machine;
 use std::cell::Cell;
@@ -9,15 +9,15 @@ use std::path::{Path, PathBuf};
 use std::process::{exit, Command, Output, Stdio};
 use std::thread;
 
-/// Which model of a test is meant, in the runs that `yak-explore` makes of the test.
+/// The variable that says which model of a test to run, in the runs that `yak-explore` makes.
 const WHICH: &str = "YAK_MODEL";
-/// What names `yak-explore`.
+/// The variable that names the path of `yak-explore`.
 const EXPLORER: &str = "YAKYROMBE_EXPLORER";
-/// How a run ends in which the closure has panicked.
+/// The exit status of a run in which the closure panicked.
 const PANICKED: i32 = 101;
 
-/// Runs the closure under every order of its threads' steps that can matter, as [`Model::check`]
-/// does without options.
+/// Runs the closure under every order of its threads' steps that can matter, like [`Model::check`]
+/// without options.
 ///
 /// ```no_run
 /// use yakyrombe::{model, thread, OpenOptions, System};
@@ -63,7 +63,7 @@ impl Default for Model {
 }
 
 thread_local! {
-    /// How many models the test of this thread has come to.
+    /// How many models the test of this thread has reached.
     static MODELS: Cell<usize> = const { Cell::new(0) };
 }
 
@@ -73,23 +73,23 @@ impl Model {
         Model { options: vec!["--stop".into()], may_leave_out: false }
     }
 
-    /// At most so many runs.
+    /// Makes at most this many runs.
     pub fn runs(self, most: u64) -> Model {
         self.option("--budget", &most.to_string())
     }
 
-    /// At most so many seconds.
+    /// Explores for at most this many seconds.
     pub fn seconds(self, most: u64) -> Model {
         self.option("--seconds", &most.to_string())
     }
 
-    /// A deadline passes only if no thread can run. Otherwise it may pass at any moment.
+    /// A deadline passes only if no thread can run. Without this option, it may pass at any moment.
     pub fn deadlines_last(self) -> Model {
         self.option("--time", "last")
     }
 
-    /// Does not panic if some orders are left out, since the runs or the seconds are used up, or
-    /// since the closure shares what an exploration does not see.
+    /// Does not panic if some orders are left out, because the runs or the seconds are used up, or
+    /// because the closure shares data that an exploration does not see.
     pub fn may_leave_out(mut self) -> Model {
         self.may_leave_out = true;
         self
@@ -100,22 +100,21 @@ impl Model {
         self
     }
 
-    /// Runs the closure again and again, each time under another order of the steps of its threads,
-    /// until every order that can matter was tried.
+    /// Runs the closure repeatedly, each time under another order of its threads' steps, until
+    /// every order that can matter has been tried.
     ///
-    /// The test's own executable is run for that, by `yak-explore`, for this test alone: the file
-    /// that `YAKYROMBE_EXPLORER` names, or the one beside the library of the crate, or on the
-    /// `PATH`. What the test does before this is done there once more, and what follows is not.
+    /// For that, `yak-explore` runs the test's own executable, for this test only. It is the file
+    /// that `YAKYROMBE_EXPLORER` names, or the one beside the library of the crate, or the one on
+    /// the `PATH`. Each run repeats what the test does before this call, and not what follows it.
     ///
     /// Steps are the calls on queues, those of [`sync`](crate::sync), and starts, ends, joins,
-    /// parks and sleeps of threads. The closure makes its systems itself. It has no
-    /// [waits in two parts](crate::Queue#waits-in-two-parts), no futures and no
-    /// [`Clock`](crate::Clock): these panic. Reads of a journal are no steps.
+    /// parks and sleeps of threads. The closure makes its systems itself.
+    /// [Waits in two parts](crate::Queue#waits-in-two-parts), futures and a
+    /// [`Clock`](crate::Clock) panic in it. Reads of a journal are not steps.
     ///
     /// # Panics
-    /// If the closure panics in some order, or comes to a deadlock, or crashes, with the schedule
-    /// and the command that repeats it; if some orders were left out; if `yak-explore` can't be
-    /// run.
+    /// If the closure panics, deadlocks or crashes in some order: the message has the schedule and
+    /// the command that repeats it. If some orders were left out. If `yak-explore` can't be run.
     pub fn check(&self, run: impl FnOnce()) {
         let place = MODELS.with(|it| it.replace(it.get() + 1));
         match env::var(WHICH) {
@@ -151,7 +150,7 @@ impl Model {
         let report = String::from_utf8_lossy(&output.stdout);
         let last = report.lines().last().unwrap_or_default();
         let is_well = match output.status.code() {
-            // The test itself never came to this model.
+            // The test itself never reached this model.
             Some(0) => !last.contains("ended before its first thread"),
             Some(6) => self.may_leave_out,
             _ => false,
@@ -169,7 +168,7 @@ impl Model {
 
 /// Makes one run of the closure, and ends the program.
 fn run_once(run: impl FnOnce()) -> ! {
-    // Without the number of the thread, which differs from run to run.
+    // The report leaves out the number of the thread, which differs from run to run.
     panic::set_hook(Box::new(|info| {
         eprintln!("thread '{}' {info}", thread::current().name().unwrap_or("without a name"));
     }));
@@ -178,7 +177,8 @@ fn run_once(run: impl FnOnce()) -> ! {
     exit(if panicked { PANICKED } else { 0 })
 }
 
-/// By which the executable comes to this model again: the name of the test, or its own arguments.
+/// The arguments with which the executable reaches this model again: the name of the test, or its
+/// own arguments.
 fn own_arguments() -> Vec<OsString> {
     match thread::current().name() {
         Some(test) if test != "main" => [test, "--exact", "--nocapture", "--quiet"]

@@ -1,4 +1,4 @@
-//! What a queue is opened by, and what a call tells of it.
+//! The options of an open, and what calls return about queues and messages.
 
 use crate::raw::{Attributes, Opening};
 use std::ops::Deref;
@@ -38,15 +38,15 @@ impl OpenOptions {
         OpenOptions::with(2)
     }
 
-    /// If the queue does not exist it is created (`O_CREAT`), for 10 messages of 8,192 bytes unless
+    /// Creates the queue if it does not exist (`O_CREAT`), for 10 messages of 8,192 bytes unless
     /// there are [`limits`](OpenOptions::limits).
     pub const fn create(mut self) -> OpenOptions {
         self.0.create = true;
         self
     }
 
-    /// If the queue exists the open fails with [`Exists`](crate::Error::Exists) (`O_EXCL`). This
-    /// counts beside [`create`](OpenOptions::create) alone.
+    /// If the queue exists, the open fails with [`Exists`](crate::Error::Exists) (`O_EXCL`). This
+    /// has an effect only together with [`create`](OpenOptions::create).
     pub const fn exclusive(mut self) -> OpenOptions {
         self.0.exclusive = true;
         self
@@ -69,7 +69,7 @@ impl OpenOptions {
     }
 }
 
-/// The number, or one that no queue allows.
+/// The number, or a larger one than any queue allows.
 // The cast is exact: the number is small.
 #[allow(clippy::cast_possible_truncation, clippy::cast_possible_wrap)]
 const fn saturated(number: usize) -> i64 {
@@ -87,7 +87,7 @@ impl Default for OpenOptions {
     }
 }
 
-/// What is known of a queue, and the flag of the handle by which it was asked.
+/// The attributes of a queue, and the flag of the descriptor through which they were read.
 ///
 /// ```
 /// use yakyrombe::{OpenOptions, System};
@@ -105,7 +105,7 @@ impl Default for OpenOptions {
 /// # }
 /// ```
 ///
-/// Only the library makes one, so that it may have more fields later:
+/// Only the library makes one, so that it can have more fields later:
 ///
 /// ```compile_fail,E0639
 /// use yakyrombe::Attr;
@@ -114,13 +114,13 @@ impl Default for OpenOptions {
 #[derive(Clone, Copy, Debug, Default, PartialEq, Eq, PartialOrd, Ord, Hash)]
 #[non_exhaustive]
 pub struct Attr {
-    /// How many messages the queue holds at the most.
+    /// How many messages the queue holds at most.
     pub maxmsg: usize,
-    /// How many bytes a message has at the most.
+    /// How many bytes a message has at most.
     pub msgsize: usize,
     /// How many messages are present.
     pub curmsgs: usize,
-    /// Whether a call by the handle fails if it would wait.
+    /// Whether a call by this descriptor fails if it would wait.
     pub nonblocking: bool,
 }
 
@@ -136,7 +136,7 @@ impl Attr {
     }
 }
 
-/// A message that was received: it is at the start of the buffer.
+/// A received message: it is at the start of the buffer.
 ///
 /// ```
 /// use yakyrombe::{OpenOptions, Received, System};
@@ -152,13 +152,13 @@ impl Attr {
 /// ```
 #[derive(Clone, Copy, Debug, Default, PartialEq, Eq, PartialOrd, Ord, Hash)]
 pub struct Received {
-    /// How many bytes of the buffer it has.
+    /// How many bytes of the buffer it takes.
     pub len: usize,
     /// Its priority, 0 to 32,767.
     pub priority: u32,
 }
 
-/// A message that was received, with bytes of its own. Messages are ordered by priority first.
+/// A received message that owns its bytes. Messages are ordered by priority first.
 ///
 /// ```
 /// use yakyrombe::{Message, OpenOptions, System};
@@ -200,7 +200,7 @@ impl From<Message> for Vec<u8> {
     }
 }
 
-/// For how much more a journal has room; without bounds both are `u64::MAX`.
+/// How much room is left in a journal; without bounds both fields are `u64::MAX`.
 ///
 /// ```
 /// use yakyrombe::System;
@@ -214,8 +214,8 @@ impl From<Message> for Vec<u8> {
 #[derive(Clone, Copy, Debug, Default, PartialEq, Eq, PartialOrd, Ord, Hash)]
 #[non_exhaustive]
 pub struct Room {
-    /// Entries, beside those that end the waits that are open. A send or a receive needs two,
-    /// since it may wait; any other call one.
+    /// Entries, not counting those reserved to end the open waits. A send or a receive needs two,
+    /// because it may wait; any other call needs one.
     pub entries: u64,
     /// Bytes of names and messages.
     pub bytes: u64,

@@ -12,9 +12,9 @@ use std::cell::Cell;
 use std::fmt;
 use std::time::Duration;
 
-/// One process of a system: what opens queues, and makes calls one after the other.
+/// One process of a system. It opens queues, and makes one call at a time.
 ///
-/// It goes from thread to thread by moves, and no two threads have it at once:
+/// It can move from thread to thread, and no two threads have it at once:
 ///
 /// ```
 /// use std::thread;
@@ -30,7 +30,7 @@ use std::time::Duration;
 /// # }
 /// ```
 ///
-/// It is no value to be copied, and two threads do not share it:
+/// It can't be cloned, and two threads can't share it:
 ///
 /// ```compile_fail,E0599
 /// let (_, [process]) = yakyrombe::System::builder().build_array().unwrap();
@@ -44,7 +44,7 @@ use std::time::Duration;
 /// });
 /// ```
 ///
-/// [`exit`](Process::exit) is not called while a queue that borrows the process is in use:
+/// [`exit`](Process::exit) can't be called while a queue that borrows the process is in use:
 ///
 /// ```compile_fail,E0502
 /// use yakyrombe::{OpenOptions, System};
@@ -54,26 +54,26 @@ use std::time::Duration;
 /// queue.send(b"late", 0).unwrap();
 /// ```
 ///
-/// If a process is dropped it closes its queues first, unless its journal has no room for that.
+/// A process that is dropped closes its queues first, unless its journal has no room for that.
 pub struct Process(Box<Inner>);
 
-/// It is in a box of its own, so that a process is moved by its pointer alone, and no two share a
+/// It has its own box, so that moving a process moves only a pointer, and no two processes share a
 /// cache line.
 #[repr(align(128))]
 struct Inner {
     handle: Handle,
     system: System,
     wait: Cell<Option<OpenWait>>,
-    /// The descriptors, as bits, that are to be closed as soon as the open wait has ended.
+    /// The descriptors, as bits, to close as soon as the open wait has ended.
     unclosed: Cell<u32>,
-    /// Those that a journal left open, and that no queue has yet.
+    /// The descriptors that a journal left open and that no queue has taken yet.
     left: Cell<u32>,
 }
 
 /// An open wait of a process.
 #[derive(Clone, Copy)]
 pub(crate) struct OpenWait {
-    /// The descriptor by which it was begun.
+    /// The descriptor by which it was started.
     pub d: u32,
     pub is_send: bool,
     /// The length of its buffer.
@@ -83,7 +83,7 @@ pub(crate) struct OpenWait {
 }
 
 impl OpenWait {
-    /// The deadline that the library has of it: then it can be withdrawn.
+    /// Its deadline in the library: from then on it can be withdrawn.
     pub fn until(&self) -> Moment {
         self.limit.unwrap_or(Limit::NONE).until
     }
@@ -105,24 +105,24 @@ impl Process {
         &self.0.handle
     }
 
-    /// Its number, from 1, by which the journal names it.
+    /// Its number in the journal, from 1.
     #[must_use]
     pub fn number(&self) -> u32 {
         self.handle().number()
     }
 
-    /// The system that it is of.
+    /// The system that it belongs to.
     #[must_use]
     pub fn system(&self) -> &System {
         &self.0.system
     }
 
     /// Opens a queue by its name, a slash and 1 to 255 bytes without a slash or 0 (`mq_open`). The
-    /// queue borrows the process; [`Queue::open`] gives one that owns it.
+    /// queue borrows the process; [`Queue::open`] returns one that owns it.
     ///
     /// # Errors
-    /// [`Exists`](Error::Exists), [`NoEntry`](Error::NoEntry), [`Invalid`](Error::Invalid) of a
-    /// name or of limits, [`NameTooLong`](Error::NameTooLong),
+    /// [`Exists`](Error::Exists), [`NoEntry`](Error::NoEntry), [`Invalid`](Error::Invalid) for a
+    /// malformed name or wrong limits, [`NameTooLong`](Error::NameTooLong),
     /// [`TooManyOpen`](Error::TooManyOpen), [`NoSpace`](Error::NoSpace);
     /// [`Waiting`](Error::Waiting).
     pub fn open(
@@ -133,9 +133,8 @@ impl Process {
         Ok(Queue::open(self, name, options)?)
     }
 
-    /// The queue that the process has open under this descriptor since the journal from which its
-    /// system goes on ([`System::resume`]); each is given once. [`Queue::resumed`] gives one that
-    /// owns the process.
+    /// The queue that the resumed journal left open under this descriptor ([`System::resume`]).
+    /// Each is returned once. [`Queue::resumed`] returns one that owns the process.
     ///
     /// ```
     /// use std::task::Poll;
@@ -165,7 +164,7 @@ impl Process {
         Ok(Queue::resumed(self, descriptor)?)
     }
 
-    /// Whether a journal left the descriptor open, and this is the first question for it.
+    /// Whether a journal left the descriptor open, and this is the first call for it.
     pub(crate) fn take_left(&self, d: u32) -> bool {
         let left = self.0.left.get();
         let bit = 1_u32.checked_shl(d).unwrap_or(0);
@@ -173,7 +172,7 @@ impl Process {
         left & bit != 0
     }
 
-    /// Takes the name off a queue, which lasts until nobody has it open (`mq_unlink`).
+    /// Removes the name of a queue, which exists until no process has it open (`mq_unlink`).
     ///
     /// # Errors
     /// [`NoEntry`](Error::NoEntry), [`Invalid`](Error::Invalid),
@@ -182,7 +181,7 @@ impl Process {
         done(self.handle().unlink(name.as_ref()))
     }
 
-    /// Takes the oldest notice that came to this process ([`Queue::notify`]).
+    /// Takes the oldest notice of this process ([`Queue::notify`]).
     ///
     /// # Errors
     /// [`Waiting`](Error::Waiting).
@@ -194,33 +193,33 @@ impl Process {
         }
     }
 
-    /// Closes all queues of the process, the lowest descriptor first. There are such if a `Queue`
-    /// was forgotten ([`std::mem::forget`]), or if its close was refused.
+    /// Closes all queues of the process, the lowest descriptor first. It has some if a `Queue` was
+    /// forgotten ([`std::mem::forget`]), or if its close failed.
     ///
     /// # Errors
-    /// [`JournalFull`](Error::JournalFull) if the journal has no room for a close: those before it
-    /// are made. [`Waiting`](Error::Waiting).
+    /// [`JournalFull`](Error::JournalFull) if the journal has no room for a close; the queues
+    /// before it are closed. [`Waiting`](Error::Waiting).
     pub fn exit(&mut self) -> Result<(), Error> {
         done(self.handle().exit())?;
         self.0.left.set(0);
         Ok(())
     }
 
-    /// Whether the process has an open wait, which one of its queues has started.
+    /// Whether the process has an open wait, started by one of its queues.
     #[must_use]
     pub fn is_waiting(&self) -> bool {
         self.0.wait.get().is_some()
     }
 
-    /// Whether the open wait is answered, by one load: then a collect of the queue that started it
-    /// ends it.
+    /// Whether the open wait is answered, by one load. If so, a collect by the queue that started
+    /// it ends it.
     #[inline]
     #[must_use]
     pub fn is_answered(&self) -> bool {
         self.handle().is_answered()
     }
 
-    /// For how much more the journal has room: without end, if it has no bounds.
+    /// How much room is left in the journal; without bounds, it is unlimited.
     #[must_use]
     pub fn room(&self) -> Room {
         let mut left = RoomLeft::default();
@@ -228,14 +227,14 @@ impl Process {
         Room { entries: left.entries, bytes: left.bytes }
     }
 
-    /// Whether no process of the system can make a call any more, now or later: then it stays so.
-    /// An open wait that was started can be cancelled, so while there is one this is false.
+    /// Whether no process of the system can make a call any more; if so, that is permanent. An open
+    /// wait that was started can be cancelled, so while there is one this is false.
     #[must_use]
     pub fn nobody_can_call(&self) -> bool {
         self.handle().nobody_can_call() == answer::DONE
     }
 
-    /// Checks the whole stored journal, which is proved to be legal at all times.
+    /// Checks the whole stored journal, which is proved always to be legal.
     ///
     /// # Errors
     /// [`Unstored`](Error::Unstored).
@@ -243,8 +242,8 @@ impl Process {
         done(self.handle().check())
     }
 
-    /// The line of the entry of the stored journal at a place, from 0, or `None` if the journal is
-    /// shorter.
+    /// The line of the entry of the stored journal with a sequence number, from 0, or `None` if the
+    /// journal is shorter.
     ///
     /// # Errors
     /// [`Unstored`](Error::Unstored); [`NoMemory`](Error::NoMemory), also in a system with bounds.
@@ -254,10 +253,10 @@ impl Process {
         Ok(is_there.then(|| string_of(line)))
     }
 
-    /// The stored journal as text, up to the last entry that is there when it comes to it.
+    /// The stored journal as text, up to the last entry at the moment of the last read.
     ///
     /// # Errors
-    /// As of [`entry`](Process::entry).
+    /// Those of [`entry`](Process::entry).
     pub fn journal(&self) -> Result<Journal, Error> {
         text_of(self.handle())
     }
@@ -265,12 +264,12 @@ impl Process {
 
 /// Waits in two parts.
 impl Process {
-    /// The open wait that was begun by a descriptor.
+    /// The open wait that was started by a descriptor.
     pub(crate) fn wait_of(&self, d: u32) -> Option<OpenWait> {
         self.0.wait.get().filter(|wait| wait.d == d)
     }
 
-    /// Starts a send or a receive, and notes the open wait if there is one now.
+    /// Starts a send or a receive, and records the open wait if there is one now.
     pub(crate) fn start(
         &self,
         wait: OpenWait,
@@ -285,7 +284,7 @@ impl Process {
         answer
     }
 
-    /// Ends the open wait if it is answered, or if its deadline has passed: what it came to.
+    /// Ends the open wait if it is answered, or if its deadline has passed, and returns its result.
     pub(crate) fn try_end(
         &self,
         wait: &OpenWait,
@@ -302,14 +301,14 @@ impl Process {
             }
             self.handle().end_wait(buf, message, now)
         };
-        // It is still open only if the clock of the program has made another of it.
+        // A wait is still open only if the program's clock has started another one meanwhile.
         let is_open = answer == answer::WAITS || answer == answer::EARLY;
         (!is_open).then(|| self.ended(answer))
     }
 
     /// Ends the open wait: if it is not answered it is withdrawn, and this returns `TIMED_OUT`.
     pub(crate) fn withdraw(&self, wait: &OpenWait, buf: &mut [u8], message: &mut Message) -> u32 {
-        // A wait without a deadline, which only a journal leaves, ends if it is answered.
+        // A wait without a deadline, which only a journal leaves, ends only if it is answered.
         let answer = match self.handle().end_wait(buf, message, wait.until()) {
             answer::EARLY => self.handle().collect(buf, message),
             answer => answer,
@@ -317,8 +316,8 @@ impl Process {
         self.ended(answer)
     }
 
-    /// Waits until the open wait is answered, or its deadline has passed by the clock of the
-    /// program, and ends it. Meanwhile no other call ends it, as the clock could make one.
+    /// Waits until the open wait is answered, or its deadline has passed by the program's clock,
+    /// and ends it. Meanwhile no other call can end it: the clock could make one.
     pub(crate) fn await_end(&self, wait: &OpenWait, buf: &mut [u8], message: &mut Message) -> u32 {
         const FIRST: Duration = Duration::from_millis(10);
         const LONGEST: Duration = Duration::from_millis(80);
@@ -340,14 +339,14 @@ impl Process {
         self.0.system.shared.clock.as_ref().is_some_and(|clock| clock.skip_to(until.time()))
     }
 
-    /// Notes that the open wait has ended, unless the answer is that the buffer is too short for
-    /// its end, or that it has no deadline, as only a wait of a journal has none.
+    /// Records that the open wait has ended. It stays open if the answer is that the buffer is too
+    /// short, or that it has no deadline, which only a wait from a journal lacks.
     fn ended(&self, answer: u32) -> u32 {
         if answer != answer::SHORT && answer != answer::WAITS {
             self.0.wait.set(None);
             let unclosed = self.0.unclosed.take();
             for d in (0..u32::BITS).filter(|d| unclosed & 1 << d != 0) {
-                // If it is refused the queue stays open until the process exits.
+                // If the close fails, the queue stays open until the process exits.
                 let _ = self.close(d);
             }
         }
@@ -366,7 +365,7 @@ impl Process {
     }
 
     /// Wakes the futures whose waits the last call has answered.
-    // Without futures there is nothing to do.
+    // Without the feature `futures` there is nothing to do.
     #[cfg_attr(not(feature = "futures"), allow(clippy::unused_self))]
     #[inline]
     pub(crate) fn wake_answered(&self) {
@@ -380,7 +379,7 @@ impl Process {
     }
 }
 
-/// An open wait that is put back at the end, unless it has ended.
+/// An open wait, taken out of its process; the drop puts it back, unless it has ended.
 struct Taken<'p> {
     from: &'p Cell<Option<OpenWait>>,
     wait: Option<OpenWait>,
@@ -394,12 +393,11 @@ impl Drop for Taken<'_> {
 
 impl Drop for Process {
     fn drop(&mut self) {
-        // There is an open wait only if its queue was forgotten.
+        // A wait is still open only if its queue was forgotten.
         if let Some(wait) = self.0.wait.get() {
             self.withdraw(&wait, &mut vec![0; wait.len], &mut Message::default());
         }
-        // It is refused only if the journal, or memory for it, has an end: then the queues stay
-        // open.
+        // This fails only if the journal is full or an allocation fails. Then the queues stay open.
         self.handle().exit();
     }
 }

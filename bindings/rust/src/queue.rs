@@ -1,4 +1,4 @@
-//! Queues that a process has open, and the calls on them.
+//! Open queues, and the calls on them.
 
 use crate::error::{Error, Refused};
 use crate::holder::Holder;
@@ -13,8 +13,8 @@ use std::fmt;
 use std::task::Poll;
 use std::time::{Duration, Instant};
 
-/// A queue that a process has open. Calls on it are of that process, so there is no other process
-/// or system to use it with. It is closed when it is dropped.
+/// A queue that a process has open. Calls on it are calls of that process, so it can't be used with
+/// another process or system. It is closed when it is dropped.
 ///
 /// ```
 /// use yakyrombe::{Error, OpenOptions, System};
@@ -33,7 +33,7 @@ use std::time::{Duration, Instant};
 /// # }
 /// ```
 ///
-/// A queue that owns its process goes to another thread with it:
+/// A queue that owns its process can move to another thread with it:
 ///
 /// ```
 /// use std::thread;
@@ -53,12 +53,11 @@ use std::time::{Duration, Instant};
 /// # Waits in two parts
 ///
 /// [`start_send`](Queue::start_send) and [`start_receive`](Queue::start_receive) never block. If
-/// they would wait, the process has an *open wait*, of which it has at most one. Until that ends,
-/// every other call of the process on queues fails with [`Waiting`](Error::Waiting), and a close is
-/// put off.
-/// [`is_answered`](Queue::is_answered) is one load. [`collect_send`](Queue::collect_send) and
-/// [`collect_receive`](Queue::collect_receive) end the wait if it is answered or its deadline has
-/// passed, and [`cancel`](Queue::cancel) ends it in any case.
+/// they would wait, they leave an *open wait*; a process has at most one. Until it ends, every
+/// other call of the process on queues fails with [`Waiting`](Error::Waiting), and a close is
+/// deferred. [`is_answered`](Queue::is_answered) is one load. [`collect_send`](Queue::collect_send)
+/// and [`collect_receive`](Queue::collect_receive) end the wait if it is answered or its deadline
+/// has passed, and [`cancel`](Queue::cancel) ends it in any case.
 ///
 /// ```
 /// use std::task::Poll;
@@ -82,27 +81,26 @@ use std::time::{Duration, Instant};
 /// # }
 /// ```
 ///
-/// A queue with an open wait that is dropped withdraws the wait first. A message that was handed to
-/// the wait by then is lost with the queue, as one that was received and not used. `cancel` keeps
-/// such a message: the next receive by this queue gives it.
+/// When a queue with an open wait is dropped, it withdraws the wait first. A message that was
+/// handed to the wait by then is lost, like one that was received and not used. `cancel` keeps such
+/// a message: the next receive by this queue returns it.
 pub struct Queue<P: Holder> {
-    /// There until the queue is closed.
+    /// `None` once the queue is closed.
     holder: Option<P>,
     d: u32,
-    /// The longest message that the queue takes; 0 until the queue was asked.
+    /// The longest message that the queue takes; 0 until the first call that asks for it.
     msgsize: Cell<usize>,
     /// A buffer for `receive_vec`.
     scratch: Cell<Vec<u8>>,
-    /// A message that was handed to a wait which was cancelled.
+    /// A message that was handed to a wait before it was cancelled.
     kept: Cell<Option<Box<Message>>>,
 }
 
 impl<P: Holder> Queue<P> {
-    /// Opens a queue for a process that it holds by `holder`, as [`Process::open`] does for a
-    /// reference.
+    /// Opens a queue that holds its process by `holder`, as [`Process::open`] does by a reference.
     ///
     /// # Errors
-    /// As of `Process::open`, with the holder.
+    /// Those of `Process::open`, with the holder.
     pub fn open(
         holder: P,
         name: impl AsRef<[u8]>,
@@ -115,8 +113,8 @@ impl<P: Holder> Queue<P> {
         Ok(Queue::of(holder, d))
     }
 
-    /// The queue that the process has open under this descriptor since the journal from which its
-    /// system goes on, as [`Process::resumed`] gives it for a reference.
+    /// The queue that the resumed journal left open under this descriptor, as [`Process::resumed`]
+    /// returns it for a reference.
     ///
     /// # Errors
     /// [`BadDescriptor`](Error::BadDescriptor) if there is none, with the holder.
@@ -132,13 +130,13 @@ impl<P: Holder> Queue<P> {
         Queue { holder: Some(holder), d, msgsize, scratch, kept }
     }
 
-    /// Closes the queue (`mq_close`), and gives back what held its process. Unlike a drop it says
-    /// whether that was refused. If another queue of the process has an open wait, it is closed as
-    /// soon as that has ended.
+    /// Closes the queue (`mq_close`), and returns what held its process. Unlike a drop, it reports
+    /// a failure. If another queue of the process has an open wait, this queue is closed as soon as
+    /// that wait has ended.
     ///
     /// # Errors
-    /// [`JournalFull`](Error::JournalFull), [`NoMemory`](Error::NoMemory): then it stays open until
-    /// the process exits.
+    /// [`JournalFull`](Error::JournalFull), [`NoMemory`](Error::NoMemory): the queue then stays
+    /// open until the process exits.
     pub fn close(mut self) -> Result<P, Refused<P>> {
         self.end_wait_for_ever();
         let Some(holder) = self.holder.take() else { unreachable!("it is open") };
@@ -148,7 +146,7 @@ impl<P: Holder> Queue<P> {
         }
     }
 
-    /// The process that has it open.
+    /// The process that has the queue open.
     #[inline]
     #[must_use]
     pub fn process(&self) -> &Process {
@@ -158,8 +156,7 @@ impl<P: Holder> Queue<P> {
         }
     }
 
-    /// The number of its descriptor, 0 to 15, by which the journal names it: the lowest that was
-    /// free.
+    /// Its descriptor, 0 to 15, which the journal uses. An open takes the lowest free one.
     #[must_use]
     pub fn descriptor(&self) -> u32 {
         self.d
@@ -179,8 +176,8 @@ impl<P: Holder> Queue<P> {
         Ok(Attr::of(&found))
     }
 
-    /// Sets whether calls by this handle fail if they would wait, and gives the attributes from
-    /// before (`mq_setattr`).
+    /// Sets whether calls by this descriptor fail if they would wait, and returns the attributes
+    /// from before (`mq_setattr`).
     ///
     /// # Errors
     /// [`Waiting`](Error::Waiting).
@@ -190,8 +187,8 @@ impl<P: Holder> Queue<P> {
         Ok(Attr::of(&before))
     }
 
-    /// Registers for a notice, a number, of the next message that comes to the queue while it is
-    /// empty and nobody waits for one (`mq_notify`). [`Process::next_notice`] gives it.
+    /// Registers for a notice, a number, of the next message that arrives while the queue is empty
+    /// and no receive waits (`mq_notify`). [`Process::next_notice`] returns the notice.
     ///
     /// # Errors
     /// [`Busy`](Error::Busy) if a process is registered; [`Waiting`](Error::Waiting).
@@ -213,7 +210,7 @@ impl<P: Holder> Queue<P> {
     /// Sends a message, and waits while the queue is full (`mq_send`).
     ///
     /// # Errors
-    /// [`BadDescriptor`](Error::BadDescriptor) if the queue is open to receive alone;
+    /// [`BadDescriptor`](Error::BadDescriptor) if the queue is open only to receive;
     /// [`Invalid`](Error::Invalid) if the priority is above 32,767;
     /// [`MessageSize`](Error::MessageSize); [`Again`](Error::Again) if the queue is nonblocking;
     /// [`Waiting`](Error::Waiting).
@@ -225,11 +222,11 @@ impl<P: Holder> Queue<P> {
         done(answer)
     }
 
-    /// As [`send`](Queue::send), and waits no longer than until a deadline (`mq_timedsend`): a
-    /// [`Duration`] or an [`Instant`], or another [`Deadline`].
+    /// Like [`send`](Queue::send), but waits at most until a deadline (`mq_timedsend`): a
+    /// [`Duration`], an [`Instant`], or another [`Deadline`].
     ///
     /// # Errors
-    /// As of `send`, and [`TimedOut`](Error::TimedOut).
+    /// Those of `send`, and [`TimedOut`](Error::TimedOut).
     pub fn send_until(
         &self,
         message: &[u8],
@@ -248,12 +245,12 @@ impl<P: Holder> Queue<P> {
         }
     }
 
-    /// As [`send`](Queue::send), and never waits, whatever the flag of the queue is. It is a call
-    /// whose deadline has passed, so the journal has it as one, with `ETIMEDOUT` if it would
-    /// wait.
+    /// Like [`send`](Queue::send), but never waits, whatever the flag of the queue is. It is a
+    /// timed call whose deadline has passed: its entry in the journal has the reply `ETIMEDOUT` if
+    /// it would wait.
     ///
     /// # Errors
-    /// As of `send`, and [`Again`](Error::Again) if it would wait.
+    /// Those of `send`, and [`Again`](Error::Again) if it would wait.
     pub fn try_send(&self, message: &[u8], priority: u32) -> Result<(), Error> {
         let now = self.limit(Deadline::After(Duration::ZERO));
         let answer = self.handle().start_send(self.d, message, priority, now.until, now.until);
@@ -261,21 +258,21 @@ impl<P: Holder> Queue<P> {
         done(answer).map_err(would_wait)
     }
 
-    /// Starts a send, which never blocks: ready if it is done or failed, pending if the process has
-    /// an open wait now. So that it can be cancelled, the journal has it as a call whose deadline
-    /// is the last moment that there is.
+    /// Starts a send, and never blocks. It returns `Ready` if the send is done or failed, and
+    /// `Pending` if the process has an open wait now. So that the wait can be cancelled, its entry
+    /// in the journal has a deadline: the last moment that there is.
     ///
     /// # Errors
-    /// As of [`send`](Queue::send).
+    /// Those of [`send`](Queue::send).
     pub fn start_send(&self, message: &[u8], priority: u32) -> Poll<Result<(), Error>> {
         pending_or(self.begin_send(message, priority, None)).map(done)
     }
 
-    /// As [`start_send`](Queue::start_send), with a deadline for the wait. Someone has to collect
-    /// it then: nothing else looks at the clock.
+    /// Like [`start_send`](Queue::start_send), with a deadline for the wait. The program has to
+    /// collect it at the deadline: nothing else reads the clock.
     ///
     /// # Errors
-    /// As of [`send_until`](Queue::send_until).
+    /// Those of [`send_until`](Queue::send_until).
     pub fn start_send_until(
         &self,
         message: &[u8],
@@ -286,8 +283,8 @@ impl<P: Holder> Queue<P> {
         pending_or(self.begin_send(message, priority, Some(limit))).map(done)
     }
 
-    /// Ends the open wait of a send if it is answered or its deadline has passed, and else leaves
-    /// it open.
+    /// Ends the open wait of a send if it is answered or its deadline has passed. Otherwise the
+    /// wait stays open.
     ///
     /// # Errors
     /// [`NotWaiting`](Error::NotWaiting) if this queue has no send that waits;
@@ -311,7 +308,7 @@ impl<P: Holder> Queue<P> {
     /// while there is none (`mq_receive`).
     ///
     /// # Errors
-    /// [`BadDescriptor`](Error::BadDescriptor) if the queue is open to send alone;
+    /// [`BadDescriptor`](Error::BadDescriptor) if the queue is open only to send;
     /// [`MessageSize`](Error::MessageSize) if the buffer is shorter than the queue's messages may
     /// be; [`Again`](Error::Again) if the queue is nonblocking; [`Waiting`](Error::Waiting).
     #[inline]
@@ -326,11 +323,11 @@ impl<P: Holder> Queue<P> {
         received(answer, &message)
     }
 
-    /// As [`receive`](Queue::receive), and waits no longer than until a deadline
-    /// (`mq_timedreceive`): a [`Duration`] or an [`Instant`], or another [`Deadline`].
+    /// Like [`receive`](Queue::receive), but waits at most until a deadline (`mq_timedreceive`): a
+    /// [`Duration`], an [`Instant`], or another [`Deadline`].
     ///
     /// # Errors
-    /// As of `receive`, and [`TimedOut`](Error::TimedOut).
+    /// Those of `receive`, and [`TimedOut`](Error::TimedOut).
     pub fn receive_until(
         &self,
         buf: &mut [u8],
@@ -353,11 +350,10 @@ impl<P: Holder> Queue<P> {
         received(answer, &message)
     }
 
-    /// As [`receive`](Queue::receive), and never waits, in the way of
-    /// [`try_send`](Queue::try_send).
+    /// Like [`receive`](Queue::receive), but never waits, like [`try_send`](Queue::try_send).
     ///
     /// # Errors
-    /// As of `receive`, and [`Again`](Error::Again) if it would wait.
+    /// Those of `receive`, and [`Again`](Error::Again) if it would wait.
     pub fn try_receive(&self, buf: &mut [u8]) -> Result<Received, Error> {
         if let Some(kept) = self.take_kept(buf) {
             return kept;
@@ -369,20 +365,20 @@ impl<P: Holder> Queue<P> {
         received(answer, &message).map_err(would_wait)
     }
 
-    /// Starts a receive, which never blocks, in the way of [`start_send`](Queue::start_send). If it
-    /// is pending, its message comes to the buffer of the collect.
+    /// Starts a receive, and never blocks, like [`start_send`](Queue::start_send). If it is
+    /// pending, its message is written to the buffer of the collect.
     ///
     /// # Errors
-    /// As of [`receive`](Queue::receive).
+    /// Those of [`receive`](Queue::receive).
     pub fn start_receive(&self, buf: &mut [u8]) -> Poll<Result<Received, Error>> {
         self.start_receive_by(buf, None)
     }
 
-    /// As [`start_receive`](Queue::start_receive), with a deadline for the wait. Someone has to
-    /// collect it then: nothing else looks at the clock.
+    /// Like [`start_receive`](Queue::start_receive), with a deadline for the wait. The program has
+    /// to collect it at the deadline: nothing else reads the clock.
     ///
     /// # Errors
-    /// As of [`receive_until`](Queue::receive_until).
+    /// Those of [`receive_until`](Queue::receive_until).
     pub fn start_receive_until(
         &self,
         buf: &mut [u8],
@@ -392,47 +388,46 @@ impl<P: Holder> Queue<P> {
         self.start_receive_by(buf, Some(limit))
     }
 
-    /// Ends the open wait of a receive if it is answered or its deadline has passed, and else
-    /// leaves it open.
+    /// Ends the open wait of a receive if it is answered or its deadline has passed. Otherwise the
+    /// wait stays open.
     ///
     /// # Errors
     /// [`NotWaiting`](Error::NotWaiting) if this queue has no receive that waits;
-    /// [`MessageSize`](Error::MessageSize) if the buffer is shorter than that of the start, and
-    /// then the wait stays open; [`TimedOut`](Error::TimedOut).
+    /// [`MessageSize`](Error::MessageSize) if the buffer is shorter than that of the start; the
+    /// wait then stays open; [`TimedOut`](Error::TimedOut).
     pub fn collect_receive(&self, buf: &mut [u8]) -> Poll<Result<Received, Error>> {
         let mut message = raw::Message::default();
         self.collect(false, buf, &mut message).map(|answer| received(answer, &message))
     }
 
-    /// As [`receive`](Queue::receive), into a vector of the length of the message. The first such
-    /// call asks for the [`attr`](Queue::attr) of the queue, which the journal has as a call.
+    /// Like [`receive`](Queue::receive), into a vector of the length of the message. The first such
+    /// call also makes the call [`attr`](Queue::attr), which has its own entry in the journal.
     ///
     /// # Errors
-    /// As of `receive`.
+    /// Those of `receive`.
     pub fn receive_vec(&self) -> Result<Message, Error> {
         self.with_buffer(|buf| self.receive(buf))
     }
 
-    /// As [`receive_until`](Queue::receive_until), into a vector, as
+    /// Like [`receive_until`](Queue::receive_until), into a vector, like
     /// [`receive_vec`](Queue::receive_vec).
     ///
     /// # Errors
-    /// As of `receive_until`.
+    /// Those of `receive_until`.
     pub fn receive_vec_until(&self, deadline: impl Into<Deadline>) -> Result<Message, Error> {
         self.with_buffer(|buf| self.receive_until(buf, deadline))
     }
 
-    /// As [`try_receive`](Queue::try_receive), into a vector, as
+    /// Like [`try_receive`](Queue::try_receive), into a vector, like
     /// [`receive_vec`](Queue::receive_vec).
     ///
     /// # Errors
-    /// As of `try_receive`.
+    /// Those of `try_receive`.
     pub fn try_receive_vec(&self) -> Result<Message, Error> {
         self.with_buffer(|buf| self.try_receive(buf))
     }
 
-    /// The messages that come, for ever: each step waits for the next. After an error there are no
-    /// more.
+    /// An endless iterator over the messages: each step waits for the next. It ends after an error.
     ///
     /// ```
     /// use yakyrombe::{Error, OpenOptions, System};
@@ -454,7 +449,7 @@ impl<P: Holder> Queue<P> {
         Iter::new(self)
     }
 
-    /// The messages that are there, without any wait. After an error there are no more.
+    /// An iterator over the messages that are present; it never waits. It ends after an error.
     ///
     /// ```
     /// use yakyrombe::{Error, Message, OpenOptions, System};
@@ -498,7 +493,7 @@ impl<P: Holder> Queue<P> {
         })
     }
 
-    /// The message of a wait that was cancelled, if there is one.
+    /// The message of a cancelled wait, if there is one.
     #[inline]
     fn take_kept(&self, buf: &mut [u8]) -> Option<Result<Received, Error>> {
         let kept = self.kept.take()?;
@@ -517,7 +512,7 @@ impl<P: Holder> Queue<P> {
         }
     }
 
-    /// Receives into a buffer that is long enough, and gives the message alone.
+    /// Receives into a buffer that is long enough, and returns a copy of just the message.
     fn with_buffer(
         &self,
         receive: impl FnOnce(&mut [u8]) -> Result<Received, Error>,
@@ -544,15 +539,16 @@ impl<P: Holder> Queue<P> {
 
 /// Open waits.
 impl<P: Holder> Queue<P> {
-    /// Whether the open wait of this queue is answered, by one load: then the next collect ends it.
+    /// Whether the open wait of this queue is answered, by one load. If so, the next collect ends
+    /// it.
     #[inline]
     #[must_use]
     pub fn is_answered(&self) -> bool {
         self.process().wait_of(self.d).is_some() && self.process().is_answered()
     }
 
-    /// Sleeps until the open wait of this queue is answered, and no longer than that in real time:
-    /// whether it is answered.
+    /// Sleeps until the open wait of this queue is answered, for at most this long in real time,
+    /// and returns whether it is answered.
     pub fn wait(&self, most: Duration) -> bool {
         let end = Instant::now().checked_add(most);
         while self.process().wait_of(self.d).is_some() && !self.process().is_answered() {
@@ -565,11 +561,11 @@ impl<P: Holder> Queue<P> {
         self.is_answered()
     }
 
-    /// Ends the open wait of this queue in any case: it is withdrawn, unless it is answered
-    /// already. It is true if it was withdrawn; then a send has sent nothing. It is false if
-    /// there was none, or if it was answered: then a send is done, and the next receive by this
-    /// queue gives the message of a receive. It is false too, and the wait stays, if a journal has
-    /// it without a deadline, as one that a program in C wrote.
+    /// Ends the open wait of this queue in any case: it is withdrawn, unless it is already
+    /// answered. Returns true if it was withdrawn; then a send has sent nothing. Returns false if
+    /// no wait was open, or if it was answered: then a send is done, and the next receive by this
+    /// queue returns the message of a receive. It also returns false, and the wait stays open, if
+    /// the wait comes from a journal and has no deadline, as a C program can leave it.
     pub fn cancel(&self) -> bool {
         let Some(wait) = self.process().wait_of(self.d) else { return false };
         let (mut bytes, mut message) = (vec![0; wait.len], raw::Message::default());
@@ -590,7 +586,7 @@ impl<P: Holder> Queue<P> {
         limit.is_real || self.process().system().shared.clock.is_none()
     }
 
-    /// What the open wait of this kind came to, if it has ended.
+    /// The result of the open wait of this kind, if it has ended.
     fn collect(&self, is_send: bool, buf: &mut [u8], message: &mut raw::Message) -> Poll<u32> {
         match self.process().wait_of(self.d).filter(|wait| wait.is_send == is_send) {
             None => Poll::Ready(answer::NOT_WAITING),
@@ -600,7 +596,7 @@ impl<P: Holder> Queue<P> {
         }
     }
 
-    /// Waits for the end of the open wait by the clock of the program. If that panics the wait is
+    /// Waits for the end of the open wait by the program's clock. If that clock panics, the wait is
     /// cancelled.
     fn await_end(&self, buf: &mut [u8], message: &mut raw::Message) -> u32 {
         let Some(wait) = self.process().wait_of(self.d) else { return answer::NOT_WAITING };
@@ -617,7 +613,7 @@ impl<P: Holder> Queue<P> {
     }
 }
 
-/// Cancels the open wait of a queue, if there is one at its end.
+/// Cancels the open wait of a queue, if there is one, when it is dropped.
 struct Cancels<'q, P: Holder>(&'q Queue<P>);
 
 impl<P: Holder> Drop for Cancels<'_, P> {
@@ -630,7 +626,7 @@ impl<P: Holder> Drop for Queue<P> {
     fn drop(&mut self) {
         if self.holder.is_some() {
             self.end_wait_for_ever();
-            // If it is refused the queue stays open until the process exits.
+            // If the close fails, the queue stays open until the process exits.
             let _ = self.process().close(self.d);
         }
     }
@@ -646,7 +642,7 @@ impl<P: Holder> fmt::Debug for Queue<P> {
     }
 }
 
-/// The answer of a start, or pending if the process has an open wait now.
+/// The return code of a start, or pending if the process has an open wait now.
 fn pending_or(answer: u32) -> Poll<u32> {
     if answer == answer::WAITS {
         Poll::Pending

@@ -1,13 +1,13 @@
 //! The functions of the library, as `include/yakyrombe.h` declares them. All `unsafe` of the crate
 //! is here, and in `machine` below.
 //!
-//! What the header asks of a program is kept so:
-//! - a [`Handle`] begins as zeros, its fields are private to this module, and it is neither `Clone`
-//!   nor `Copy`;
-//! - a handle is not `Sync`, so one thread at a time calls by it, and no call of the library that
-//!   has a handle calls Rust: there is one call at a time on it. Another thread gets it by a move,
-//!   and Rust orders what was done before a move before what is done after it;
-//! - each pointer comes from a reference or a slice that lives through the call, with that slice's
+//! This is how the crate keeps the rules of the header:
+//! - A [`Handle`] starts as zeros, its fields are private to this module, and it is neither `Clone`
+//!   nor `Copy`.
+//! - A handle is not `Sync`, so one thread at a time uses it, and no call of the library that takes
+//!   a handle calls Rust. So there is one call at a time on it. Another thread gets it by a move,
+//!   and what happened before a move happens before what comes after it.
+//! - Each pointer comes from a reference or a slice that lives through the call, with that slice's
 //!   length, and is never null. What is written is borrowed mutably, so it overlaps nothing else.
 //!   The fields of a handle are reached only through a pointer to them.
 #![allow(unsafe_code)]
@@ -20,7 +20,7 @@ use std::ffi::c_void;
 use std::ptr::null_mut;
 use std::time::Duration;
 
-/// What a call returns beside the numbers of faults, which are 1 to 13.
+/// The return codes other than the numbers of errors, which are 1 to 13.
 pub mod answer {
     pub const DONE: u32 = 0;
     pub const TIMED_OUT: u32 = 12;
@@ -42,7 +42,7 @@ pub mod answer {
 pub enum Storage {
     #[default]
     Nothing,
-    /// Nothing, and an open takes the memory that later calls need.
+    /// Nothing, and an open allocates what later calls need.
     Prepaid,
     All,
     Bounded {
@@ -51,11 +51,11 @@ pub enum Storage {
     },
 }
 
-/// What a system that goes on from a journal stores of it.
+/// What a system that continues from a journal stores of it.
 #[derive(Clone, Copy, Debug, PartialEq, Eq)]
 pub enum Kept {
     Whole,
-    /// A short journal in its place.
+    /// A short equivalent journal.
     Short,
     Bounded {
         entries: u64,
@@ -134,15 +134,15 @@ struct Fields {
     apart: [u64; 12],
 }
 
-// As long as the library takes it to be.
+// The size that the library assumes.
 const _: () = assert!(std::mem::size_of::<Fields>() == 128);
 
-/// A process, or none before [`Handle::of_system`] and after its drop.
+/// A process; empty before [`Handle::of_system`] and after its drop.
 #[repr(transparent)]
 pub struct Handle(UnsafeCell<Fields>);
 
-// SAFETY: the header lets a handle go from thread to thread where that is ordered, as a move is. It
-// has no tie to a thread.
+// SAFETY: the header lets a handle pass from thread to thread if that is synchronized, as a move
+// is. Nothing ties it to a thread.
 unsafe impl Send for Handle {}
 
 extern "C" {
@@ -274,7 +274,7 @@ impl Handle {
         }))
     }
 
-    /// So many empty handles, and a pointer to the first: a handle is its fields, and nothing else.
+    /// `count` empty handles, and a pointer to the first. A handle is its fields and nothing else.
     fn some(count: usize) -> (Vec<Handle>, *mut Fields) {
         let mut handles = Vec::new();
         handles.resize_with(count, Handle::empty);
@@ -286,8 +286,8 @@ impl Handle {
     pub fn of_system(count: usize, storage: Storage) -> Result<Vec<Handle>, u32> {
         let (handles, first) = Handle::some(count);
         let made = match storage {
-            // SAFETY: `first` points to `count` handles, each empty. For none it is dangling,
-            // aligned, and not used.
+            // SAFETY: `first` points to `count` handles, each empty. If `count` is 0, it is
+            // dangling, aligned, and not used.
             Storage::Nothing => unsafe { yak_unstored(first, count) },
             // SAFETY: the same.
             Storage::Prepaid => unsafe { yak_prepaid(first, count) },
@@ -305,14 +305,14 @@ impl Handle {
         }
     }
 
-    /// The same of a system that goes on from a journal; with the number of the error, the line that
-    /// is to blame.
+    /// The same for a system that continues from a journal; the error has its number and the line
+    /// at fault.
     pub fn resumed(count: usize, journal: &[u8], kept: Kept) -> Result<Vec<Handle>, (u32, u64)> {
         let (handles, first) = Handle::some(count);
         let (text, len) = (journal.as_ptr(), journal.len());
         let mut line = 0;
         let made = match kept {
-            // SAFETY: as of `of_system`; the text has `len` bytes, and `line` is borrowed.
+            // SAFETY: as in `of_system`; the text has `len` bytes, and `line` is borrowed.
             Kept::Whole => unsafe { yak_resume(first, count, text, len, &mut line) },
             // SAFETY: the same.
             Kept::Short => unsafe { yak_resume_short(first, count, text, len, &mut line) },
@@ -328,7 +328,7 @@ impl Handle {
         }
     }
 
-    /// Empties handles of one system, also if their processes have open waits.
+    /// Empties all handles of one system, even if their processes have open waits.
     pub fn finish(mut handles: Vec<Handle>) {
         let (first, count) = (handles.as_mut_ptr().cast::<Fields>(), handles.len());
         // SAFETY: `first` points to `count` handles. No function for lines is given.
@@ -341,7 +341,7 @@ impl Handle {
         unsafe { (*self.0.get()).number }
     }
 
-    /// Whose waits its last call answered: that of process p is bit p - 1.
+    /// The processes whose waits its last call answered: process p has bit p - 1.
     #[cfg(feature = "futures")]
     #[inline]
     pub fn answered_others(&self) -> u32 {
@@ -350,22 +350,22 @@ impl Handle {
     }
 
     pub fn open(&self, name: &[u8], opening: &Opening, d: &mut u32) -> u32 {
-        // SAFETY: `name` has so many bytes; all else points to what was borrowed.
+        // SAFETY: `name` has `name.len()` bytes; all else points to what was borrowed.
         unsafe { yak_open(self.0.get(), name.as_ptr(), name.len(), opening, d) }
     }
 
     pub fn close(&self, d: u32) -> u32 {
-        // SAFETY: any number may be a descriptor.
+        // SAFETY: any number is allowed as a descriptor.
         unsafe { yak_close(self.0.get(), d) }
     }
 
     pub fn unlink(&self, name: &[u8]) -> u32 {
-        // SAFETY: `name` has so many bytes.
+        // SAFETY: `name` has `name.len()` bytes.
         unsafe { yak_unlink(self.0.get(), name.as_ptr(), name.len()) }
     }
 
     pub fn notify(&self, d: u32, notice: Option<u64>) -> u32 {
-        // SAFETY: any numbers may be a descriptor and a value.
+        // SAFETY: any numbers are allowed as a descriptor and a value.
         unsafe { yak_notify(self.0.get(), d, notice.is_some(), notice.unwrap_or(0)) }
     }
 
@@ -379,7 +379,7 @@ impl Handle {
         unsafe { yak_getattr(self.0.get(), d, attributes) }
     }
 
-    /// As `getattr`, for the limits alone.
+    /// Like `getattr`, for the limits only.
     pub fn limits(&self, d: u32, attributes: &mut Attributes) -> u32 {
         self.getattr(d, attributes)
     }
@@ -396,20 +396,20 @@ impl Handle {
 
     #[inline]
     pub fn send(&self, d: u32, bytes: &[u8], prio: u32) -> u32 {
-        // SAFETY: `bytes` has so many bytes.
+        // SAFETY: `bytes` has `bytes.len()` bytes.
         unsafe { yak_send(self.0.get(), d, bytes.as_ptr(), bytes.len(), prio) }
     }
 
     #[inline]
     pub fn receive(&self, d: u32, buf: &mut [u8], message: &mut Message) -> u32 {
-        // SAFETY: `buf` has so many bytes, and no other borrow overlaps it. Of length 0 it is
-        // dangling, and not null.
+        // SAFETY: `buf` has `buf.len()` bytes, and no other borrow overlaps it. If it is empty, the
+        // pointer is dangling, but not null.
         unsafe { yak_receive(self.0.get(), d, buf.as_mut_ptr(), buf.len(), message) }
     }
 
-    /// Waits until a moment of the clock that never goes back.
+    /// Waits until a moment of the monotonic clock.
     pub fn send_until(&self, d: u32, bytes: &[u8], prio: u32, until: Moment) -> u32 {
-        // SAFETY: `bytes` has so many bytes, and the moment lives through the call.
+        // SAFETY: `bytes` has `bytes.len()` bytes, and the moment lives through the call.
         unsafe {
             yak_clock_send(
                 self.0.get(),
@@ -423,7 +423,7 @@ impl Handle {
         }
     }
 
-    /// Waits until a moment of the clock that never goes back.
+    /// Waits until a moment of the monotonic clock.
     pub fn receive_until(
         &self,
         d: u32,
@@ -445,16 +445,16 @@ impl Handle {
         }
     }
 
-    /// Does not wait for other processes: `WAITS` if it would, and then the process has an open
-    /// wait.
+    /// Does not wait for room in the queue: if it would, it returns `WAITS`, and the process has an
+    /// open wait.
     pub fn start_send(&self, d: u32, bytes: &[u8], prio: u32, until: Moment, now: Moment) -> u32 {
-        // SAFETY: `bytes` has so many bytes, and the moments live through the call.
+        // SAFETY: `bytes` has `bytes.len()` bytes, and the moments live through the call.
         unsafe {
             yak_start_timed_send(self.0.get(), d, bytes.as_ptr(), bytes.len(), prio, &until, &now)
         }
     }
 
-    /// Does not wait for other processes, as `start_send`.
+    /// Does not wait for a message, like `start_send`.
     pub fn start_receive(
         &self,
         d: u32,
@@ -484,7 +484,7 @@ impl Handle {
         unsafe { yak_answered(self.0.get()) == answer::DONE }
     }
 
-    /// Sleeps until the open wait is answered, and no longer than that, nor than 80 milliseconds.
+    /// Sleeps until the open wait is answered, for at most `most` and at most 80 milliseconds.
     pub fn await_answered(&self, most: Duration) -> bool {
         let nanos = i64::try_from(most.as_nanos()).unwrap_or(i64::MAX);
         // SAFETY: the handle was borrowed.
@@ -507,8 +507,8 @@ impl Handle {
     }
 
     pub fn entry(&self, place: u64, text: &mut [u8], len: &mut usize) -> u32 {
-        // SAFETY: `text` has so many bytes, and no other borrow overlaps it. Of length 0 it is
-        // dangling, and not null.
+        // SAFETY: `text` has `text.len()` bytes, and no other borrow overlaps it. If it is empty,
+        // the pointer is dangling, but not null.
         unsafe { yak_entry(self.0.get(), place, text.as_mut_ptr(), text.len(), len) }
     }
 
@@ -525,10 +525,10 @@ impl Handle {
 
 impl Drop for Handle {
     fn drop(&mut self) {
-        // A `Process` that is dropped ends its wait before, but for one without a deadline, which it
-        // has from a journal: then the library refuses to free it, and ends it as a whole system.
-        // SAFETY: the handle was borrowed, and an empty one stays as it is. No function for lines is
-        // given.
+        // A `Process` ends its wait before it is dropped, except one without a deadline, from a
+        // journal. Then the library refuses to free it, and `yak_finish` ends it.
+        // SAFETY: the handle was borrowed, and an empty one stays unchanged. No function for lines
+        // is given.
         unsafe {
             if yak_free(self.0.get()) == answer::WAITING {
                 yak_finish(self.0.get(), 1, None, null_mut());
@@ -547,14 +547,13 @@ impl Moment {
     /// The last moment that there is.
     pub const LAST: Moment = Moment { sec: i64::MAX, nsec: 999_999_999 };
 
-    /// The moment now, by a clock that never goes back.
+    /// The moment now, by the monotonic clock.
     pub fn now() -> Moment {
         // SAFETY: the clock takes nothing.
         unsafe { yak_monotonic_now() }
     }
 
-    /// The moment when so much time has passed since the origin of a clock, or the last one that
-    /// there is.
+    /// The moment this long after the origin of a clock, or the last one that there is.
     pub fn since_origin(time: Duration) -> Moment {
         match i64::try_from(time.as_secs()) {
             Ok(sec) => Moment { sec, nsec: i64::from(time.subsec_nanos()) },
@@ -562,7 +561,7 @@ impl Moment {
         }
     }
 
-    /// The time from the origin of its clock.
+    /// The time since the origin of its clock.
     pub fn time(self) -> Duration {
         Duration::new(u64::try_from(self.sec).unwrap_or(0), u32::try_from(self.nsec).unwrap_or(0))
     }

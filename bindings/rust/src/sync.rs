@@ -1,7 +1,7 @@
 //! A mutex and a condition variable whose calls are steps of a [`model`](crate::model()). Outside
-//! of one they are those of [`std::sync`].
+//! of one, they are those of [`std::sync`].
 //!
-//! Those of `std` lock and unlock by atomics, which an exploration does not see.
+//! Those of `std` use atomics, which an exploration does not see.
 
 use crate::raw::machine::{self, Condition, Lock};
 use crate::raw::Moment;
@@ -12,7 +12,7 @@ use std::time::Duration;
 
 pub use std::sync::{Arc, LockResult, PoisonError, TryLockError, TryLockResult};
 
-/// As [`std::sync::Mutex`].
+/// Like [`std::sync::Mutex`].
 ///
 /// ```
 /// use yakyrombe::sync::Mutex;
@@ -23,7 +23,7 @@ pub use std::sync::{Arc, LockResult, PoisonError, TryLockError, TryLockResult};
 /// ```
 #[derive(Default)]
 pub struct Mutex<T: ?Sized> {
-    /// It is locked before `inner`, and so long as that, in a model.
+    /// In a model, it is locked before `inner`, and for as long.
     gate: Gate,
     inner: sync::Mutex<T>,
 }
@@ -36,17 +36,17 @@ impl Default for Gate {
     }
 }
 
-/// As [`std::sync::MutexGuard`].
+/// Like [`std::sync::MutexGuard`].
 #[must_use = "the mutex is unlocked when its guard is dropped"]
 pub struct MutexGuard<'m, T: ?Sized> {
     mutex: &'m Mutex<T>,
-    /// There up to the drop.
+    /// Present until the drop.
     inner: Option<sync::MutexGuard<'m, T>>,
     is_gated: bool,
 }
 
 impl<T> Mutex<T> {
-    /// A mutex that nobody has locked.
+    /// An unlocked mutex.
     pub const fn new(value: T) -> Mutex<T> {
         Mutex { gate: Gate(Lock::new()), inner: sync::Mutex::new(value) }
     }
@@ -54,17 +54,17 @@ impl<T> Mutex<T> {
     /// The value.
     ///
     /// # Errors
-    /// As of `std`: the mutex is poisoned.
+    /// As in `std`: the mutex is poisoned.
     pub fn into_inner(self) -> LockResult<T> {
         self.inner.into_inner()
     }
 }
 
 impl<T: ?Sized> Mutex<T> {
-    /// Waits until no other thread has it locked, and locks it.
+    /// Waits until no other thread holds the mutex, and locks it.
     ///
     /// # Errors
-    /// As of `std`: a thread has panicked while it had it locked.
+    /// As in `std`: a thread has panicked while it held the mutex.
     pub fn lock(&self) -> LockResult<MutexGuard<'_, T>> {
         let is_gated = machine::decides();
         if is_gated {
@@ -73,10 +73,10 @@ impl<T: ?Sized> Mutex<T> {
         self.guard(is_gated, self.inner.lock())
     }
 
-    /// Locks it if nobody has it locked.
+    /// Locks the mutex if no thread holds it.
     ///
     /// # Errors
-    /// As of `std`: it is locked, or poisoned.
+    /// As in `std`: it is locked, or poisoned.
     pub fn try_lock(&self) -> TryLockResult<MutexGuard<'_, T>> {
         let is_gated = machine::decides();
         if is_gated && !self.gate.0.try_lock() {
@@ -89,15 +89,15 @@ impl<T: ?Sized> Mutex<T> {
         }
     }
 
-    /// Whether a thread has panicked while it had it locked.
+    /// Whether a thread has panicked while it held the mutex.
     pub fn is_poisoned(&self) -> bool {
         self.inner.is_poisoned()
     }
 
-    /// The value, which nobody else can have.
+    /// The value; the exclusive borrow makes locking unnecessary.
     ///
     /// # Errors
-    /// As of `std`: the mutex is poisoned.
+    /// As in `std`: the mutex is poisoned.
     pub fn get_mut(&mut self) -> LockResult<&mut T> {
         self.inner.get_mut()
     }
@@ -122,7 +122,7 @@ impl<T: ?Sized + fmt::Debug> fmt::Debug for Mutex<T> {
 }
 
 impl<'m, T: ?Sized> MutexGuard<'m, T> {
-    /// What it has locked, so that its drop unlocks nothing.
+    /// Takes the inner guard out, so that the drop of this one unlocks nothing.
     fn take(&mut self) -> sync::MutexGuard<'m, T> {
         self.inner.take().expect("it is there up to the drop")
     }
@@ -156,7 +156,7 @@ impl<T: ?Sized + fmt::Debug> fmt::Debug for MutexGuard<'_, T> {
     }
 }
 
-/// As [`std::sync::Condvar`]. A model wakes no waiter for no reason.
+/// Like [`std::sync::Condvar`]. In a model there are no spurious wake-ups.
 ///
 /// ```
 /// use std::thread;
@@ -177,7 +177,7 @@ pub struct Condvar {
     inner: sync::Condvar,
 }
 
-/// Whether a wait with a deadline ended by it.
+/// Whether a wait with a deadline timed out.
 #[derive(Clone, Copy, Debug, PartialEq, Eq)]
 pub struct WaitTimeoutResult(bool);
 
@@ -196,7 +196,7 @@ impl Default for Condvar {
 }
 
 impl Condvar {
-    /// A condition for which nobody waits.
+    /// A condition variable without waiters.
     #[must_use]
     pub const fn new() -> Condvar {
         Condvar { gate: Condition::new(), inner: sync::Condvar::new() }
@@ -205,7 +205,7 @@ impl Condvar {
     /// Unlocks the mutex, waits until it is woken, and locks the mutex again.
     ///
     /// # Errors
-    /// As of `std`: the mutex is poisoned.
+    /// As in `std`: the mutex is poisoned.
     pub fn wait<'m, T>(&self, mut guard: MutexGuard<'m, T>) -> LockResult<MutexGuard<'m, T>> {
         let mutex = guard.mutex;
         if guard.is_gated {
@@ -214,10 +214,10 @@ impl Condvar {
         mutex.guard(false, self.inner.wait(guard.take()))
     }
 
-    /// Waits until the test is false.
+    /// Waits until the condition is false.
     ///
     /// # Errors
-    /// As of `wait`.
+    /// Those of `wait`.
     pub fn wait_while<'m, T>(
         &self,
         mut guard: MutexGuard<'m, T>,
@@ -229,10 +229,10 @@ impl Condvar {
         Ok(guard)
     }
 
-    /// As [`wait`](Condvar::wait), for so long at the most.
+    /// Like [`wait`](Condvar::wait), for at most this long.
     ///
     /// # Errors
-    /// As of `wait`.
+    /// Those of `wait`.
     pub fn wait_timeout<'m, T>(
         &self,
         mut guard: MutexGuard<'m, T>,
@@ -273,7 +273,7 @@ impl Condvar {
         self.inner.notify_all();
     }
 
-    /// What the mutex gives again, and whether the deadline has passed.
+    /// The guard of the mutex, locked again, and whether the deadline has passed.
     fn wait_gated<'m, T>(
         &self,
         mut guard: MutexGuard<'m, T>,

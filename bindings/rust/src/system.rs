@@ -11,14 +11,14 @@ use std::hash::{Hash, Hasher};
 use std::sync::Arc;
 use std::time::Duration;
 
-/// How many processes a system has at the most.
+/// How many processes a system has at most.
 pub const MOST_PROCESSES: usize = 32;
 
-/// A system of processes that share queues. Queues of two systems have nothing to do with each
-/// other, whatever their names are.
+/// A system of processes that share queues. Queues of two systems are independent, even if they
+/// have the same name.
 ///
-/// This value says which system it is, and what clock it has; calls are made by its processes. A
-/// clone is of the same system. The memory of a system is freed with its last process.
+/// This value identifies a system and has its clock; its processes make the calls. A clone is the
+/// same system. The memory of a system is freed with its last process.
 ///
 /// ```
 /// use yakyrombe::System;
@@ -47,14 +47,15 @@ pub(crate) struct Shared {
 }
 
 impl System {
-    /// Begins to make a system. Without more it has one process, no stored journal, and real time.
+    /// Starts to build a system. By default it has one process, no stored journal, and a monotonic
+    /// clock.
     pub fn builder() -> Builder {
         Builder::default()
     }
 
-    /// A system that goes on from a journal, with as many processes as that has, and with a stored
-    /// journal. Its queues, notices and open waits are as the calls of the journal leave them.
-    /// [`Process::resumed`] gives the queues that a process has open.
+    /// A system that continues from a journal, with as many processes as the journal has, and with
+    /// a stored journal. Its queues, notices and open waits are as the calls of the journal left
+    /// them. [`Process::resumed`] returns the queues that a process has open.
     ///
     /// ```
     /// use yakyrombe::{Error, OpenOptions, System};
@@ -64,7 +65,7 @@ impl System {
     /// let queue = process.open("/q", OpenOptions::read_write().create().limits(8, 8))?;
     /// queue.send(b"saved", 0)?;
     /// let saved = process.journal()?;
-    /// // Two ways from there:
+    /// // Two continuations of it:
     /// for answer in [b"yes", b"no!"] {
     ///     let (_, processes) = System::resume(&saved)?;
     ///     let queue = processes[0].resumed(0)?;
@@ -77,13 +78,13 @@ impl System {
     /// ```
     ///
     /// # Errors
-    /// The line that is to blame; [`NoMemory`](Error::NoMemory).
+    /// The line at fault; [`NoMemory`](Error::NoMemory).
     pub fn resume(journal: &Journal) -> Result<(System, Vec<Process>), ResumeError> {
         let count = journal.process_count().clamp(1, MOST_PROCESSES);
         System::builder().processes(count).resume(journal)
     }
 
-    /// How many processes it was made with.
+    /// How many processes it was built with.
     #[must_use]
     pub fn process_count(&self) -> usize {
         self.shared.count
@@ -110,7 +111,7 @@ impl System {
     }
 }
 
-/// Two values are equal if they are of the same system.
+/// Two values are equal if they are the same system.
 impl PartialEq for System {
     fn eq(&self, other: &System) -> bool {
         Arc::ptr_eq(&self.shared, &other.shared)
@@ -134,13 +135,13 @@ impl fmt::Debug for System {
     }
 }
 
-/// How a system is to be made.
+/// The options of a new system.
 ///
 /// ```
 /// use yakyrombe::{Error, System, VirtualClock};
 ///
 /// # fn main() -> Result<(), Error> {
-/// // For ever in the same memory:
+/// // Runs indefinitely in constant memory:
 /// let (_, processes) = System::builder().processes(8).build()?;
 /// assert_eq!(processes[0].check(), Err(Error::Unstored));
 /// // With a journal that can be read, in virtual time:
@@ -171,10 +172,10 @@ impl Builder {
         self
     }
 
-    /// With a journal that is stored and can be read, or without, as is the default. A stored one
-    /// grows with each call: an entry takes 64 to 120 bytes, and the name or message. Without it
-    /// memory is taken only while more messages, or longer ones, are present than before, when a
-    /// queue is opened, and for notices that are due; so the system may run for ever.
+    /// Sets whether the journal is stored and can be read; by default it is not. A stored journal
+    /// grows with each call: an entry takes 64 to 120 bytes, and the name or message. Without it,
+    /// the system allocates only if more messages, or longer ones, are present than before, when a
+    /// queue is opened, and for pending notices; so it can run indefinitely.
     ///
     /// This replaces an earlier [`bounded`](Builder::bounded).
     pub fn journal(mut self, is_stored: bool) -> Builder {
@@ -182,10 +183,10 @@ impl Builder {
         self
     }
 
-    /// With a stored journal that has at most this number of entries, and of bytes of names and
-    /// messages. All memory that the calls of the system need is taken when it is built. A call
-    /// that finds the journal full fails with [`JournalFull`](Error::JournalFull), and a call
-    /// that waits then waits for ever: wait with a deadline, or ask for the
+    /// Stores the journal, with at most this many entries, and this many bytes of names and
+    /// messages. All memory that the calls of the system need is allocated when it is built. A call
+    /// that finds the journal full fails with [`JournalFull`](Error::JournalFull). A call that
+    /// waits without a deadline then never returns: wait with a deadline, or check the
     /// [`room`](Process::room) first.
     ///
     /// This replaces an earlier [`journal`](Builder::journal).
@@ -194,10 +195,11 @@ impl Builder {
         self
     }
 
-    /// Without a stored journal, for real-time use. An open that creates a queue also takes the
+    /// Does not store the journal, for real-time use. An open that creates a queue also allocates
     /// memory for all its messages, each of the greatest size, and for one of each process; or it
-    /// fails with [`NoMemory`](Error::NoMemory). No other call of the library takes memory, while
-    /// each process leaves at most 64 notices. Messages with bytes of their own still do.
+    /// fails with [`NoMemory`](Error::NoMemory). No other call of the library allocates, as long as
+    /// each process has at most 64 notices. A [`Message`](crate::Message), which owns its bytes,
+    /// still does.
     ///
     /// ```
     /// use yakyrombe::{OpenOptions, System};
@@ -220,17 +222,17 @@ impl Builder {
         self
     }
 
-    /// With a clock of the program. Deadlines of its calls are measured by it; those that are an
-    /// [`Instant`](std::time::Instant) are of real time.
+    /// Uses a clock of the program. It measures the deadlines of calls, except those that are an
+    /// [`Instant`](std::time::Instant), which are in real time.
     pub fn clock(mut self, clock: impl Clock + 'static) -> Builder {
         self.clock = Some(Box::new(clock));
         self
     }
 
-    /// Makes the system, and gives it and its processes, process 1 first.
+    /// Builds the system, and returns it and its processes, process 1 first.
     ///
     /// # Errors
-    /// [`Invalid`](Error::Invalid) if there are not 1 to 32 processes;
+    /// [`Invalid`](Error::Invalid) if the number of processes is not 1 to 32;
     /// [`NoMemory`](Error::NoMemory).
     pub fn build(self) -> Result<(System, Vec<Process>), Error> {
         if self.processes > MOST_PROCESSES {
@@ -241,10 +243,10 @@ impl Builder {
         Ok(self.with(handles, left))
     }
 
-    /// As [`build`](Builder::build), for a system that goes on from a journal ([`System::resume`]),
-    /// with as many processes as were asked for. Its journal is stored. Bounds
-    /// ([`bounded`](Builder::bounded)) hold for the whole journal. The clock should not be before
-    /// the moments of the journal.
+    /// Like [`build`](Builder::build), for a system that continues from a journal
+    /// ([`System::resume`]), with as many processes as the builder says. Its journal is stored.
+    /// Bounds ([`bounded`](Builder::bounded)) hold for the whole journal. The clock should not be
+    /// before the moments of the journal.
     ///
     /// ```
     /// use yakyrombe::{Error, Journal, ResumeError, System};
@@ -256,9 +258,9 @@ impl Builder {
     /// ```
     ///
     /// # Errors
-    /// The line that is to blame; [`JournalFull`](Error::JournalFull) if the journal, with an entry
-    /// for the end of each open wait, is too long for the bounds; [`Invalid`](Error::Invalid) if
-    /// there are not 1 to 32 processes; [`NoMemory`](Error::NoMemory).
+    /// The line at fault; [`JournalFull`](Error::JournalFull) if the journal, with an entry for the
+    /// end of each open wait, is too long for the bounds; [`Invalid`](Error::Invalid) if the number
+    /// of processes is not 1 to 32; [`NoMemory`](Error::NoMemory).
     pub fn resume(self, journal: &Journal) -> Result<(System, Vec<Process>), ResumeError> {
         if self.processes > MOST_PROCESSES {
             return Err(Error::Invalid.into());
@@ -287,7 +289,7 @@ impl Builder {
         (system, processes)
     }
 
-    /// As [`build`](Builder::build), with as many processes as the array has.
+    /// Like [`build`](Builder::build), with as many processes as the array has.
     ///
     /// ```
     /// # fn main() -> Result<(), yakyrombe::Error> {
@@ -299,10 +301,10 @@ impl Builder {
     /// ```
     ///
     /// # Errors
-    /// As of `build`.
+    /// Those of `build`.
     pub fn build_array<const N: usize>(self) -> Result<(System, [Process; N]), Error> {
         let (system, processes) = self.processes(N).build()?;
-        // There are as many as were asked for.
+        // The vector has exactly N processes.
         let processes = processes.try_into().map_err(|_| Error::Invalid)?;
         Ok((system, processes))
     }

@@ -8,8 +8,8 @@ use std::time::{Duration, Instant};
 /// A clock of the program, by which the calls of a system measure time
 /// ([`Builder::clock`](crate::Builder::clock)).
 ///
-/// A moment is the time since some origin. The clock should not go back. This one counts in steps
-/// of its own, and another thread moves it:
+/// A moment is the time since some origin. The clock should not go back. This one counts its own
+/// steps, and another thread advances it:
 ///
 /// ```
 /// use std::sync::atomic::{AtomicU64, Ordering};
@@ -34,15 +34,15 @@ use std::time::{Duration, Instant};
 /// # }
 /// ```
 ///
-/// A simulation in one thread takes a [`VirtualClock`].
+/// A simulation in one thread uses a [`VirtualClock`].
 pub trait Clock: Send + Sync {
     /// The moment now.
     fn now(&self) -> Duration;
 
-    /// A call of this thread waits, and its deadline is still to come. In a simulation in one
-    /// thread nobody can end the wait before, so a clock of virtual time moves on to the
-    /// deadline, and returns true. Any other clock returns false, as this does: then the thread
-    /// sleeps until its call is answered, and asks for the moment again at least every 80
+    /// Called when a call of this thread waits and its deadline has not passed. In a simulation in
+    /// one thread nothing can end the wait before the deadline, so a virtual clock advances to the
+    /// deadline and returns true. Any other clock returns false, as this default does. Then the
+    /// thread sleeps until its call is answered, and reads the clock again at least every 80
     /// milliseconds.
     fn skip_to(&self, deadline: Duration) -> bool {
         let _ = deadline;
@@ -60,8 +60,7 @@ impl<C: Clock + ?Sized> Clock for Arc<C> {
     }
 }
 
-/// The clock of a system whose builder names no other: it is never set. On Linux it is that of
-/// [`Instant`].
+/// The default clock of a system: a monotonic clock. On Linux it is that of [`Instant`].
 ///
 /// ```
 /// use yakyrombe::{Clock, Monotonic};
@@ -78,13 +77,14 @@ impl Clock for Monotonic {
     }
 }
 
-/// Virtual time, for a simulation in one thread. It moves only if it is told to, and if a call
-/// with a deadline waits: then it jumps to the deadline, and the call fails with
-/// [`TimedOut`](crate::Error::TimedOut) without any sleep. A call without a deadline still waits
-/// for another thread.
+/// Virtual time, for a simulation in one thread. It advances only when the program advances it, and
+/// when a call with a deadline waits: then it jumps to the deadline, and the call fails with
+/// [`TimedOut`](crate::Error::TimedOut) without sleeping. A call without a deadline still waits for
+/// another thread.
 ///
-/// A clone shows the same time. If threads wait for each other it is of no use, since the first
-/// wait moves the time of all: they take a [`Clock`] of the program, which another thread moves.
+/// A clone shows the same time. It does not suit threads that wait for each other, because the
+/// first wait advances the time of all: they need a [`Clock`] of the program, which another thread
+/// advances.
 ///
 /// ```
 /// use std::time::{Duration, Instant};
@@ -109,18 +109,18 @@ impl Clock for Monotonic {
 pub struct VirtualClock(Arc<Mutex<Duration>>);
 
 impl VirtualClock {
-    /// A clock that begins at its origin.
+    /// A clock that starts at its origin.
     #[must_use]
     pub fn new() -> VirtualClock {
         VirtualClock::default()
     }
 
-    /// Moves on by so much.
+    /// Advances by this much.
     pub fn advance(&self, time: Duration) {
         self.change(|now| now.saturating_add(time));
     }
 
-    /// Moves on to a moment, unless that is past.
+    /// Advances to a moment, unless it has passed.
     pub fn advance_to(&self, moment: Duration) {
         self.change(|now| now.max(moment));
     }
@@ -150,7 +150,7 @@ impl fmt::Debug for VirtualClock {
     }
 }
 
-/// Until when a call waits. A [`Duration`] and an [`Instant`] become one by themselves.
+/// Until when a call waits. A [`Duration`] and an [`Instant`] convert into one.
 ///
 /// ```
 /// use std::time::{Duration, Instant};
@@ -171,11 +171,11 @@ impl fmt::Debug for VirtualClock {
 #[derive(Clone, Copy, Debug, PartialEq, Eq, PartialOrd, Ord, Hash)]
 #[non_exhaustive]
 pub enum Deadline {
-    /// So long after the call begins, by the clock of the system.
+    /// This long after the call begins, by the clock of the system.
     After(Duration),
-    /// At that moment of the clock of the system ([`System::now`](crate::System::now)).
+    /// At this moment of the clock of the system ([`System::now`](crate::System::now)).
     Moment(Duration),
-    /// At that moment of real time, whatever the clock of the system is.
+    /// At this moment of real time, whatever the clock of the system is.
     Instant(Instant),
 }
 
@@ -191,15 +191,15 @@ impl From<Instant> for Deadline {
     }
 }
 
-/// When a wait ends at the latest, and by which clock.
+/// The deadline of a wait, and its clock.
 #[derive(Clone, Copy, Debug)]
 pub(crate) struct Limit {
     pub until: Moment,
-    /// Whether the deadline is of real time, also if the system has a clock of the program.
+    /// Whether the deadline is in real time, even if the system has a clock of the program.
     pub is_real: bool,
 }
 
-/// The clock of a system: null for the one that is never set, which the library reads itself.
+/// The clock of a system: `None` for the monotonic clock, which the library reads itself.
 pub(crate) type OwnClock = Option<Box<dyn Clock>>;
 
 /// The moment now, by the clock of a system or by real time.
@@ -211,7 +211,7 @@ pub(crate) fn moment_now(own: &OwnClock, is_real: bool) -> Moment {
 }
 
 impl Limit {
-    /// No deadline: the wait can be cancelled, and does not end by itself.
+    /// No deadline: the wait can be cancelled, but does not end by itself.
     pub const NONE: Limit = Limit { until: Moment::LAST, is_real: true };
 
     pub fn of(deadline: Deadline, own: &OwnClock) -> Limit {
@@ -235,7 +235,7 @@ impl Limit {
     }
 }
 
-/// The moment so much later, or the last one that there is.
+/// The moment this much later, or the last one that there is.
 fn after(moment: Moment, time: Duration) -> Moment {
     Moment::since_origin(moment.time().saturating_add(time))
 }

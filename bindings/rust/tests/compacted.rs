@@ -1,5 +1,5 @@
-//! A short journal is as short as what is there lets it be: after random calls it has at most the
-//! entries that make the notices, queues, messages, descriptors, registrations and waits anew.
+//! A compacted journal is as short as the state allows: after random calls it has at most the
+//! entries that recreate the notices, queues, messages, descriptors, registrations and waits.
 
 use std::collections::HashMap;
 use std::rc::Rc;
@@ -9,7 +9,7 @@ const PROCESSES: usize = 5;
 const JOURNALS: u64 = 2_000;
 const CALLS: u32 = 60;
 
-/// Numbers that a seed gives.
+/// Pseudo-random numbers from a seed.
 struct Random(u64);
 
 impl Random {
@@ -27,7 +27,7 @@ struct Caller {
 }
 
 impl Caller {
-    /// Makes any call; what it comes to does not matter.
+    /// Makes a random call, and ignores its result.
     fn call(&mut self, random: &mut Random) {
         let name = ["/a", "/b", "/c"][random.below(3)];
         let options = OpenOptions::read_write().create().limits(1 + random.below(3), 8);
@@ -61,7 +61,7 @@ struct Owner {
     wait: Option<(usize, usize)>,
 }
 
-/// What is there after the calls of a journal, queues by the places of their creation.
+/// The state after the calls of a journal; the sequence number of its creation identifies a queue.
 #[derive(Default)]
 struct Found {
     owners: Vec<Owner>,
@@ -122,7 +122,7 @@ impl Found {
         }
     }
 
-    /// How many entries make it anew at the most.
+    /// How many entries at most recreate the state.
     fn most_entries(&self) -> usize {
         let told = self.owners.iter().filter(|owner| owner.notices > 0).count();
         let notices: usize = self.owners.iter().map(|owner| owner.notices).sum();
@@ -174,7 +174,7 @@ fn a_short_journal_is_short() {
         most += bound;
         waits += found.owners.iter().filter(|owner| owner.wait.is_some()).count();
     }
-    // The bound is no far one, and much was there.
+    // The bound is close, and the states were not trivial.
     assert!(
         most < 2 * entries && entries > 10 * 2_000 && waits > 2_000,
         "{entries} of {most}, {waits}"

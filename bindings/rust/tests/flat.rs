@@ -1,6 +1,6 @@
-//! A program that runs for ever takes no more memory: 8 threads pass messages through one queue,
-//! and open, use and lose queues of their own. After the first 100,000 sends and receives the
-//! resident size is the same within 1 MB, and there are fewer than 0.001 minor page faults a call.
+//! Memory does not grow: 8 threads pass messages through one queue, and open, use and unlink queues
+//! of their own. After the first 100,000 sends and receives, the resident size stays within 1 MB,
+//! and there are fewer than 0.001 minor page faults for each call.
 #![cfg(target_os = "linux")]
 
 use std::fs::read_to_string;
@@ -12,7 +12,7 @@ const THREADS: usize = 8;
 const FIRST_CALLS: u64 = 100_000;
 const MOST_BYTES: u64 = 1_000_000;
 const CALLS_A_FAULT: u64 = 1_000;
-/// How many calls lie between two queues of a thread's own.
+/// After how many calls on the shared queue a thread makes the next queue of its own.
 const BETWEEN_OWN: u64 = 64;
 const MSGSIZE: usize = 32;
 const QUEUE: OpenOptions = OpenOptions::read_write().create().limits(10, MSGSIZE);
@@ -21,7 +21,7 @@ fn number_at(words: &str, place: usize) -> u64 {
     words.split_whitespace().nth(place).unwrap().parse().unwrap()
 }
 
-/// What the program takes, in bytes, and how many minor page faults it had.
+/// The resident size of the program in bytes, and how many minor page faults it had.
 #[derive(Debug)]
 struct Taken {
     resident: u64,
@@ -30,12 +30,12 @@ struct Taken {
 
 impl Taken {
     fn now() -> Taken {
-        // It is counted page by page; `status` has a sum of what processors have counted, which may
-        // be late by megabytes.
+        // This file counts page by page. `status` adds up counts of each processor, which can lag
+        // by megabytes.
         let sizes = read_to_string("/proc/self/smaps_rollup").unwrap();
         let resident = sizes.lines().find_map(|line| line.strip_prefix("Rss:")).unwrap();
         let stat = read_to_string("/proc/self/stat").unwrap();
-        // The name of the program, in brackets, may have spaces.
+        // The name of the program, in brackets, can contain spaces.
         let behind_name = stat.rsplit(')').next().unwrap();
         Taken { resident: number_at(resident, 0) * 1_024, faults: number_at(behind_name, 7) }
     }
@@ -46,7 +46,7 @@ impl Taken {
     }
 }
 
-/// Opens a queue, takes a notice of it, and loses a message with it.
+/// Opens a queue, takes a notice from it, and destroys it with a message in it.
 fn use_own_queue(process: &Process) -> Result<(), Error> {
     let name = format!("/own-{}", process.number());
     let own = process.open(&name, QUEUE.exclusive())?;
@@ -83,7 +83,7 @@ fn take_part(process: &Process, barrier: &Barrier, later_calls: u64) {
     barrier.wait();
 }
 
-/// What the program takes after the first calls of the shared queue, and after as many more.
+/// What the program takes after the first calls on the shared queue, and after the later ones.
 fn taken(processes: Vec<Process>, later_calls: u64) -> (Taken, Taken) {
     let barrier = Barrier::new(THREADS + 1);
     thread::scope(|scope| {
@@ -112,7 +112,7 @@ fn stays_flat(calls: u64) {
     assert!(before.is_flat_until(&after, later_calls), "{before:?}, {after:?}");
 }
 
-/// The two are one test, since the memory is that of the whole program.
+/// These are one test, because the memory is that of the whole program.
 #[test]
 fn memory_is_flat_without_a_journal_and_grows_with_one() {
     stays_flat(1_000_000);

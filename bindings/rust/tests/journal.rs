@@ -1,4 +1,4 @@
-//! The journal as text: its lines, and that it is legal by `mqlog check`, if that is built.
+//! The journal as text: its lines, and that `mqlog check` accepts it, if that program is built.
 
 use std::io::Write;
 use std::path::Path;
@@ -114,7 +114,7 @@ fn the_journal_of_threads_is_legal() {
         let turned = journal.as_str().replacen("fd 0 created", "fd 1 created", 1);
         assert!(verdict(&mqlog, &turned).starts_with("entry 0: expected "));
     } else {
-        eprintln!("mqlog is not built: the journal was checked by the library alone");
+        eprintln!("mqlog is not built: only the library checked the journal");
     }
 }
 

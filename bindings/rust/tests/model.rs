@@ -1,4 +1,4 @@
-//! Closures under every order of their steps. It needs yak-explore, and its engine.
+//! Closures under every order of their steps. This needs yak-explore and its engine.
 
 use std::panic::{catch_unwind, AssertUnwindSafe};
 use std::process::Command;
@@ -24,7 +24,7 @@ fn put(queue: &Queue<Process>, byte: u8) {
     queue.send(&[byte], 0).unwrap();
 }
 
-/// What a model says that fails.
+/// The message of a model that fails.
 fn failure(run: impl FnOnce()) -> String {
     let panicked = catch_unwind(AssertUnwindSafe(run)).expect_err("some schedule fails");
     panicked.downcast_ref::<String>().expect("a report").clone()
@@ -46,7 +46,7 @@ fn who_holds_a_message_may_change_it() {
     model(|| takes_turns_and_counts(3));
 }
 
-/// Two threads that receive from two queues in two orders.
+/// Two threads receive from two queues, in the same order or in opposite orders.
 fn takes_two(is_right: bool) {
     let [one, two] = processes();
     let (left, right) = (one.open("/left", OPTIONS).unwrap(), one.open("/right", OPTIONS).unwrap());
@@ -76,7 +76,7 @@ fn two_queues_in_two_orders() {
     model(|| takes_two(false));
 }
 
-/// The reply to the first question may come when its deadline has passed.
+/// The reply to the first question can arrive after its deadline.
 fn asks_twice(looks: bool) {
     let [one, two, three, four] = processes();
     let (asks, replies) = (open(one, "/asks"), open(two, "/replies"));
@@ -114,7 +114,7 @@ fn a_late_reply_is_taken_for_another() {
     model(|| asks_twice(false));
 }
 
-/// Two mutexes, of which two threads lock the one first.
+/// Two threads lock two mutexes, in the same order or in opposite orders.
 fn locks_two(is_right: bool) {
     let locks = Arc::new([Mutex::new(1), Mutex::new(2)]);
     let there = Arc::clone(&locks);
@@ -141,7 +141,7 @@ fn two_mutexes_in_two_orders() {
     model(|| locks_two(false));
 }
 
-/// A thread waits for a flag, which another sets: a wake that comes before the wait is lost.
+/// A thread waits for a flag that another sets: a wake-up before the wait is lost.
 fn waits_for_a_flag(looks: bool) {
     let shared = Arc::new((Mutex::new(false), Condvar::new()));
     let there = Arc::clone(&shared);
@@ -171,7 +171,7 @@ fn a_wake_before_the_wait_is_lost() {
     model(|| waits_for_a_flag(false));
 }
 
-/// Whether a wait with a deadline ended by it, if it was needed at all.
+/// Whether a wait with a deadline was needed and timed out.
 fn waits_until_a_deadline() -> bool {
     let shared = Arc::new((Mutex::new(0), Condvar::new()));
     let there = Arc::clone(&shared);
@@ -198,7 +198,7 @@ fn a_wait_for_a_condition_may_end_by_a_wake() {
     model(|| assert!(waits_until_a_deadline(), "it was woken"));
 }
 
-/// Whether a mutex was locked when it was tried.
+/// Whether `try_lock` found the mutex locked.
 fn tries() -> bool {
     let lock = Arc::new(Mutex::new(()));
     let there = Arc::clone(&lock);
@@ -220,7 +220,7 @@ fn a_try_may_meet_a_free_mutex() {
     model(|| assert!(tries(), "it was free"));
 }
 
-/// The registration may come when the message is there already.
+/// The registration can come after the message.
 fn awaits_a_notice(looks: bool) {
     let [one, two] = processes();
     let (here, there) = (open(one, "/q"), open(two, "/q"));
@@ -244,7 +244,7 @@ fn a_late_registration_does_not_look() {
     model(|| awaits_a_notice(false));
 }
 
-/// What another process finds by a name that is taken off a queue and given to a new one.
+/// What another process finds under a name that one queue loses and a new one gets.
 fn finds_by_a_name(wanted: [Result<usize, Error>; 2]) {
     let [one, two] = processes();
     drop(one.open("/q", OPTIONS).unwrap());

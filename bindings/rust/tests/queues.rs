@@ -1,4 +1,4 @@
-//! To which process and system a queue belongs, and in which order they end.
+//! Which process and system a queue belongs to, and in which order they end.
 
 use std::mem::forget;
 use std::rc::Rc;
@@ -7,12 +7,12 @@ use yakyrombe::{Error, OpenOptions, Process, Queue, System};
 
 const NEW: OpenOptions = OpenOptions::read_write().create().limits(2, 4);
 
-/// A process and another of its system, which sees what is closed.
+/// A process, and another of its system that observes what is closed.
 fn two() -> [Process; 2] {
     System::builder().journal(true).build_array().unwrap().1
 }
 
-/// The lines of the closes of process 1.
+/// The journal lines of the closes by process 1.
 fn closes(observer: &Process) -> Vec<String> {
     let journal = observer.journal().unwrap();
     journal

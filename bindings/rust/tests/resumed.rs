@@ -1,5 +1,5 @@
-//! Systems that go on from a journal: queues, waits and notices are as they were, in each of several
-//! systems; a journal that is refused names its line; a short journal has the same results.
+//! Systems that continue from a journal: queues, waits and notices are as they were, in each of
+//! several systems; the error for a bad journal has its line; a short journal has the same results.
 
 use std::task::Poll;
 use std::thread;
@@ -11,8 +11,8 @@ use yakyrombe::{
 const OPTIONS: OpenOptions = OpenOptions::read_write().create().limits(2, 8);
 const SECOND: Duration = Duration::from_secs(1);
 
-/// The journal of three processes: a queue that has lost its name has a message, the first process
-/// has a gap before a descriptor and a notice, the second a wait without a deadline, the third one
+/// The journal of three processes. An unlinked queue has a message. The first process has a gap
+/// before a descriptor, and a notice. The second has a wait without a deadline, the third a wait
 /// until second 5.
 fn saved() -> Journal {
     let clock = VirtualClock::new();
@@ -40,7 +40,7 @@ fn of(journal: &Journal, clock: &VirtualClock) -> [Process; 3] {
     processes.try_into().unwrap()
 }
 
-/// All is there, and the waits go on.
+/// Everything is there, and the waits continue.
 fn goes_on(journal: &Journal) {
     let clock = VirtualClock::new();
     let [one, two, three] = of(journal, &clock);
@@ -54,7 +54,7 @@ fn goes_on(journal: &Journal) {
     assert_eq!(one.resumed(1).unwrap_err(), Error::BadDescriptor);
     assert_eq!(one.resumed(99).unwrap_err(), Error::BadDescriptor);
 
-    // It is closed as soon as the wait has ended.
+    // The queue is closed as soon as the wait has ended.
     drop(two.resumed(0).unwrap());
     let here = Queue::resumed(two, 1).unwrap();
     assert!(here.process().is_waiting() && !here.is_answered());
@@ -138,8 +138,8 @@ fn what_is_refused_names_its_line() {
     assert_eq!(Error::from(few), Error::Invalid);
 }
 
-/// A wait that has no deadline in the journal, as C and `mqlog` write it, can't be cancelled; its
-/// process is dropped with it.
+/// A wait without a deadline in the journal, as C and `mqlog` write it, can't be cancelled. Its
+/// process can be dropped with it.
 #[test]
 fn a_wait_without_a_deadline_stays() {
     let text = "0 1 open bc limits 2 8 \"/q\" -> fd 0 created\n1 1 recv 0 8 -> waits\n";

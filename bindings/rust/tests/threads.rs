@@ -20,7 +20,7 @@ fn send_all(process: Process, rounds: u32) -> (Process, u64) {
     (queue.close().unwrap(), sum)
 }
 
-// Of one sender and one priority, a receiver is given the messages in their order.
+// A receiver gets the messages of one sender and one priority in the order of their sends.
 fn receive_all(process: Process, rounds: u32) -> (Process, u64) {
     let queue = Queue::open(process, "/all", OPTIONS).unwrap();
     let mut next = [0; 33];
@@ -37,7 +37,7 @@ fn receive_all(process: Process, rounds: u32) -> (Process, u64) {
     (queue.close().unwrap(), sum)
 }
 
-// Half of the processes send and half receive; at the end each message was received once.
+// Half of the processes send and half receive. In the end each message was received once.
 fn pass_messages(processes: Vec<Process>, rounds: u32) -> Process {
     let count = processes.len();
     let members: Vec<_> = processes

@@ -22,7 +22,7 @@ fn by_clock(clock: impl Clock + 'static) -> (System, Queue<Process>) {
     (system, Queue::open(process, "/q", QUEUE).unwrap())
 }
 
-/// The last line of the journal, from the call on.
+/// The last line of the journal, starting at the call.
 fn last_call(queue: &Queue<Process>) -> String {
     let journal = queue.process().journal().unwrap();
     journal.lines().last().unwrap().splitn(3, ' ').last().unwrap().to_string()
@@ -159,7 +159,7 @@ fn a_clock_of_the_program_is_moved_by_another_thread() {
         clock.0.fetch_add(1, SeqCst);
     }
     assert!(!waiter.is_finished());
-    // On a busy machine the wait may have begun late.
+    // On a busy machine the wait may begin late.
     while !waiter.is_finished() {
         clock.0.fetch_add(10, SeqCst);
         thread::sleep(MILLI);
@@ -191,7 +191,7 @@ thread_local! {
     static MEDDLED: RefCell<Option<Rc<Queue<Process>>>> = const { RefCell::new(None) };
 }
 
-/// Makes calls by the process that waits.
+/// Makes calls with the process that waits.
 struct Meddler(VirtualClock);
 
 impl Clock for Meddler {
@@ -221,7 +221,7 @@ fn a_clock_does_not_end_the_wait_that_asks_it() {
     assert_eq!(queue.receive_vec().as_deref(), Ok(b"full".as_slice()));
 }
 
-/// Panics when it is asked the second time, and thereafter if it is told to.
+/// Panics at the second read, unless the flag is set.
 #[derive(Default)]
 struct Fragile(AtomicU64, AtomicBool);
 
@@ -236,7 +236,7 @@ impl Clock for Fragile {
 fn a_clock_that_panics_leaves_no_open_wait() {
     let clock = Arc::new(Fragile::default());
     let (_, queue) = by_clock(Arc::clone(&clock));
-    // The limit takes the first look, the start the second.
+    // The first read computes the limit, the second starts the receive.
     assert!(catch_unwind(AssertUnwindSafe(|| queue.receive_until(&mut [0; 8], HOUR))).is_err());
     assert!(!queue.process().is_waiting());
     clock.0.store(0, SeqCst);
@@ -248,7 +248,7 @@ fn a_clock_that_panics_leaves_no_open_wait() {
     assert!(queue.process().is_waiting(), "it is still there to be collected");
     assert_eq!(queue.collect_receive(&mut [0; 8]), Poll::Pending);
     assert!(queue.cancel());
-    // The third look is that of the wait itself.
+    // The third read is that of the wait itself.
     clock.0.store(u64::MAX, SeqCst);
     assert!(catch_unwind(AssertUnwindSafe(|| queue.receive_until(&mut [0; 8], HOUR))).is_err());
     assert!(!queue.process().is_waiting());

@@ -1,4 +1,4 @@
-//! What the values of the crate can be used for beside calls.
+//! What the values of the crate can be used for besides calls.
 
 use std::collections::HashSet;
 use std::fmt::Debug;

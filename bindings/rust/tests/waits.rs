@@ -1,5 +1,5 @@
-//! Waits in two parts: how they end, which calls fail meanwhile, and what becomes of those that no
-//! call collects.
+//! Waits in two parts: how they end, which calls fail meanwhile, and what happens to waits that are
+//! never collected.
 
 use std::mem::forget;
 use std::task::Poll;
@@ -11,7 +11,7 @@ use yakyrombe::{OpenOptions, Process, Queue, Received, System};
 const ONE: OpenOptions = OpenOptions::read_write().create().limits(1, 8);
 const SOON: Duration = Duration::from_millis(20);
 
-/// Two queues of one name, of two processes.
+/// One queue, open in two processes.
 fn two() -> [Queue<Process>; 2] {
     let (_, processes): (_, [Process; 2]) = System::builder().journal(true).build_array().unwrap();
     processes.map(|process| Queue::open(process, "/q", ONE).unwrap())
@@ -106,7 +106,7 @@ fn every_other_call_fails_while_a_wait_is_open() {
     );
     assert_eq!(here.collect_send(), Poll::Ready(Err(NotWaiting)), "that of a receive");
     assert!(!other.cancel() && !other.is_answered() && !other.wait(SOON));
-    // What reads the journal is no call on queues.
+    // Calls that read the journal are not calls on queues.
     assert_eq!(process.check(), Ok(()));
     assert!(process.journal().is_ok() && process.entry(0).is_ok());
     assert!(!process.nobody_can_call());
@@ -171,7 +171,7 @@ fn a_wait_ends_also_if_the_journal_is_full() {
         }
         assert_eq!(there.attr(), Err(JournalFull));
         assert_eq!(here.cancel(), !is_answered);
-        // A message that was kept needs no call.
+        // A message that was kept needs no call of the library.
         let received = here.receive(&mut [0; 8]).map(|received| received.len);
         assert_eq!(received, if is_answered { Ok(4) } else { Err(JournalFull) });
         assert_eq!(second.check(), Ok(()));

@@ -1,13 +1,12 @@
-//! The machine that `yak-explore` puts in front of the libraries of a program, as `c/machine.h`
-//! declares it, and what threads wait by that the machine sees.
+//! The machine that `yak-explore` preloads into a program, as `c/machine.h` declares it, and the
+//! primitives that threads wait on and the machine sees.
 //!
-//! - The functions of the machine are looked for by their names, and are there or not for as long
-//!   as the program runs. They have the types that stand here.
-//! - A queue, a lock or a condition stays where it is while a call on it is made, since the call
-//!   borrows it. While the machine decides, one thread runs at a time, and nobody but the machine
-//!   touches a queue.
-//! - A lock or a condition of zeros is one that nobody has used: so the initializers of glibc and
-//!   musl are. Both are at most 48 bytes long.
+//! - The functions of the machine are looked up by name. Whether they exist does not change while
+//!   the program runs. They have the types declared here.
+//! - A queue, a lock or a condition does not move during a call on it, because the call borrows it.
+//!   While the machine decides, one thread runs at a time, and only the machine touches a queue.
+//! - A lock or a condition of zeros is initialized and unused, as with the initializers of glibc
+//!   and musl. Both are at most 48 bytes long.
 
 use super::Moment;
 use std::cell::UnsafeCell;
@@ -16,7 +15,7 @@ use std::mem::{size_of, transmute_copy};
 use std::ptr::{null, null_mut};
 use std::sync::OnceLock;
 
-/// Of a send or a receive: it does not wait, or it fails whatever the queue holds.
+/// The flag of a send or a receive that does not wait, or that fails whatever the queue holds.
 pub const TRY: u32 = 2;
 pub const NEVER_BLOCKS: u32 = 4;
 
@@ -63,26 +62,26 @@ extern "C" {
     fn pthread_cond_broadcast(cond: *mut c_void) -> c_int;
 }
 
-/// The string of C, which ends with a zero.
+/// The pointer to a C string, which ends with a zero.
 fn c_string(text: &'static [u8]) -> *const c_char {
     debug_assert_eq!(text.last(), Some(&0));
     text.as_ptr().cast()
 }
 
-/// The function of a name that ends with a zero, if any library of the program has it.
+/// The function with this name, which ends with a zero, if any library of the program has it.
 ///
 /// # Safety
-/// F is the type of a pointer to that function.
+/// F must be the type of a pointer to that function.
 unsafe fn find<F: Copy>(name: &'static [u8]) -> Option<F> {
     assert_eq!(size_of::<F>(), size_of::<*mut c_void>());
-    // SAFETY: null stands for all libraries, and the name is a string of C.
+    // SAFETY: null stands for all libraries, and the name is a C string.
     let found = unsafe { dlsym(null_mut(), c_string(name)) };
-    // SAFETY: a pointer to a function is as long, and is not null.
+    // SAFETY: a pointer to a function has the same size, and is not null.
     (!found.is_null()).then(|| unsafe { transmute_copy(&found) })
 }
 
 fn find_machine() -> Option<Machine> {
-    // SAFETY: each is the function of that name in `c/machine.h`, whose type is that of the field.
+    // SAFETY: each is the function with that name in `c/machine.h`, and the field has its type.
     unsafe {
         Some(Machine {
             begin: find(b"yak_explored_begin\0")?,
@@ -102,53 +101,53 @@ fn machine() -> Option<&'static Machine> {
     FOUND.get_or_init(find_machine).as_ref()
 }
 
-/// Whether the program runs with the machine.
+/// Whether the machine is loaded into the program.
 pub fn is_there() -> bool {
     machine().is_some()
 }
 
-/// Lets the machine begin with this thread, and returns in each run. False if there is none that
-/// waited for this.
+/// Starts the machine with this thread, and returns once in each run. False if no machine was
+/// waiting for this.
 pub fn begin() -> bool {
     // SAFETY: it takes nothing.
     machine().is_some_and(|it| unsafe { (it.begin)() })
 }
 
-/// The machine, if it decides when this thread goes on.
+/// The machine, if it decides when this thread continues.
 fn deciding() -> Option<&'static Machine> {
     // SAFETY: it takes nothing.
     machine().filter(|it| unsafe { (it.decides)() })
 }
 
-/// Whether the machine decides when this thread goes on.
+/// Whether the machine decides when this thread continues.
 pub fn decides() -> bool {
     deciding().is_some()
 }
 
-/// Waits until a call on a queue, or on a name, may be made. The word is one of `c/explore.h`, and
-/// ends with a zero.
+/// Waits until a call on a queue or a name may be made. The word is one of `c/explore.h`, and ends
+/// with a zero.
 pub fn call(word: &'static [u8], queue: Option<&Queue>) {
     let at = queue.map_or(null(), |it| it.0.get().cast_const());
     if let Some(it) = deciding() {
-        // SAFETY: the word is a string of C, and the queue is borrowed or null.
+        // SAFETY: the word is a C string, and the queue is borrowed or null.
         unsafe { (it.call)(c_string(word), at) }
     }
 }
 
-/// What the program was told: the number of an error or 0, and a value that others can see.
+/// Reports what the call returned: the number of an error or 0, and a value that others can see.
 pub fn gave(error: i32, value: u32) {
     if let Some(it) = deciding() {
-        // SAFETY: any numbers will do.
+        // SAFETY: all numbers are allowed.
         unsafe { (it.gave)(error, value) }
     }
 }
 
 impl Queue {
-    /// A queue that was just created.
+    /// Reports a new queue.
     pub fn new(name: &[u8], room: i64) -> Queue {
         let made = Queue::default();
         if let Some(it) = deciding() {
-            // SAFETY: the name has so many bytes, and the queue is borrowed.
+            // SAFETY: the name has `name.len()` bytes, and the queue is borrowed.
             unsafe { (it.queue)(made.0.get(), name.as_ptr(), name.len(), room) }
         }
         made
@@ -163,29 +162,29 @@ impl Queue {
         }
     }
 
-    /// The step that runs did something to this queue too.
+    /// Reports that the current step also affected this queue.
     pub fn also(&self, word: &'static [u8]) {
         if let Some(it) = deciding() {
-            // SAFETY: the word is a string of C, and the queue is borrowed.
+            // SAFETY: the word is a C string, and the queue is borrowed.
             unsafe { (it.also)(c_string(word), self.0.get()) }
         }
     }
 
-    /// What a send or a receive came to: the number of an error, or 0 and the message.
+    /// Reports the result of a send or a receive: the number of an error, or 0 and the message.
     pub fn moved(&self, is_send: bool, error: i32, bytes: &[u8]) {
         if let Some(it) = deciding() {
-            // SAFETY: the queue is borrowed, and there are so many bytes.
+            // SAFETY: the queue is borrowed, and there are `bytes.len()` bytes.
             unsafe { (it.moved)(is_send, self.0.get(), error, bytes.as_ptr(), bytes.len()) }
         }
     }
 }
 
-/// A lock of the system, `pthread_mutex_t`.
+/// A mutex of the C library, `pthread_mutex_t`.
 #[derive(Debug)]
 #[repr(C, align(16))]
 pub struct Lock(UnsafeCell<[u64; 8]>);
 
-// SAFETY: threads share a lock.
+// SAFETY: threads may share a lock.
 unsafe impl Send for Lock {}
 // SAFETY: the same.
 unsafe impl Sync for Lock {}
@@ -209,20 +208,20 @@ impl Lock {
         unsafe { pthread_mutex_trylock(self.at()) == 0 }
     }
 
-    /// This thread holds it.
+    /// Unlocks it; this thread must hold it.
     pub fn unlock(&self) {
-        // SAFETY: the lock is borrowed. If another thread held it, it would be free too early, and
-        // what it stands in front of has a lock of its own.
+        // SAFETY: the lock is borrowed. If another thread held it, it would be free too early, but
+        // what it guards also has a lock of its own.
         unsafe { pthread_mutex_unlock(self.at()) };
     }
 }
 
-/// A condition of the system, `pthread_cond_t`.
+/// A condition variable of the C library, `pthread_cond_t`.
 #[derive(Debug)]
 #[repr(C, align(16))]
 pub struct Condition(UnsafeCell<[u64; 8]>);
 
-// SAFETY: threads share a condition.
+// SAFETY: threads may share a condition.
 unsafe impl Send for Condition {}
 // SAFETY: the same.
 unsafe impl Sync for Condition {}
@@ -236,7 +235,7 @@ impl Condition {
         self.0.get().cast()
     }
 
-    /// This thread holds the lock. Whether it was woken before the deadline.
+    /// Waits; this thread must hold the lock. Returns whether it was woken before the deadline.
     pub fn wait(&self, lock: &Lock, until: Option<Moment>) -> bool {
         match until {
             // SAFETY: the condition and the lock are borrowed.
