@@ -1,8 +1,8 @@
-/* quick.h: the first try of yak_send and yak_receive, for yakyrombe.h, which declares the two.
+/* quick.h: the first attempt of yak_send and yak_receive, for yakyrombe.h, which declares the two.
  *
- * Inline it spares a call of a function: a send or a receive that meets nobody, and that nobody
- * waits for, goes on at once. What is left of any other, and all that waits, is in libyakyrombe.a,
- * which has both functions whole too. */
+ * It is inline to save a function call: a send or a receive that finds the lock free, and that no
+ * process waits for, returns at once. The rest of other calls, and all waiting, is in
+ * libyakyrombe.a, which also has both functions in full. */
 #ifndef YAKYROMBE_QUICK_H
 #define YAKYROMBE_QUICK_H
 
@@ -12,24 +12,24 @@
 extern "C" {
 #endif
 
-/* One try of the call, which does not wait: YAK_RETRY if its process did not come inside the lock,
- * and then the rest of the call has to follow. */
+/* One attempt of the call, which does not wait: YAK_RETRY if its process did not acquire the lock;
+ * then the rest of the call has to follow. */
 uint32_t yak_proved_start_send(yak_process *process, uint32_t d, const uint8_t *bytes, size_t len,
                                uint32_t prio);
 uint32_t yak_proved_start_receive(yak_process *process, uint32_t d, uint8_t *buf, size_t len,
                                   yak_message *message);
 
-/* The rest of the call, after a first try with this answer. */
+/* The rest of the call, after a first attempt that returned this answer. */
 uint32_t yak_send_on_(yak_process *process, uint32_t d, const uint8_t *bytes, size_t len,
                       uint32_t prio, uint32_t answer);
 uint32_t yak_receive_on_(yak_process *process, uint32_t d, uint8_t *buf, size_t len,
                          yak_message *message, uint32_t answer);
 
-/* Inline in each file that calls it, and a function of its own in none. */
+/* Inlined in each file that calls it, without an out-of-line copy. */
 #define YAK_INLINE_ extern inline __attribute__((gnu_inline, always_inline))
 
-/* Whether a call came inside and is done, and nobody may sleep until what it changed. A futex word
- * is 0 or 1. */
+/* Whether a call acquired the lock and is done, and no thread can be asleep until the change that
+ * it made. A futex word is 0 or 1. */
 YAK_INLINE_ bool yak_is_through_(const yak_process *process, uint32_t answer)
 {
     const uint64_t *futex_words = process->futex_words;
@@ -58,8 +58,7 @@ YAK_INLINE_ uint32_t yak_quick_receive_(yak_process *process, uint32_t d, uint8_
                : yak_receive_on_(process, d, buf, len, message, answer);
 }
 
-/* The library has functions of these names too, which the compiler takes if it does not inline.
- */
+/* The library has functions with these names too, which the compiler uses if it does not inline. */
 #ifndef YAK_DEFINES_CALLS_
 extern inline __attribute__((gnu_inline)) uint32_t
 yak_send(yak_process *process, uint32_t d, const uint8_t *bytes, size_t len, uint32_t prio)
