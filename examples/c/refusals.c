@@ -1,4 +1,4 @@
-/* Each call of <mqueue.h> with each of its errors, and the numbers from calls on handles that have no errno. */
+/* Each call of <mqueue.h> with each of its errors, and the return codes of calls on handles that have no errno value of their own. */
 #include <mqueue.h>
 
 #include <stdio.h>
@@ -280,7 +280,7 @@ static void bounds(void)
     FAILS(EPERM, mq_close(0));
 }
 
-/* Numbers of handles that no system has, whatever the handles are; and handles of two systems, which are not ended as one. */
+/* Handle counts that no system can have; and handles of two systems, which can't be ended as one. */
 static void systems(void)
 {
     yak_process three[3] = {YAK_PROCESS_EMPTY, YAK_PROCESS_EMPTY, YAK_PROCESS_EMPTY};

@@ -1,5 +1,5 @@
-/* Many threads on one queue, by the calls of <mqueue.h>: usage: threads PROCESSES ROUNDS, an even number of processes from 2 to 32, half of
- * which send and half receive, ROUNDS messages each. Then a receive whose wait another thread answers, and an unlink while others hold. */
+/* Many threads on one queue, by the calls of <mqueue.h>: usage: threads PROCESSES ROUNDS, an even number of processes from 2 to 32. Half of them
+ * send and half receive, ROUNDS messages each. Then a receive whose wait another thread answers, and an unlink while others have it open. */
 #include <mqueue.h>
 
 #include <pthread.h>
@@ -18,7 +18,7 @@ typedef struct share {
     uint32_t next[MOST];
 } share;
 
-/* The message that stands: who sent it, and its number among the messages of that sender. */
+/* A message: its sender, and its number among the messages of that sender. */
 typedef struct sent {
     uint32_t sender;
     uint32_t number;
@@ -51,7 +51,7 @@ static void *receive_all(void *of)
         sent message = {0, 0};
         unsigned prio = 0;
         mine->is_well = mq_receive(queue, (char *)&message, sizeof message, &prio) == (ssize_t)sizeof message && prio == 3;
-        /* Of one sender and one priority, a receiver is given the messages in their order. */
+        /* A receiver gets the messages of one sender and one priority in the order of their sends. */
         mine->is_well = mine->is_well && message.sender < MOST && message.number >= mine->next[message.sender];
         if (mine->is_well)
             mine->next[message.sender] = message.number + 1;
@@ -75,7 +75,7 @@ static bool in_threads(unsigned count, void *(*even)(void *), void *(*odd)(void 
     return are_well;
 }
 
-/* A receive that waits until another thread sends, some time later; and it is sent to a queue without a name. */
+/* A receive that waits until another thread sends, some time later, to a queue that has lost its name. */
 static atomic_int opened;
 
 static void *wait_for_it(void *of)

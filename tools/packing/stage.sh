@@ -1,5 +1,5 @@
 # shellcheck shell=bash
-# What tools/dist and tools/deb have in common. It is sourced, at the top of the repository.
+# What tools/dist and tools/deb share. They source it at the top of the repository.
 export LC_ALL=C
 umask 022
 # shellcheck disable=SC2034
@@ -12,14 +12,14 @@ stop() {
   exit 1
 }
 
-# The logic by which a file was proved, which the kit has written into it.
+# The logic by which a file was proved. The kit writes it into the file.
 logic_of() {
   { grep -ao 'rattle logic=[0-9a-f]\{64\}' "$1" || true; } | sed -n '1s/.*=//p'
 }
 
-# Installs what is built to $room/tree, for a prefix and a folder of libraries. The C parts are
-# compiled for it; their debugging information names no folder of this machine. Each proved file
-# must say that it was proved by the logic that README.md names.
+# Installs what is built into $room/tree, for a prefix and a folder of libraries. It compiles the C
+# parts without folders of this machine in their debugging information. Each proved file must have
+# been proved by the logic that README.md names.
 install_to_room() {
   local prefix=$1 libraries=$2 file
   [ "$(uname -sm)" = "Linux x86_64" ] || stop "this is not Linux on x86-64"

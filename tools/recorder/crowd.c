@@ -1,8 +1,8 @@
-/* Threads that call the system's message queues at random, so that their history can be recorded
-   and judged (checks/histories). usage: crowd SEED THREADS CALLS [forked|shared] Each thread opens
-   the one queue twice, once without waiting, and makes that many calls. The same seed makes the
-   same calls, in whatever order their threads come to them. With `forked` each is a forked child;
-   with `shared` all use the descriptors that the main thread has opened. */
+/* Threads that make random calls on the system's message queues, so that their history can be
+   recorded and checked (checks/histories). usage: crowd SEED THREADS CALLS [forked|shared] Each
+   thread opens the one queue twice, once nonblocking, and makes CALLS calls. The same seed makes
+   the same calls, whatever the interleaving. With `forked` each thread is a forked child; with
+   `shared` all use the descriptors that the main thread has opened. */
 #define _GNU_SOURCE
 #include <errno.h>
 #include <fcntl.h>
@@ -26,7 +26,7 @@ static bool is_shared;
 static mqd_t waiting, hurrying; /* the shared descriptors */
 static pthread_barrier_t *start;
 
-/* The next number of a thread, by xorshift. */
+/* The next pseudo-random number of a thread, by xorshift. */
 static uint64_t next(uint64_t *state)
 {
     *state ^= *state << 13;
@@ -45,7 +45,7 @@ static struct timespec soon(uint64_t micros)
     return t;
 }
 
-/* One call. Half of the seeds have messages that all differ, the others four. */
+/* Makes one call. With half of the seeds all messages differ, with the others there are four. */
 static void call(mqd_t waits, mqd_t hurries, uint64_t *state, unsigned long thread,
                  unsigned long place)
 {
@@ -104,7 +104,7 @@ static void *work(void *number)
     return NULL;
 }
 
-/* Starts the threads, or children, and waits for their end. */
+/* Starts the threads or children, and waits for them to end. */
 static int run(bool forked)
 {
     pthread_t workers[MOST_THREADS];

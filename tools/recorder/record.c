@@ -1,15 +1,15 @@
 /* Writes the calls of a program to the system's message queues, each with the moments at which it
    began and ended, as a concurrent history (docs/formats.md). It is preloaded: LD_PRELOAD. Each
-   thread that calls, of each process that the program forks, is a process of the history, numbered
-   in the order of their first calls. The lines of a thread go to a file of its own in RECORD_ROOM,
-   which is named by the system's numbers of the parent, the process and the thread. tools/record
-   makes one history of them: a line with a dash for its end is written when the call begins, and
-   the whole line when it returns.
+   thread that makes calls, in the program and its forked children, is a process of the history,
+   numbered in the order of their first calls. The lines of a thread go to its own file in
+   RECORD_ROOM, named by the parent's process id, the process id and the thread id. tools/record
+   combines them into one history. When a call begins, its line is written with a dash for its end;
+   when it returns, the complete line is written.
 
-   The program may pass pointers and lengths that the system refuses. So the recorder passes them on
-   as they are. It reads what they point to through the kernel before the call, and directly only
-   what a call that succeeded has used. The line of a send that was refused lacks its message if
-   that can't be read. */
+   The program may pass pointers and lengths that the system rejects. So the recorder passes them on
+   unchanged. Before the call it reads what they point to through the kernel. It reads directly only
+   what a successful call has used. The line of a failed send lacks its message if that can't be
+   read. */
 #define _GNU_SOURCE
 #include <dlfcn.h>
 #include <errno.h>
@@ -31,8 +31,8 @@
 static __thread int room = -1;
 static __thread pid_t owner;
 
-/* The file of this thread. A forked child has the number of its parent's file still, so the
- * thread's own number is compared. */
+/* The file of this thread. A forked child still has the descriptor of its parent's file, so this
+ * compares thread ids. */
 static int file_of_thread(void)
 {
     pid_t me = (pid_t)syscall(SYS_gettid);
@@ -53,7 +53,7 @@ static uint64_t moment(void)
     return (uint64_t)t.tv_sec * 1000000000u + (uint64_t)t.tv_nsec;
 }
 
-/* A line that is put together, of a call with its name or message and of what it returned. */
+/* A line under construction: a call with its name or message, and what it returned. */
 struct line {
     char *text;
     size_t len, room;
@@ -98,8 +98,8 @@ static void quote(struct line *line, const char *bytes, size_t len)
     add(line, "\"", 1);
 }
 
-/* A pointer of the program. The system's header says that some are not null, which the compiler
- * would believe. */
+/* A pointer of the program. It hides the nonnull attributes of the system's header, which the
+ * compiler would rely on. */
 static inline const void *given(const void *pointer)
 {
     __asm__("" : "+r"(pointer));
@@ -128,7 +128,7 @@ static void quote_name(struct line *line, const char *name)
     }
 }
 
-/* Adds the message of a send that is under way. Longer ones are refused before they are read. */
+/* Adds the message of a send in progress. Longer ones fail before they are read. */
 static void quote_message(struct line *line, const char *message, size_t len)
 {
     enum { LONGEST = 16 << 20 };
@@ -138,7 +138,7 @@ static void quote_message(struct line *line, const char *message, size_t len)
     free(copy);
 }
 
-/* The name of an error of the profile, or one that no history has. */
+/* The name of an error that a history can have, or a text that no history has. */
 static const char *name_of(int error)
 {
     switch (error) {
@@ -169,7 +169,7 @@ static const char *name_of(int error)
     }
 }
 
-/* The calls of a thread come one after the other, so one call is under way at a time. */
+/* Starts the line of a call. A thread makes one call at a time. */
 static uint64_t begin(struct line *call)
 {
     uint64_t began = moment();
@@ -272,8 +272,8 @@ int mq_unlink(const char *name)
     return done(began, &call, REAL(mq_unlink)(name));
 }
 
-/* Adds the deadline of a timed call; without one, which Linux takes, the call is one that is not
- * timed. */
+/* Adds the deadline of a timed call. Linux allows a null deadline; then the call is recorded as one
+ * that is not timed. */
 static void until(struct line *call, const struct timespec *end)
 {
     struct timespec now, t = {0};
@@ -285,7 +285,7 @@ static void until(struct line *call, const struct timespec *end)
         now.tv_nsec);
 }
 
-/* The words of a send, to which its message comes. */
+/* The words of a send, to which its message is added. */
 static struct line send_of(mqd_t d, size_t len, unsigned prio, const struct timespec *t)
 {
     struct line call = {0};
@@ -386,7 +386,7 @@ int mq_getattr(mqd_t d, struct mq_attr *attr)
     return shown(began, &call, REAL(mq_getattr)(d, to), to);
 }
 
-/* Without attributes to set, which Linux takes, it is a getattr. */
+/* Linux allows null attributes; then the call is recorded as a getattr. */
 int mq_setattr(mqd_t d, const struct mq_attr *attr, struct mq_attr *old)
 {
     struct line call = {0};
