@@ -1,15 +1,15 @@
-# make                                     says this
+# make                                     prints this
 # make install PREFIX=/usr/local DESTDIR=  installs the programs, the tools yak-run, yak-seeds,
 #                                          yak-explore and yak-record, the libraries and headers for
 #                                          C, the manual, the pages, and the completion for bash
-# make uninstall PREFIX=/usr/local         removes what install has put there
+# make uninstall PREFIX=/usr/local         removes what install has installed
 # make dist                                writes dist/yakyrombe-VERSION-linux-x86_64.tar.gz
 # make deb                                 writes Debian packages into dist
-# make clean                               removes what make has built, but no proved library
+# make clean                               removes what make has built, but not the proved libraries
 #
-# BINDIR, LIBDIR, LIBEXECDIR, INCLUDEDIR, MANDIR, DOCDIR and COMPLETIONSDIR are as usual. What is
-# proved has to be built before: ./test builds all of it. With PROGRAMS= no program is installed, and
-# only checks/c_library has to be run before.
+# BINDIR, LIBDIR, LIBEXECDIR, INCLUDEDIR, MANDIR, DOCDIR and COMPLETIONSDIR are as usual. The proved
+# files have to be built before: ./test builds all of them. With PROGRAMS= no program is installed,
+# and only checks/c_library has to be run before.
 CC ?= cc
 INSTALL ?= install
 CFLAGS ?= -O2 -g
@@ -27,7 +27,7 @@ VERSION := $(shell cat VERSION)
 PROGRAMS = mqrun mqlog mqbench
 TOOLS = run seeds record
 RECORDER = libyakyrombe-record.so
-# What yak-explore asks what to run next, if it is built.
+# The engine that tells yak-explore what to run next, if it is built.
 ENGINE = $(wildcard crates/mqexplore/out/mqexplore)
 ENGINEDIR = $(LIBEXECDIR)/yakyrombe
 MANUAL = $(PROGRAMS:%=%.1) $(TOOLS:%=yak-%.1) yak-explore.1
@@ -36,9 +36,9 @@ COMPLETIONS = $(filter mqlog,$(PROGRAMS)) $(COMPLETED)
 DOCS = $(wildcard docs/*)
 EXAMPLES = $(wildcard examples/c/*.c)
 JOURNALS = $(wildcard examples/journals/*.journal)
-# What mqlog makes of them.
+# The pages that mqlog makes from them.
 PAGES = $(if $(filter mqlog,$(PROGRAMS)),$(JOURNALS:.journal=.html))
-# Where the tools find the libraries, from their own folder.
+# The path from the folder of the tools to that of the libraries.
 NEAR = $(shell realpath -m --relative-to='$(BINDIR)' '$(LIBDIR)')
 ENGINE_NEAR = $(shell realpath -m --relative-to='$(BINDIR)' '$(ENGINEDIR)')
 

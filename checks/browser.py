@@ -1,4 +1,4 @@
-"""A headless chromium, by its DevTools protocol over two pipes."""
+"""A headless chromium, controlled by its DevTools protocol over two pipes."""
 import base64
 import json
 import os
@@ -18,7 +18,7 @@ def browser():
 
 
 class Browser:
-    """A browser with one page, of so many pixels. `with` ends it."""
+    """A browser with one page, of a given size in pixels. `with` ends it."""
 
     def __init__(self, width=1280, height=900, dark=False):
         self.folder = tempfile.TemporaryDirectory(ignore_cleanup_errors=True)
@@ -67,7 +67,7 @@ class Browser:
         return json.loads(message)
 
     def ask(self, method, **params):
-        """What the browser answers to a method of the protocol."""
+        """The browser's response to a method of the protocol."""
         self.count += 1
         message = {"id": self.count, "method": method, "params": params}
         if self.session:
@@ -85,7 +85,7 @@ class Browser:
                 return heard["result"]
 
     def open(self, path):
-        """Opens a file, and returns the seconds until it was loaded and drawn."""
+        """Opens a file, and returns how many seconds it took to load and draw it."""
         begun = time.monotonic()
         self.ask("Page.navigate", url=f"file://{os.path.abspath(path)}")
         self.run("new Promise((done) => { const drawn = () => requestAnimationFrame(() =>"
@@ -94,7 +94,7 @@ class Browser:
         return time.monotonic() - begun
 
     def run(self, script):
-        """The value of an expression in the page, of a promise what it comes to."""
+        """The value of an expression in the page; a promise is awaited."""
         how = {"awaitPromise": True, "returnByValue": True}
         said = self.ask("Runtime.evaluate", expression=script, **how)
         if "exceptionDetails" in said:
@@ -102,13 +102,13 @@ class Browser:
         return said["result"].get("value")
 
     def problems(self):
-        """The exceptions that nobody caught since this was asked last."""
+        """The uncaught exceptions since the last call of this."""
         self.run("0")
         thrown, self.thrown = self.thrown, []
         return [it.get("exception", it).get("description", str(it)) for it in thrown]
 
     def press(self, key, modifiers=0):
-        """Presses a key, as its user would. Shift is 8."""
+        """Presses a key, as a user would. Shift is 8."""
         text = key if len(key) == 1 else ""
         for kind, typed in [("keyDown", text), ("keyUp", "")]:
             self.ask("Input.dispatchKeyEvent", type=kind, key=key, text=typed, modifiers=modifiers)
@@ -118,7 +118,7 @@ class Browser:
             self.ask("Input.dispatchMouseEvent", type=kind, x=x, y=y, button="left", clickCount=1)
 
     def picture(self, path):
-        """Writes a picture (PNG) of what is seen."""
+        """Writes a screenshot (PNG)."""
         data = self.ask("Page.captureScreenshot", format="png")["data"]
         with open(path, "wb") as file:
             file.write(base64.b64decode(data))

@@ -1,4 +1,4 @@
-"""What the checks and experiments share that are written in Python."""
+"""What the checks and experiments in Python share."""
 import os
 import sys
 from importlib.machinery import SourceFileLoader
@@ -10,7 +10,7 @@ MQLOG = f"{TOP}/crates/mqlog/out/mqlog"
 
 
 def tool(path):
-    """Returns a script, by its path in the repository, as a module."""
+    """Loads a script, given by its path in the repository, as a module."""
     sys.dont_write_bytecode = True
     name = os.path.basename(path)
     spec = spec_from_loader(name, SourceFileLoader(name, f"{TOP}/{path}"))

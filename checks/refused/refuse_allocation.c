@@ -1,9 +1,9 @@
-/* Preloaded in front of a program's allocator: refuses allocations, and says of each that it did.
+/* Preloaded before a program's allocator: makes allocations fail, and reports each one.
  *
- * ALLOCATION=N      refuses the Nth allocation, from 1
- * ALLOCATION=marked refuses every allocation after the first mark
- * ALLOCATION=counted refuses none, and at each mark writes to file descriptor F how many bytes were asked for since the mark before
- * ALLOCATION_FD=F   writes a byte to file descriptor F for each allocation that it refuses
+ * ALLOCATION=N      the Nth allocation fails, from 1
+ * ALLOCATION=marked every allocation after the first mark fails
+ * ALLOCATION=counted none fails; each mark writes to file descriptor F how many bytes were requested since the last mark
+ * ALLOCATION_FD=F   writes a byte to file descriptor F for each failed allocation
  *
  * An allocation is a call of malloc, calloc, realloc or of a function for aligned memory. One of 16,777,213 bytes is a mark, which is not
  * counted. No header is needed and nothing is linked, so any C compiler for the C library of the programs builds it. */
@@ -30,7 +30,7 @@ static unsigned long number(const char *text) {
   return value;
 }
 
-/* Counts what was asked for, and says it at a mark. */
+/* Counts the bytes requested, and reports them at a mark. */
 static void count(size bytes) {
   char text[24];
   size first = sizeof text, value;
@@ -46,7 +46,7 @@ static void count(size bytes) {
   write((int)number(getenv("ALLOCATION_FD")), text + first, sizeof text - first);
 }
 
-/* Whether this allocation is to be refused. */
+/* Whether this allocation should fail. */
 static int is_refused(size bytes) {
   const char *wanted = getenv("ALLOCATION");
   if (!wanted)

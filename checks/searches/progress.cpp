@@ -1,12 +1,12 @@
-// Visits every reachable world of Lamport's Algorithm 2 for a few processes, and finds the worst
-// cases of its progress.
+// Visits every reachable state of Lamport's Algorithm 2 for a few processes, and finds the worst
+// cases of its progress. A state is called a world here.
 //
 // usage: progress N     N processes, from 1 to 5; for 5 it takes minutes and 2 GB
 //
-// Prints the reachable worlds; the fewest fair rounds that always bring an entry, if nobody is
-// inside when they begin and if some process is, with another in its entry; and the most steps that
-// change the world while nobody is inside. The points and the steps are those of docs/lock.md.
-// The status is 1 if a world is a dead end or a worst case has no bound.
+// Prints the number of reachable worlds; the fewest fair rounds that always bring an acquisition,
+// if the lock is free when they begin, and if one process holds it and another tries to acquire it;
+// and the most steps that change the world while the lock is free. The points and the steps are
+// those of docs/lock.md. The status is 1 if a world is a dead end or a worst case has no bound.
 #include <algorithm>
 #include <array>
 #include <cstdint>
@@ -38,8 +38,8 @@ enum Point : uint8_t {
     SCAN
 };
 
-// Process i + 1 has the point at i and the bit 1 << i of the flags. x and y hold numbers of
-// processes, or 0.
+// Process i + 1 has the point at index i and the bit 1 << i of the flags. x and y hold process
+// numbers, or 0.
 struct World {
     unsigned x = 0, y = 0, flags = 0;
     std::array<unsigned, MOST> points{};
@@ -150,7 +150,7 @@ private:
         return std::any_of(w.points.begin(), w.points.end(), is_entering);
     }
 
-    // The processes that owe a step in a fair round that begins in w, as bits.
+    // The processes that must take a step in a fair round that begins in w, as bits.
     unsigned owed_in(const World &w) const {
         unsigned owed = 0;
         for (unsigned i = 0; i < n; ++i)
@@ -178,7 +178,7 @@ private:
         rounds_known.assign(worlds.size() << n, UNKNOWN);
     }
 
-    // The most steps from a world that change it, while nobody is inside.
+    // The most steps from a world that change it while the lock is free.
     int most_steps(size_t place) {
         if (steps_known[place] == BEGUN) fail("the steps have no bound");
         if (steps_known[place] >= 0) return steps_known[place];
@@ -193,8 +193,8 @@ private:
         return most;
     }
 
-    // The most fair rounds that can end with no entry, from a world in a round in which these
-    // processes still owe a step.
+    // The most fair rounds that can end without an acquisition, from a world in a round in which
+    // these processes still have to take a step.
     int most_rounds(size_t place, unsigned owed) {
         int8_t &known = rounds_known[place << n | owed];
         if (known == BEGUN) fail("the rounds have no bound");

@@ -1,4 +1,4 @@
-/* One producer and two consumers over one queue: priorities, a timeout, a notice, and the journal. */
+/* One producer and two consumers over one queue: priorities, a timeout, a notice, the journal. */
 #include <yakyrombe.h>
 
 #include <pthread.h>
@@ -52,7 +52,8 @@ static void *consume(void *of)
     return 0;
 }
 
-/* Three messages are received by priority; then the queue is empty until the deadline. A notice reports a message that arrives at the empty queue. */
+/* Three messages are received by priority; then the queue is empty until the deadline. A notice
+ * reports a message that arrives at the empty queue. */
 static uint32_t alone(yak_process *process)
 {
     static const uint8_t name[] = {'/', 'a', 'l', 'o', 'n', 'e'};

@@ -1,4 +1,5 @@
-/* Each call of <mqueue.h> with each of its errors, and the return codes of calls on handles that have no errno value of their own. */
+/* Each call of <mqueue.h> with each of its errors, and the return codes of calls on handles that
+ * have no errno value of their own. */
 #include <mqueue.h>
 
 #include <stdio.h>

@@ -1,5 +1,6 @@
-/* Many threads on one queue, by the calls of <mqueue.h>: usage: threads PROCESSES ROUNDS, an even number of processes from 2 to 32. Half of them
- * send and half receive, ROUNDS messages each. Then a receive whose wait another thread answers, and an unlink while others have it open. */
+/* Many threads on one queue, by the calls of <mqueue.h>: usage: threads PROCESSES ROUNDS, an even
+ * number of processes from 2 to 32. Half of them send and half receive, ROUNDS messages each. Then
+ * a receive whose wait another thread answers, and an unlink while others have the queue open. */
 #include <mqueue.h>
 
 #include <pthread.h>
@@ -75,7 +76,7 @@ static bool in_threads(unsigned count, void *(*even)(void *), void *(*odd)(void 
     return are_well;
 }
 
-/* A receive that waits until another thread sends, some time later, to a queue that has lost its name. */
+/* A receive that waits until another thread sends, some time later, to an unlinked queue. */
 static atomic_int opened;
 
 static void *wait_for_it(void *of)

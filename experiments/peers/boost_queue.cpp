@@ -1,4 +1,4 @@
-// `pair`, `deep` and `crowd` of mqbench over message_queue of Boost.Interprocess.
+// The workloads `pair`, `deep` and `crowd` of mqbench over message_queue of Boost.Interprocess.
 #include <boost/interprocess/ipc/message_queue.hpp>
 #include <chrono>
 #include <cstdint>

@@ -1,4 +1,5 @@
-/* `pair`, `deep` and `crowd` of mqbench over the queues of the system. Depths above 10 want a higher fs.mqueue.msg_max. */
+/* The workloads `pair`, `deep` and `crowd` of mqbench over the system's queues. Depths above 10
+ * need a higher fs.mqueue.msg_max. */
 #include <fcntl.h>
 #include <mqueue.h>
 #include <pthread.h>

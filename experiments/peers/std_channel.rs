@@ -1,4 +1,4 @@
-//! `pair` of mqbench over a bounded channel of std.
+//! The workload `pair` of mqbench over a bounded channel of std.
 use std::sync::mpsc::sync_channel;
 use std::time::Instant;
 

@@ -1,6 +1,7 @@
-//! `pair`, `deep` and `crowd` of mqbench over a `Mutex` and a `BinaryHeap`.
+//! The workloads `pair`, `deep` and `crowd` of mqbench over a `Mutex` and a `BinaryHeap`.
 //!
-//! The first word says when a condition variable is notified: `each`, at each call, or `waiting`, only where a thread waits.
+//! The first argument says when a condition variable is notified: `each`, at each call, or
+//! `waiting`, only if a thread waits.
 use std::cmp::Reverse;
 use std::collections::BinaryHeap;
 use std::sync::{Barrier, Condvar, Mutex};
@@ -11,7 +12,7 @@ const MESSAGE: &[u8; 16] = b"sixteen bytes ..";
 const DEPTH: usize = 10;
 
 struct Line {
-    // The greatest priority first, and of that the message that was sent first.
+    // The greatest priority first, and within a priority the message that was sent first.
     messages: BinaryHeap<(u32, Reverse<u64>, Vec<u8>)>,
     sent: u64,
     senders: usize,

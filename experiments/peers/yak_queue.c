@@ -1,5 +1,5 @@
-/* `pair` and `crowd` of mqbench over the queues for C, by handles. Behind `unstored` no journal is
- * stored, and behind `prepaid` only the open takes memory. */
+/* The workloads `pair` and `crowd` of mqbench over this library, by handles. After `unstored` no
+ * journal is stored, and after `prepaid` only the open allocates. */
 #include "yakyrombe.h"
 
 #include <pthread.h>
