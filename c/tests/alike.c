@@ -1,7 +1,7 @@
-/* Random calls of five processes have the same answers, and write the same, on a system that stores
- * its journal, on one that stores none, and on one that is prepaid, on which only an open takes
- * memory; and, after the first calls, on two that go on from that journal and from a short one in
- * its place: usage: alike RUNS, each of 110 calls. */
+/* Random calls of five processes return and write the same on a system that stores its journal, on
+ * an unstored one, and on a prepaid one, on which only an open allocates; and, after the first
+ * calls, on two systems that continue from that journal and from its short equivalent. usage: alike
+ * RUNS, each of 110 calls. */
 #include <yakyrombe.h>
 
 #include "../memory.h"
@@ -33,7 +33,7 @@ typedef enum call {
     KINDS
 } call;
 
-/* One call, with all that any kind of call may need. */
+/* One call, with the arguments of every kind of call. */
 typedef struct asked {
     call call;
     unsigned process;
@@ -56,7 +56,7 @@ typedef struct outcome {
     uint8_t buf[MOST_BYTES];
 } outcome;
 
-/* How often the library asked for memory. */
+/* How many allocations the library made. */
 static unsigned long requests;
 
 rattle_tried rattle_alloc(size_t size, size_t align)
@@ -87,8 +87,8 @@ static unsigned below(unsigned bound)
     return (unsigned)(state >> 33) % bound;
 }
 
-/* Any call at a moment, the first ones opens for both directions. Sends, receives and the ends of
- * waits are asked for most. */
+/* A random call at a moment; the first ones are opens for both directions. Most are sends, receives
+ * and ends of waits. */
 static asked any_call(int64_t moment, bool opens)
 {
     static const char *const names[NAMES] = {"/a", "/jobs", "/a-longer-name"};
@@ -180,7 +180,7 @@ static bool same(const outcome *x, const outcome *y)
            !memcmp(x->buf, y->buf, sizeof x->buf);
 }
 
-/* The stored system goes on in two others. */
+/* Two other systems continue from the stored one. */
 static bool resume(yak_process (*systems)[PROCESSES], unsigned long *shortened)
 {
     char *text = 0;
@@ -202,8 +202,8 @@ static bool resume(yak_process (*systems)[PROCESSES], unsigned long *shortened)
     return resumed;
 }
 
-/* One call on each of so many systems. The counts are of the calls that were done, of those that
- * waited, and of those served. */
+/* Makes one call on each of `count` systems. Counts the calls that were done, waited and were
+ * served. */
 static bool make_all(yak_process (*systems)[PROCESSES], int count, const asked *a,
                      unsigned long *counts)
 {
@@ -228,7 +228,7 @@ static bool make_all(yak_process (*systems)[PROCESSES], int count, const asked *
     return alike;
 }
 
-/* One run. The last count is of the journals that became shorter by half. */
+/* One run. The last count is that of journals that became shorter by half. */
 static bool run(unsigned long *counts)
 {
     static const yak_process empty = YAK_PROCESS_EMPTY;
@@ -246,7 +246,7 @@ static bool run(unsigned long *counts)
             return false;
         alike = make_all(systems, i < FIRST_CALLS ? RESUMED : SYSTEMS, &a, counts);
     }
-    /* Also the waits that are open. */
+    /* Open waits too. */
     for (int i = 0; i < SYSTEMS && alike; ++i)
         alike = yak_finish(systems[i], PROCESSES, 0, 0) == YAK_DONE;
     return alike;

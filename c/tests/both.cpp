@@ -1,5 +1,5 @@
-// The headers for C in a program in C++: a worker by handles, and the calls of <mqueue.h> by the
-// header in front of the system's.
+// The C headers in a C++ program: a worker by handles, and the calls of <mqueue.h> by the header
+// that replaces the system's.
 #include <mqueue.h>
 
 #include <cstdio>

@@ -1,5 +1,5 @@
-/* A thread that writes the journal, if it is stored, or a report to a full pipe holds nobody up,
- * and it can be cancelled there. */
+/* A thread that writes the journal (if it is stored) or a report to a full pipe delays no other
+ * thread, and can be cancelled there. */
 #define _GNU_SOURCE
 #include <errno.h>
 #include <fcntl.h>
@@ -51,7 +51,7 @@ static void call(void)
     WANT(mq_receive(queue, buf, sizeof buf, 0) == 1);
 }
 
-/* Returns when the pipe holds something, and takes nothing more for a while. */
+/* Returns when the pipe has data and has stopped growing. */
 static void await_full(void)
 {
     int before = 0, now = 0;

@@ -1,5 +1,5 @@
-/* A deadline is one of the clock that the call is given: of real time, of a clock that is never
- * set, or of a clock of the program. A wait in two parts ends in the same ways. */
+/* The clock that a call is given measures its deadline: CLOCK_REALTIME, CLOCK_MONOTONIC or a clock
+ * of the program. A wait in two parts ends in the same ways. */
 #include <yakyrombe.h>
 
 #include <pthread.h>
@@ -7,7 +7,7 @@
 static yak_process processes[2];
 static int asked;
 
-/* A clock that moves on by a second each time it is asked. */
+/* A clock that advances by a second at each read. */
 static yak_moment steps(void)
 {
     const yak_moment now = {.sec = ++asked};
@@ -19,7 +19,7 @@ static int64_t millis_between(yak_moment from, yak_moment to)
     return (to.sec - from.sec) * 1000 + (to.nsec - from.nsec) / 1000000;
 }
 
-/* So many milliseconds after now. */
+/* The moment `millis` milliseconds from now. */
 static yak_moment after(yak_clock *clock, int millis)
 {
     yak_moment moment = clock();
@@ -29,7 +29,7 @@ static yak_moment after(yak_clock *clock, int millis)
     return moment;
 }
 
-/* A wait that nobody answers ends at its deadline, and no more than a second later. */
+/* An unanswered wait ends at its deadline, at most a second late. */
 static bool ends_by(yak_clock *clock, uint32_t d)
 {
     const yak_moment start = yak_monotonic_now(), until = after(clock, 150);
@@ -73,7 +73,7 @@ static void *send_late(void *clock)
     return 0;
 }
 
-/* The four ways to wait that another thread answers. */
+/* Four ways to wait for an answer from another thread. */
 static bool is_answered(uint32_t d)
 {
     static int has_clock = 1;
@@ -104,7 +104,8 @@ static bool is_answered(uint32_t d)
     return true;
 }
 
-/* A wait that was started lasts until it is answered, or no longer than it may, and stays open. */
+/* Awaiting a started wait lasts until it is answered, or for the given time; the wait stays open.
+ */
 static bool is_awaited(uint32_t d)
 {
     const int64_t nanos = 20000000, long_nanos = INT64_MAX;
@@ -130,7 +131,7 @@ static bool is_awaited(uint32_t d)
            buf[0] == 'a';
 }
 
-/* A wait whose deadline is later than the one that is waited for is too early to end before. */
+/* A wait can't be ended before its own deadline, even if the awaited one has passed. */
 static bool ends_at_its_own(uint32_t d)
 {
     const yak_moment now = yak_now(), soon = after(yak_now, 20), late = after(yak_now, 150);

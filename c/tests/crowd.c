@@ -1,6 +1,5 @@
-/* Eight processes of four threads each: half of them send, half receive. Each
- * message comes once, those of one sender and one priority in order, and none
- * is lost.
+/* Eight processes of four threads each: half of them send, half receive. Each message is received
+ * exactly once, and those of one sender and one priority in order.
  *
  * usage: crowd [MESSAGES] */
 #define _GNU_SOURCE
@@ -14,13 +13,12 @@ enum { PROCESSES = 8, THREADS = 4, SENDERS = PROCESSES / 2 * THREADS, PRIOS = 3 
 typedef struct message {
     uint32_t sender;
     uint32_t prio;
-    uint32_t place; /* among those of its sender and priority */
+    uint32_t place; /* its number among those of its sender and priority */
 } message;
 
 static mqd_t queue;
 static long each;
-/* How many messages of a sender and a priority came, and how often each one
- * did. */
+/* How often each message of a sender and a priority was received. */
 static _Atomic uint64_t *came;
 static _Atomic uint8_t *times;
 
@@ -41,7 +39,7 @@ static void *sends(void *of)
     return 0;
 }
 
-/* What one receiver sees of one sender and priority goes up. */
+/* For one receiver, the numbers of one sender and priority ascend. */
 static void *receives(void *of)
 {
     int64_t last[SENDERS][PRIOS];

@@ -1,6 +1,6 @@
-/* Two tokens lie in two queues. A thread takes both, and lays them back; one begins with the left
- * and the other with the right. Where each has taken its first they wait for good, which few
- * schedules come to. Over the system's <mqueue.h>. */
+/* Two queues each have a token. A thread takes both tokens, and puts them back; one thread starts
+ * with the left queue, the other with the right one. If each has taken its first token, they are
+ * deadlocked, which few schedules reach. Over the system's <mqueue.h>. */
 #include <fcntl.h>
 #include <mqueue.h>
 #include <pthread.h>

@@ -1,7 +1,7 @@
-/* Parent and child in each call: on the descriptors that the child inherits and
- * on those that it opens; blocked both ways; in deadlines and signals; in
- * notices by signal and by thread, also of a process that ends in any way;
- * grandchildren, and siblings. Over the kernel's queues it says the same. */
+/* Parent and child in each call: on the descriptors that the child inherits and on those that it
+ * opens; blocked both ways; with deadlines and signals; with notices by signal and by thread, also
+ * of a process that ends in any way; grandchildren and siblings. Over the kernel's queues it prints
+ * the same. */
 #define _GNU_SOURCE
 #include <pthread.h>
 #include <signal.h>
@@ -58,7 +58,7 @@ static void calls(void)
     WANT((kept = mq_open("/yak-family-kept", O_RDWR)) != -1);
     WANT(mq_receive(kept, buf, sizeof buf, 0) == 4);
     WANT(mq_close(kept) == 0 && mq_unlink("/yak-family-kept") == 0);
-    /* The flag belongs to the description, which they share. */
+    /* The flag belongs to the open description, which they share. */
     ends_well(begin_child(set_nonblocking));
     WANT(mq_receive(queue, buf, sizeof buf, &prio) == -1 && errno == EAGAIN);
     WANT(mq_setattr(queue, &attr, &before) == 0 && before.mq_flags == O_NONBLOCK);
@@ -190,7 +190,7 @@ static void keep(int number, siginfo_t *info, void *context)
     is_told = 1;
 }
 
-/* By which a child says that it has registered. */
+/* The pipe by which a child says that it has registered. */
 static int said[2];
 
 static void say(void)
@@ -241,8 +241,8 @@ static void send_and_look(void)
 enum { BY_EXIT, BY_END, BY_KILL, BY_EXEC, BY_CLOSE, WAYS };
 static int way;
 
-/* A child has the threads of its parent in the list of the leak sanitizer, which can't stop them.
- * So only the parent looks for leaks at its end. */
+/* In a child, the leak sanitizer lists the threads of the parent, and can't stop them. So only the
+ * parent checks for leaks at its end. */
 static bool ends_by_exit;
 int __lsan_is_turned_off(void);
 int __lsan_is_turned_off(void)
@@ -288,7 +288,7 @@ static void notices(void)
     WANT(pipe(said) == 0);
     child = begin_child(register_and_await);
     await_said();
-    /* That of another process stays. */
+    /* The registration of another process stays. */
     WANT(mq_notify(queue, 0) == 0 && is_registered());
     WANT(mq_send(queue, "n", 1, 0) == 0);
     ends_well(child);

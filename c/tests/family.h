@@ -1,4 +1,4 @@
-/* What the tests share that fork. */
+/* What the tests that fork share. */
 #ifndef YAK_TESTS_FAMILY_H
 #define YAK_TESTS_FAMILY_H
 
@@ -17,7 +17,7 @@ static inline double now_in_seconds(void)
     return (double)t.tv_sec + (double)t.tv_nsec / 1e9;
 }
 
-/* A new queue for messages of so many bytes. */
+/* A new queue for messages of `msgsize` bytes. */
 static inline mqd_t fresh(const char *name, long maxmsg, long msgsize, int flags)
 {
     struct mq_attr attr;
@@ -54,7 +54,7 @@ static inline void ends_well(pid_t child)
     WANT(WIFEXITED(status) && WEXITSTATUS(status) == 0);
 }
 
-/* Runs a function in a child, which ends well if the function returns. */
+/* Runs a function in a child, which exits with status 0 if the function returns. */
 static inline pid_t begin_child(void (*run)(void))
 {
     const pid_t child = fork();

@@ -1,10 +1,9 @@
-/* A program that runs for ever takes no more memory: 8 threads pass messages through one queue, and
- * open, use and lose queues of their own. After the first 100,000 sends and receives the resident
- * size is the same within 1 MB, and there are fewer than 0.001 minor page faults a call. Its system
- * stores no journal: it is built over the exported mq_*, or over handles, by yakyrombe/mqueue.h.
+/* Memory does not grow: 8 threads pass messages through one queue, and open, use and unlink queues
+ * of their own. After the first 100,000 sends and receives, the resident size stays within 1 MB,
+ * and there are fewer than 0.001 minor page faults for each call. The system stores no journal. The
+ * test is built over the exported mq_*, or over handles, by yakyrombe/mqueue.h.
  *
- * usage: flat [CALLS]     CALLS is how many sends and receives the shared queue has, 1,000,000 if
- * left out */
+ * usage: flat [CALLS]     CALLS sends and receives on the shared queue, by default 1,000,000 */
 #define _GNU_SOURCE
 #include <errno.h>
 #include <fcntl.h>
@@ -26,12 +25,12 @@ enum {
     FIRST_CALLS = 100000,
     MOST_BYTES = 1000000,
     CALLS_A_FAULT = 1000,
-    /* How many calls lie between two queues of a thread's own. */
+    /* After how many calls on the shared queue a thread makes the next queue of its own. */
     BETWEEN_OWN = 64,
     MSGSIZE = 32
 };
 
-/* What the program takes. */
+/* The memory of the program. */
 typedef struct taken {
     long resident;
     long faults;
@@ -82,7 +81,7 @@ static struct mq_attr limits(void)
     return attr;
 }
 
-/* Opens a queue, is notified of a message, and loses one with the queue. */
+/* Opens a queue, is notified of a message, and destroys the queue with a message in it. */
 static void use_own_queue(long number)
 {
     struct mq_attr attr = limits();
@@ -140,8 +139,8 @@ static void *take_part(void *of)
     return 0;
 }
 
-/* The resident size in bytes. It is counted page by page; statm has a sum of what processors have
- * counted, which may be late by megabytes. */
+/* The resident size in bytes, counted page by page. statm adds up counts of each processor, which
+ * can lag by megabytes. */
 static long resident(void)
 {
     char line[256];
@@ -165,7 +164,7 @@ static taken look(void)
     return it;
 }
 
-/* A sanitizer takes memory of its own. */
+/* A sanitizer allocates memory of its own. */
 static bool is_flat(const taken *before, const taken *after)
 {
     return HAS_THREAD_SANITIZER || HAS_ADDRESS_SANITIZER ||

@@ -1,6 +1,6 @@
-/* What a forked child may do with the queues of its program: forked by main; beside threads that
- * are inside calls; and by a handler that interrupted a wait. The argument is what is wanted of the
- * child: shared, or new (YAK_FORK=new). */
+/* What a forked child can do with the queues of its program: forked by main; while threads are
+ * inside calls; and by a handler that interrupted a wait. The argument is the expected behaviour of
+ * the child: shared, or new (YAK_FORK=new). */
 #define _GNU_SOURCE
 #include <errno.h>
 #include <fcntl.h>
@@ -19,7 +19,7 @@
 #include "sanitized.h"
 #include "want.h"
 
-/* ThreadSanitizer lets a handler run only when its thread wakes, and then inside another call. */
+/* ThreadSanitizer runs a handler only when its thread wakes, and then inside another call. */
 enum { HAS_HANDLERS = !HAS_THREAD_SANITIZER };
 
 enum { FORKS = 20, WORKERS = 3 };
@@ -27,7 +27,7 @@ enum { FORKS = 20, WORKERS = 3 };
 static bool gets_new;
 static mqd_t queue;
 
-/* It sends and receives beside what the parent has there, and opens a queue of its own. */
+/* The child sends and receives on the parent's queue, and opens a queue of its own. */
 static void child_shares(void)
 {
     struct mq_attr attr = room_for(4);
@@ -117,7 +117,7 @@ static void fork_in_handler(int number)
     of_handler = fork();
 }
 
-/* The wait is interrupted in both. */
+/* The wait is interrupted in both processes. */
 static void fork_from_a_wait(void)
 {
     struct sigaction action;

@@ -1,6 +1,6 @@
-/* With YAK_FORK=new a child has queues of its own; but if a handler forks that interrupted its own
- * thread inside a call, the child makes that call to its end, as the parent does, and then has
- * none: its calls fail with ENOSYS. The handler comes at moments that differ, until both were met.
+/* With YAK_FORK=new a child has queues of its own. But if a handler that interrupted its own thread
+ * inside a call forks, the child completes that call, as the parent does, and then has no queues:
+ * its calls fail with ENOSYS. The handler runs at varying moments, until both cases have occurred.
  */
 #define _GNU_SOURCE
 #include <errno.h>
@@ -30,7 +30,7 @@ static void fork_in_handler(int number)
     (void)number;
     forked = fork();
     if (forked == 0)
-        close(STDERR_FILENO); /* which tells that it has no part */
+        close(STDERR_FILENO); /* there the library says that the child has no queues */
     errno = error;
 }
 
@@ -55,7 +55,7 @@ static void child(void)
     _exit(0);
 }
 
-/* Forks in a handler, and says whether that was inside a call. */
+/* Forks in a handler, and returns whether that was inside a call. */
 static bool is_inside(long microseconds)
 {
     const struct itimerval once = {{0, 0}, {0, microseconds}};

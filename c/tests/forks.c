@@ -1,7 +1,6 @@
-/* Forks where they hurt: beside threads that wait; in a handler that
- * interrupted a wait, with SA_RESTART and without; in handlers that interrupt
- * calls at any moment; by the thousand, with children that end in all ways, and
- * leave no descriptor, no mapping, no place and no child behind.
+/* Forks at difficult moments: while threads wait; in a handler that interrupted a wait, with
+ * SA_RESTART and without; in handlers that interrupt calls at any moment; by the thousand, with
+ * children that end in all ways, and leave no descriptor, mapping, slot or child behind.
  *
  * usage: forks [FORKS] */
 #define _GNU_SOURCE
@@ -15,15 +14,14 @@
 #include "family.h"
 #include "sanitized.h"
 
-/* ThreadSanitizer lets a handler run only when its thread wakes, and then
- * inside another call. */
+/* ThreadSanitizer runs a handler only when its thread wakes, and then inside another call. */
 enum { HAS_HANDLERS = !HAS_THREAD_SANITIZER, WAITS = 8 };
 
 static mqd_t queue, other;
 static char buf[8];
 static unsigned prio;
 
-/* ---- beside threads that wait ---- */
+/* ---- while threads wait ---- */
 
 static void *wait_in_other(void *of)
 {
@@ -86,7 +84,7 @@ static void ring_in(long milliseconds)
     WANT(setitimer(ITIMER_REAL, &once, 0) == 0);
 }
 
-/* The call fails with EINTR in both. As long as the parent has not ended its wait, it would get
+/* The call fails with EINTR in both processes. Until the parent has ended its wait, it would get
  * what the child sends. */
 static void interrupted(void)
 {
@@ -116,7 +114,7 @@ static void send_two(void)
     WANT(mq_send(queue, "2", 1, 4) == 0);
 }
 
-/* The call goes on in both, and each gets a message. */
+/* The call continues in both processes, and each gets a message. */
 static void restarted(void)
 {
     pid_t sender;
@@ -132,7 +130,7 @@ static void restarted(void)
 
 /* ---- in handlers that interrupt calls ---- */
 
-/* A send and a receive that do not wait. The parent and a child that interrupted the call may both
+/* A send and a receive that do not wait. Both the parent and a child forked inside the call may
  * make it. */
 static void try_both(mqd_t tried)
 {
@@ -145,7 +143,7 @@ static void try_both(mqd_t tried)
         WANT(memcmp(buf, "loop", 4) == 0 && prio == 1);
 }
 
-/* A child goes on with the call that was interrupted, and then makes calls of its own. */
+/* A child completes the interrupted call, and then makes calls of its own. */
 static void child_of_call(mqd_t tried)
 {
     mqd_t own = mq_open("/yak-forks", O_RDWR);

@@ -1,5 +1,5 @@
-/* A journal that can't be written leaves no file open: each report that a signal asks for fails to
- * write it, to a device that is full. Run with YAK_REPORT_SIGNAL=12 YAK_JOURNAL=/dev/full. */
+/* A journal that can't be written leaves no file open: each report by a signal fails to write it to
+ * a full device. Run with YAK_REPORT_SIGNAL=12 YAK_JOURNAL=/dev/full. */
 #define _GNU_SOURCE
 #include <dirent.h>
 #include <fcntl.h>

@@ -1,5 +1,5 @@
-/* handed.c over the system's <mqueue.h>: boxes go from thread to thread by their pointers, and a
- * look for races finds none. */
+/* handed.c over the system's <mqueue.h>: boxes pass from thread to thread by their pointers, and
+ * ThreadSanitizer reports no race. */
 #include <fcntl.h>
 #include <mqueue.h>
 #include <pthread.h>

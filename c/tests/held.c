@@ -1,7 +1,7 @@
-/* What a process of the library holds for a descriptor is kept in mind if memory for its close was
- * refused, and closed later. Linked with --wrap=mprotect, by which the library's memory is refused,
- * and run with YAK_JOURNAL. In one child after the other the close falls on another place of the
- * journal, whose allocation is refused in some. */
+/* If a close fails for lack of memory, the library remembers the descriptors that its processes
+ * hold for it, and closes them later. Linked with --wrap=mprotect, which makes the library's
+ * allocations fail, and run with YAK_JOURNAL. In each child the close has another sequence number,
+ * and in some of them its allocation fails. */
 #define _GNU_SOURCE
 #include <errno.h>
 #include <fcntl.h>
@@ -18,11 +18,10 @@
 #include "stored.h"
 #include "want.h"
 
-/* The journal grows at 4,096 entries, and needs more memory than is open then. */
+/* The journal grows at 4,096 entries, and then needs more memory than is open. */
 enum { CHILDREN = 70, FIRST_PADDING = 4096 - CHILDREN + 10, ROUNDS = 3, HIT = 7 };
 
-/* Volatile, since the system says of its calls that they come back into no function of this file.
- */
+/* Volatile, because the system's headers declare that its calls call no function of this file. */
 static volatile bool refuses;
 static volatile int refused;
 
@@ -36,7 +35,7 @@ int __wrap_mprotect(void *at, size_t size, int rights)
     return refuses ? -1 : __real_mprotect(at, size, rights);
 }
 
-/* Opens the queue, and waits in it for a moment: for that process 2 opens it too. */
+/* Opens the queue, and waits in it for a moment; for that, process 2 opens it too. */
 static mqd_t open_and_wait(void)
 {
     struct mq_attr attr = room_for(1);
@@ -52,7 +51,7 @@ static mqd_t open_and_wait(void)
     return queue;
 }
 
-/* How many descriptors process 2 holds, by the journal. */
+/* How many descriptors process 2 holds, according to the journal. */
 static int held_by_second(void)
 {
     char line[512], reply[16];

@@ -1,7 +1,7 @@
-/* A handler interrupts a wait and does not come back into it: it jumps out, or it ends its thread.
- * The next call of the thread, or its end, withdraws the wait, so no message that is sent later is
- * lost. And a handler that makes a call and comes back finds the wait as one of the kernel: it goes
- * on with SA_RESTART, and else it is interrupted. */
+/* A handler interrupts a wait and does not return to it: it jumps out, or it ends its thread. The
+ * next call of the thread, or its end, withdraws the wait, so no message that is sent later is
+ * lost. If a handler makes a call and returns, the wait behaves as one of the kernel: it continues
+ * with SA_RESTART, and otherwise it is interrupted. */
 #define _GNU_SOURCE
 #include <errno.h>
 #include <fcntl.h>
@@ -45,7 +45,7 @@ static int waits(void)
     return count;
 }
 
-/* The thread that waits next, as the kernel counts threads. */
+/* The kernel's id of the thread that waits next. */
 static atomic_int waiter;
 
 static void tell_wait(void)
@@ -66,8 +66,8 @@ static bool is_asleep(void)
     return end != 0 && end[2] == 'S';
 }
 
-/* Returns when so many calls wait, and the one that was told of sleeps in its wait: a handler that
- * jumps must not run before that. */
+/* Returns when `count` calls wait, and the thread `waiter` sleeps in its wait: a handler that jumps
+ * must not run before that. */
 static void await_waits(int count)
 {
     for (int i = 0; i < 10000 && waits() != count; ++i)
@@ -92,7 +92,7 @@ static void jump(int number)
     siglongjmp(back, 1);
 }
 
-/* Messages are in the queue, in their order, and then none. */
+/* The queue has these messages, in this order, and no others. */
 static void has(const char *messages)
 {
     struct mq_attr attr;
@@ -124,8 +124,8 @@ static void *kick_when_it_waits(void *of)
     return 0;
 }
 
-/* Begins to receive, with a buffer of its own frame, and is left by a jump. So many calls wait
- * beside it. */
+/* Starts to receive, with a buffer of its own frame, and is left by a jump while `beside` other
+ * calls wait. */
 static void leave_receive(bool is_timed, int beside)
 {
     struct timespec until = {.tv_sec = time(0) + 3600};
@@ -171,11 +171,11 @@ static void jumps(void)
         leave_receive(i == 1, 0);
     send_all("abcd");
     has("abcd");
-    /* The call that finds the wait comes from a deeper frame than the one that was left. */
+    /* The call that finds the wait is made from a deeper frame than the one that was left. */
     leave_receive(false, 0);
     send_from_below(40, "efg");
     has("efg");
-    /* Another thread sends, once this one has made some call. */
+    /* Another thread sends after this one has made a call. */
     leave_receive(false, 0);
     WANT(mq_getattr(other, &attr) == 0);
     WANT(pthread_create(&thread, 0, send_from_beside, "hi") == 0 && pthread_join(thread, 0) == 0);
@@ -206,14 +206,14 @@ static void jumps_out_of_send(void)
     await_waits(1);
     WANT(pthread_kill(thread, SIGUSR1) == 0);
     pause_for(50);
-    /* The thread waits again, in the send behind the jump, and for that alone. */
+    /* The thread waits again, only in the send after the jump. */
     await_waits(1);
     WANT(mq_receive(queue, buf, sizeof buf, 0) == 1 && buf[0] == 'a');
     WANT(pthread_join(thread, 0) == 0);
     has("xbcd");
 }
 
-/* ---- beside 31 calls that wait ---- */
+/* ---- while 31 other calls wait ---- */
 
 static void *receive_other(void *of)
 {
@@ -272,7 +272,7 @@ static void ends(void)
     has("mno");
 }
 
-/* ---- a thread that goes on behind a jump ---- */
+/* ---- a thread that continues after a jump ---- */
 
 static void *jumps_and_waits(void *of)
 {
@@ -303,7 +303,7 @@ static void jumps_and_is_cancelled(void)
     has("pq");
 }
 
-/* ---- a handler that comes back ---- */
+/* ---- a handler that returns ---- */
 
 static atomic_int handled;
 
@@ -328,7 +328,7 @@ static int error;
 static void *receive_and_tell(void *of)
 {
     char buf[8];
-    /* The handler runs on a stack of its own, which may lie above this one or below it. */
+    /* The handler runs on a stack of its own, above or below this one. */
     static char room[2][1 << 16];
     stack_t stack;
     memset(&stack, 0, sizeof stack);
@@ -365,7 +365,7 @@ static void comes_back(int flags, bool has_stack)
     has("");
 }
 
-/* A message that was handed to the wait before the handler made its call is what the call gets. */
+/* The interrupted call gets a message that was handed to it before the handler made its call. */
 static void call_when_answered(int number)
 {
     struct mq_attr attr;

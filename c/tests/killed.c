@@ -1,10 +1,8 @@
-/* Children that are killed at random moments, in calls and beside them: the
- * others go on, the next call comes back within a second, no message comes
- * twice, and of those that were sent only what the killed receivers may have
- * had is missing, a message each.
+/* Children are killed at random moments, inside calls and between them. The others continue, the
+ * next call returns within a second, no message is received twice, and each killed receiver loses
+ * at most one message.
  *
- * usage: killed [ROUNDS]     in each round five children are killed, one after
- * the other */
+ * usage: killed [ROUNDS]     in each round five children are killed, one after the other */
 #define _GNU_SOURCE
 #include <signal.h>
 #include <stdatomic.h>
@@ -18,7 +16,7 @@ enum { MOST = 1 << 20, CHILDREN = 5, RECEIVERS = 2 };
 static _Atomic uint32_t *begun, *sent;
 static _Atomic uint8_t *times;
 static mqd_t queue;
-/* How long a call took at the most, behind a death and before one. */
+/* The longest time of a call, after a death and before one. */
 static double slowest, usual;
 
 static void sends(void)
@@ -85,7 +83,7 @@ static void call_once(double *most)
         *most = now_in_seconds() - from;
 }
 
-/* Whether the sender goes on, now that others were killed. */
+/* Whether the sender continues after others were killed. */
 static bool goes_on(void)
 {
     const uint32_t before = atomic_load(sent);
@@ -97,7 +95,7 @@ static bool goes_on(void)
     return false;
 }
 
-/* Receives what is left, and judges what came. */
+/* Receives what is left, and checks what was received. */
 static void judge(void)
 {
     uint32_t missing = 0;
@@ -150,7 +148,7 @@ int main(int count, char **words)
     times = shared_memory(MOST);
     for (int i = 0; i < rounds; ++i)
         one_round(&seed);
-    /* On a machine that is busy each call is late. With a stored journal the log is long. */
+    /* On a busy machine each call is slow. With a stored journal the log is long. */
     WANT(slowest < 1 + 10 * usual || getenv("YAK_JOURNAL") != 0);
     puts("well");
     return 0;

@@ -1,6 +1,6 @@
-/* The error stream says once, at the send that does it, that a stored journal has passed 1 GB, by
- * 64 bytes an entry, 56 more for one with limits, and the bytes of names and messages. If no
- * journal is stored it never says so. */
+/* The error stream says once, at the send that does it, that a stored journal has passed 1 GB,
+ * counting 64 bytes an entry, 56 more for one with limits, and the bytes of names and messages. If
+ * no journal is stored, it never says so. */
 #define _GNU_SOURCE
 #include <fcntl.h>
 #include <mqueue.h>
@@ -30,7 +30,7 @@ static void say(const char *what)
     fflush(stdout);
 }
 
-/* It does not end by exit, since the journal would be written then. */
+/* It does not end by exit, because then the journal would be written. */
 int main(void)
 {
     const long opened = 64 + 56 + (long)sizeof NAME - 1;

@@ -1,6 +1,6 @@
-/* Memory that is given or refused has the alignment that was asked for. A handle is as long as the
- * library takes it to be: of several in an array each is the one that C means. No two share a cache
- * line, also where a processor fetches lines by twos. */
+/* The result of an allocation has the requested alignment, even if it failed. A handle has the size
+ * that the library assumes, so the handles of an array are those that C means. No two handles share
+ * a cache line, even if a processor fetches lines in pairs. */
 #define _GNU_SOURCE
 #include "../memory.h"
 #include "../wait.h"
@@ -18,7 +18,7 @@ static bool is_aligned(void *p, size_t align)
     return (uintptr_t)p % align == 0;
 }
 
-/* A sanitizer ends a program that asks for so much. */
+/* A sanitizer ends a program that requests so much memory. */
 static bool refused_is_aligned(void)
 {
 #if HAS_ADDRESS_SANITIZER || HAS_THREAD_SANITIZER
@@ -44,8 +44,8 @@ static bool memory_is_aligned(void)
     return refused_is_aligned();
 }
 
-/* Sleeps on a word while it is 1, for so many milliseconds at the most, and returns how many
- * passed. */
+/* Sleeps on a word while it is 1, for at most `millis` milliseconds, and returns how many passed.
+ */
 static int64_t sleep_on(uint32_t *at, bool is_shared, clockid_t clock, long millis)
 {
     const yak_word_ word = {.at = at, .is_shared = is_shared};
@@ -61,8 +61,8 @@ static int64_t sleep_on(uint32_t *at, bool is_shared, clockid_t clock, long mill
     return (after.sec - before.sec) * 1000 + (after.nsec - before.nsec) / 1000000;
 }
 
-/* A sleep ends if the word has another value, and at its moment by either clock, whether or not
- * other programs share the word. */
+/* A sleep ends if the word has another value, and at its deadline by either clock, whether or not
+ * the word is shared with other programs. */
 static bool sleeps_while_it_is_one(void)
 {
     static uint32_t words[2] = {0, 1};

@@ -1,6 +1,6 @@
-/* More calls wait than the library has processes for: the first 31 are served in the order of their
- * beginning, and each of the others once. A call among the others can be refused, be late, be
- * interrupted, be cancelled, and lose its descriptor. */
+/* More calls wait than the library has processes for: the first 31 are served in the order in which
+ * they began, and each of the others once. Each of the others can fail, time out, be interrupted,
+ * be cancelled, and lose its descriptor. */
 #define _GNU_SOURCE
 #include <errno.h>
 #include <fcntl.h>
@@ -24,7 +24,7 @@ static mqd_t queue;
 static int given[CROWD];
 static sem_t begun;
 
-/* Returns when so many calls wait. */
+/* Returns when `count` calls wait. */
 static void await_waits(int count)
 {
     FILE *nowhere = fopen("/dev/null", "w");
@@ -57,7 +57,7 @@ static void *send_one(void *of)
     return 0;
 }
 
-/* Starts threads, each after the one before it waits. */
+/* Starts threads, each once the one before it waits. */
 static void start(pthread_t *threads, int count, void *(*run)(void *))
 {
     for (long i = 0; i < count; ++i) {
@@ -72,7 +72,7 @@ static void join(pthread_t *threads, int count)
         WANT(pthread_join(threads[i], 0) == 0);
 }
 
-/* Whether the first of them came in order, and each of the others once. */
+/* Whether the first of them were served in order, and each of the others once. */
 static bool is_in_order(void)
 {
     bool has[CROWD] = {false};
@@ -115,7 +115,7 @@ static void sends(void)
     WANT(is_in_order());
 }
 
-/* ---- one call beside 31 that wait ---- */
+/* ---- one call while 31 others wait ---- */
 
 static mqd_t other;
 static long result;
@@ -153,13 +153,13 @@ static void beside(void)
     char buf[8];
     mqd_t again;
     start(threads, IN_ORDER, receive_one);
-    /* Refused. */
+    /* It fails. */
     WANT(mq_timedreceive(other, buf, sizeof buf, 0, &until) == -1 && errno == EINVAL);
     WANT(mq_receive(other, buf, 7, 0) == -1 && errno == EMSGSIZE);
     WANT((again = mq_open("/yak-other", O_RDONLY | O_NONBLOCK)) != -1);
     WANT(mq_receive(again, buf, sizeof buf, 0) == -1 && errno == EAGAIN);
     WANT(mq_close(again) == 0);
-    /* Late. */
+    /* It times out. */
     clock_gettime(CLOCK_REALTIME, &until);
     until.tv_nsec -= until.tv_nsec % 1000;
     WANT(mq_timedreceive(other, buf, sizeof buf, 0, &until) == -1 && errno == ETIMEDOUT);
@@ -168,13 +168,13 @@ static void beside(void)
     until.tv_nsec %= 1000000000;
     one = begin_other(&until);
     WANT(pthread_join(one, 0) == 0 && result == -1 && error == ETIMEDOUT);
-    /* Served, by a deadline to come. */
+    /* It is served before its deadline. */
     until.tv_sec += 3600;
     one = begin_other(&until);
     await_waits(IN_ORDER + 1);
     WANT(mq_send(other, "ab", 2, 0) == 0);
     WANT(pthread_join(one, 0) == 0 && result == 2);
-    /* Interrupted. */
+    /* It is interrupted. */
     memset(&action, 0, sizeof action);
     action.sa_handler = wake;
     sigaction(SIGUSR1, &action, 0);
@@ -183,12 +183,12 @@ static void beside(void)
     pause_for(50);
     pthread_kill(one, SIGUSR1);
     WANT(pthread_join(one, 0) == 0 && result == -1 && error == EINTR);
-    /* Cancelled, and the message stays. */
+    /* It is cancelled, and the message stays. */
     one = begin_other(0);
     await_waits(IN_ORDER + 1);
     WANT(pthread_cancel(one) == 0 && pthread_join(one, &ended) == 0 && ended == PTHREAD_CANCELED);
     WANT(mq_send(other, "c", 1, 0) == 0 && mq_receive(other, buf, sizeof buf, 0) == 1);
-    /* Its descriptor is closed, and its number is another queue's. */
+    /* Its descriptor is closed, and its number then belongs to another queue. */
     one = begin_other(0);
     await_waits(IN_ORDER + 1);
     WANT(mq_close(other) == 0 && mq_unlink("/yak-other") == 0);

@@ -1,7 +1,7 @@
-/* What a process has, and what a report tells of others. A process has 128 descriptors, the lowest
- * free number first, over 128 open descriptions of the program; a child has as many numbers. 31
- * calls wait in order beside 16 descriptions, and fewer beside more: each 16 take one of the
- * library's processes, and give it back when they are closed.
+/* The descriptors of a process, and what a report says about others. A process has 128 descriptors,
+ * the lowest free number first, over 128 open descriptions of the program; a child has as many
+ * numbers. With 16 descriptions 31 calls wait in order, and fewer with more: each further 16 take
+ * one of the library's processes, and return it when they are closed.
  */
 #define _GNU_SOURCE
 #include <pthread.h>
@@ -35,7 +35,7 @@ static void open_all(void)
     WANT(open_one(0) == -1 && errno == EMFILE);
 }
 
-/* Each number leads to its own queue. */
+/* Each number refers to its own queue. */
 static void use_all(void)
 {
     char buf[8];
@@ -71,7 +71,7 @@ static void *receive_one(void *of)
     return 0;
 }
 
-/* How many of so many waits are served in order. */
+/* How many of `count` waits are served in order. */
 static int in_order(int count)
 {
     pthread_t threads[WAITS];
@@ -96,7 +96,7 @@ static int in_order(int count)
     return served;
 }
 
-/* A report tells of a call that waits in a child. */
+/* A report lists a call that waits in a child. */
 static void tell_of_child(void)
 {
     char line[256], wanted[64], buf[8];

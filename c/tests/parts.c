@@ -6,7 +6,7 @@
 #define JOINED(name, part) name##part
 #define NAMED(name, part) JOINED(name, part)
 
-/* Sends a message whose priority is the part, and gives the answer. */
+/* Sends a message whose priority is the part, and returns the return code. */
 uint32_t NAMED(send_, PART)(yak_process *process);
 uint32_t NAMED(send_, PART)(yak_process *process)
 {

@@ -1,5 +1,5 @@
-/* Threads that pass descriptors on, and a forked child that uses its parent's. Its recorded history
- * is possible only if each has an open of its own (tools/record). */
+/* Threads that pass descriptors on, and a forked child that uses its parent's. The recorded history
+ * is linearizable only if each has an open of its own (tools/record). */
 #define _GNU_SOURCE
 #include <errno.h>
 #include <fcntl.h>
@@ -14,7 +14,7 @@
 static char name[32];
 static mqd_t queue;
 
-/* Has the thread make its steps in turn with the main thread. */
+/* Makes the thread take its steps in turn with the main thread. */
 static pthread_barrier_t turn;
 
 static void pass(void)
@@ -31,10 +31,10 @@ static void *use(void *unused)
     pass(); /* the main thread receives, and sets the flag */
     pass();
     WANT(mq_receive(queue, buf, sizeof buf, 0) == -1 && errno == EAGAIN);
-    pass(); /* it closes */
+    pass(); /* the main thread closes */
     pass();
     WANT(mq_send(queue, "b", 1, 1) == -1 && errno == EBADF);
-    pass(); /* it opens again, and has the same number */
+    pass(); /* the main thread opens again, and gets the same number */
     pass();
     WANT(mq_send(queue, "c", 1, 1) == 0 && mq_getattr(queue, &attr) == 0 && attr.mq_curmsgs == 1);
     WANT(mq_close(queue) == 0);

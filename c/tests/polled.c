@@ -35,7 +35,7 @@ static bool is_readable(int file)
     return ready == 1;
 }
 
-/* What another process did shows a moment later. */
+/* The effect of another process shows a moment later. */
 static void becomes(int file, bool readable)
 {
     for (int i = 0; i < AT_MOST && is_readable(file) != readable; ++i)
@@ -95,7 +95,7 @@ static void *send_all(void *of)
     return 0;
 }
 
-/* A loop over epoll takes each message of threads that wait for room. */
+/* A loop over epoll receives every message of threads that wait for room. */
 static void a_loop_of_events_takes_all(void)
 {
     mqd_t queue = open_queue("/loop", O_RDONLY | O_NONBLOCK, 4);
@@ -153,7 +153,7 @@ static void processes_see_one_another(void)
         WANT(!is_readable(file));
     }
     await(child);
-    /* The child takes what the parent sent, and ends: nothing is left to be read here. */
+    /* The child receives what the parent sent, and ends: nothing is left to read here. */
     WANT(mq_send(up, "b", 1, 0) == 0 && is_readable(file));
     if ((child = fork()) == 0) {
         WANT(mq_receive(up, buf, sizeof buf, 0) == 1);
@@ -165,7 +165,8 @@ static void processes_see_one_another(void)
     WANT(mq_unlink("/down") == 0 && mq_unlink("/up") == 0);
 }
 
-/* A child that polled is killed in a call or between two: the others go on, also with their own. */
+/* A child that polled is killed inside a call or between two: the others continue, and so do their
+ * own descriptors for poll. */
 static void a_killed_poller_is_forgotten(void)
 {
     const mqd_t queue = open_queue("/killed", O_RDWR | O_NONBLOCK, 4);

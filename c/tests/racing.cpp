@@ -1,5 +1,5 @@
-// Two threads of a program in C++ race for a counter. ThreadSanitizer reports that also with what
-// c/tsan.supp leaves out: it hides the library alone.
+// Two threads of a C++ program race for a counter. ThreadSanitizer reports that even with the
+// suppressions of c/tsan.supp, which cover only the library.
 #include <mqueue.h>
 
 #include <cstdio>

@@ -1,6 +1,6 @@
-/* A program that passes pointers and lengths that the system refuses, as programs that test a
- * system do, and one of whose sends waits until its deadline. Run by tools/record it ends as
- * without, and its history has each call. */
+/* A program that passes pointers and lengths that the system rejects, as programs that test a
+ * system do. One of its sends waits until its deadline. Run by tools/record, it ends as without it,
+ * and its history has each call. */
 #define _GNU_SOURCE
 #include <errno.h>
 #include <fcntl.h>
@@ -13,7 +13,7 @@
 
 #include "want.h"
 
-/* Pointers that lead nowhere, which the compiler does not know. */
+/* Invalid pointers, hidden from the compiler. */
 static void *const volatile nowhere = (void *)(uintptr_t)8, *const volatile none = 0;
 
 #define REFUSED(error, call) WANT((errno = 0, (call) == -1 && errno == (error)))

@@ -1,6 +1,6 @@
-/* A call from a signal handler fails with EDEADLK if it interrupted its own thread inside another
- * call, and is made if it did not. A timer sends the signal at any moment. While the journal, if it
- * is stored, is written to a file, no call is refused. */
+/* A call from a signal handler fails with EDEADLK if the handler interrupted its own thread inside
+ * another call, and is made otherwise. A timer sends the signal at any moment. While the journal,
+ * if it is stored, is written to a file, no call fails. */
 #define _GNU_SOURCE
 #include <errno.h>
 #include <fcntl.h>
@@ -27,7 +27,7 @@ static void count(long result)
         ++others;
 }
 
-/* Inside each call is refused, and not only the first. */
+/* Inside a call, every call fails, not only the first. */
 static void call_each(void)
 {
     struct mq_attr attr;

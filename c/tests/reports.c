@@ -1,7 +1,7 @@
-/* What the reports of calls that wait say: who, in which call, on which queue, since when and until
- * when; by the seconds of YAK_REPORT, by the signal of YAK_REPORT_SIGNAL, and by a call. Each
- * report that the environment asks for writes the journal too. The argument is seconds or signal.
- */
+/* The reports of waiting calls: which thread waits in which call, on which queue, since when and
+ * until when. They are written by the seconds of YAK_REPORT, by the signal of YAK_REPORT_SIGNAL,
+ * and by a call. Each report that the environment asks for also writes the journal. The argument is
+ * seconds or signal. */
 #define _GNU_SOURCE
 #include <errno.h>
 #include <fcntl.h>
@@ -62,7 +62,7 @@ static void *receive_timed(void *of)
     return 0;
 }
 
-/* Whether a line tells of this wait, which began between two moments. */
+/* Whether a line reports this wait, which began between two moments. */
 static bool tells(const char *line, int which, mqd_t queue, double began, double written)
 {
     static const char *const calls[] = {"mq_receive", "mq_send", "mq_timedreceive"};
@@ -85,8 +85,8 @@ static bool tells(const char *line, int which, mqd_t queue, double began, double
            left <= 3600;
 }
 
-/* How many of the three waits a file tells of, and whether all its lines are of them or say that
- * nobody goes on. */
+/* How many of the three waits a file reports, and whether all its lines are about them or say that
+ * all threads wait. */
 static int told(const char *of, double began, int *wholes)
 {
     bool has[3] = {false, false, false};
@@ -142,7 +142,7 @@ static void wake(int number)
     (void)number;
 }
 
-/* Where the main thread waits too, and nobody has a deadline, the report says that nobody goes on.
+/* If the main thread waits too, and no wait has a deadline, the report says that all threads wait.
  */
 static void all_wait(double began, bool by_signal)
 {

@@ -1,8 +1,8 @@
-/* Systems go on from the journal of another: with open waits, also answered ones and such as have a
- * deadline, with notices and registrations, numbers with gaps, and a queue that has lost its name.
- * What is refused has a number of its own, and names the line; then the handles are empty, as they
- * are if memory is refused at whatever place, and no memory is kept. A journal of 1,000 messages is
- * resumed within 2 milliseconds. */
+/* Systems continue from the journal of another: with open waits, also answered ones and ones with a
+ * deadline, with notices and registrations, descriptors with gaps, and an unlinked queue. Each
+ * reason why a journal can't be resumed has its own return code, with the number of the line; then
+ * the handles are empty and no memory is kept, also if any allocation fails. A journal of 1,000
+ * messages is resumed within 2 milliseconds. */
 #include <yakyrombe.h>
 
 #include "../memory.h"
@@ -32,7 +32,7 @@ typedef struct journal {
 static yak_process processes[PROCESSES];
 static const yak_moment EARLY = {.sec = 1}, LATE = {.sec = 100};
 
-/* Ends the program where it does not hold. */
+/* Ends the program if the condition is false. */
 #define WANT(what)                                            \
     do                                                        \
         if (!(what)) {                                        \
@@ -41,9 +41,9 @@ static const yak_moment EARLY = {.sec = 1}, LATE = {.sec = 100};
         }                                                     \
     while (0)
 
-/* ---- memory that is refused ---- */
+/* ---- allocations that fail ---- */
 
-/* How many blocks there are, and how many more allocations succeed: all, if it is negative. */
+/* How many blocks are allocated, and how many more allocations succeed: all, if it is negative. */
 static long blocks, left = -1;
 
 static bool is_refused(void)
@@ -111,7 +111,7 @@ static uint32_t resume(resumes *by, journal from, size_t count, uint64_t *line)
     return by(processes, count, (const uint8_t *)from.text, from.len, line);
 }
 
-/* With bounds that leave room. */
+/* Resumes with bounds that leave room. */
 static uint32_t resume_bounded(yak_process *first, size_t count, const uint8_t *text, size_t len,
                                uint64_t *line)
 {
@@ -126,10 +126,10 @@ static uint64_t lines_of(journal from)
     return lines;
 }
 
-/* ---- what goes on ---- */
+/* ---- what continues ---- */
 
-/* A queue without a name has a message, process 2 a gap before its descriptor and a notice, 3 and 4
- * wait to receive, and the send of 5 waits and is answered. */
+/* An unlinked queue has a message. Process 2 has a gap before its descriptor, and a notice;
+ * processes 3 and 4 wait to receive; the send of process 5 waits and is answered. */
 static journal begin(void)
 {
     yak_message message;
@@ -159,7 +159,7 @@ static void *await_third(void *buf)
     return yak_await(&processes[2], (uint8_t *)buf, MSGSIZE, &message) == YAK_DONE ? &message : 0;
 }
 
-/* The wait of process 3 goes on in a thread. */
+/* The wait of process 3 continues in a thread. */
 static void third_is_served(void)
 {
     pthread_t thread;
@@ -171,7 +171,7 @@ static void third_is_served(void)
     WANT(got != 0 && has(buf, *(yak_message *)got, "hello", 4));
 }
 
-/* That of process 4 is over at its deadline, and not before. */
+/* That of process 4 ends at its deadline, and not before. */
 static void fourth_is_late(void)
 {
     static const yak_moment before = {.sec = 99, .nsec = 999999999};
@@ -200,7 +200,7 @@ static void rest_is_there(void)
     WANT(yak_check(&processes[0]) == YAK_DONE);
 }
 
-/* All goes on after the journal, the first time with an answered wait. */
+/* Everything continues after the journal, the first time with an answered wait. */
 static void all_goes_on(resumes *by, journal from)
 {
     const uint64_t entries = lines_of(from);
@@ -228,7 +228,7 @@ static void all_goes_on(resumes *by, journal from)
     free(collected.text);
 }
 
-/* Without a line it is a new system. */
+/* A journal without lines makes a new system. */
 static void none_is_new(resumes *by)
 {
     uint64_t line = 77;
@@ -238,7 +238,7 @@ static void none_is_new(resumes *by)
     finish();
 }
 
-/* ---- what is refused ---- */
+/* ---- what can't be resumed ---- */
 
 static void is_refused_so(resumes *by, journal from, size_t count, uint32_t answer, uint64_t at)
 {
@@ -272,7 +272,7 @@ static void journals_are_refused(resumes *by, journal from)
     WANT(yak_errno(YAK_BAD_LINE) == EINVAL && yak_errno(YAK_ILLEGAL) == EINVAL);
 }
 
-/* Each allocation is refused once, until there are no more. */
+/* Each allocation fails once, until there are no more. */
 static void memory_is_refused(resumes *by, journal from)
 {
     long refused = 0;
@@ -297,8 +297,8 @@ static uint32_t resume_within(journal from, uint64_t entries, uint64_t bytes)
     return answer;
 }
 
-/* The least bounds are the journal's payload bytes, and an entry more for each of its three open
- * waits. With these each wait can end, nothing else is done, and no call takes memory. */
+/* The smallest bounds are the journal's payload bytes, and one more entry for each of its three
+ * open waits. With these each wait can end, no other call succeeds, and no call allocates. */
 static void bounds_hold(journal from)
 {
     const uint64_t entries = lines_of(from) + 3;
@@ -336,7 +336,7 @@ static int64_t nanos_of(resumes *by, journal from)
     return (after.tv_sec - before.tv_sec) * 1000000000 + after.tv_nsec - before.tv_nsec;
 }
 
-/* The least of some rounds, since the machine may be busy. */
+/* The minimum of some rounds, because the machine may be busy. */
 static bool is_quick(resumes *by, journal from, bool tells)
 {
     int64_t least = INT64_MAX;

@@ -1,5 +1,5 @@
-/* What a program over the system's <mqueue.h> sees, a line for each thing. Run over the kernel's
- * queues and over libyakyrombe-mqueue it writes the same. */
+/* What a program over the system's <mqueue.h> observes, one line for each observation. It prints
+ * the same over the kernel's queues and over libyakyrombe-mqueue. */
 #define _GNU_SOURCE
 #include <errno.h>
 #include <fcntl.h>
@@ -27,7 +27,7 @@ static const char *said(long result)
     return text;
 }
 
-/* No deadline, which the kernel takes too. */
+/* No deadline; the kernel allows that too. */
 static const struct timespec *const volatile none = 0;
 
 #define SAY(call) (errno = 0, printf("%s: %s\n", #call, said((long)(call))))
@@ -101,7 +101,7 @@ static void await_sleep(void)
         pause_for(1);
 }
 
-/* Returns when the thread that was started waits: it sleeps, and has nothing else to sleep for. */
+/* Returns when the started thread waits: it sleeps, and has nothing else to sleep for. */
 static void await_wait(void)
 {
     await_step();
@@ -167,8 +167,8 @@ static void alone(void)
     SAY(mq_unlink("/yak-alone"));
 }
 
-/* Null pointers, pointers that lead nowhere, and lengths that no message has. Volatile, so that no
- * compiler looks into them. */
+/* Null pointers, invalid pointers, and lengths that no message has. Volatile, so that no compiler
+ * knows their values. */
 static struct mq_attr *volatile null_attr, *volatile bad_attr = (struct mq_attr *)8;
 static volatile size_t longest = (size_t)-1 / 2;
 
@@ -439,7 +439,7 @@ static void interrupt(const char *what, int flags, void *(*run)(void *), long ti
     pthread_create(&thread, 0, run, &time);
     await_wait();
     pthread_kill(thread, SIGUSR1);
-    /* ThreadSanitizer lets a handler run only when its thread wakes. */
+    /* ThreadSanitizer runs a handler only when its thread wakes. */
     for (int i = 0; i < 100 && atomic_load(&handled) == 0; ++i)
         pause_for(1);
     await_sleep();

@@ -1,7 +1,7 @@
-/* The log that a forked program keeps is made short again and again, and nothing of what is there
- * changes: messages with their priorities, in queues that have lost their names too and in such as
- * nobody holds; waits of receives and of sends in their order, also across processes; numbers with
- * gaps, access, flags and registrations. Memory stays flat.
+/* Checkpoints repeatedly shorten the log that a forked program keeps, and the state does not
+ * change: messages with their priorities, also in unlinked queues and in queues that no process has
+ * open; waits of receives and of sends in their order, also across processes; descriptors with
+ * gaps, access, flags and registrations. Memory stays constant.
  *
  * usage: shortened [CALLS] */
 #define _GNU_SOURCE
@@ -42,7 +42,7 @@ static void fill(mqd_t queue, const char *letters)
         WANT(mq_send(queue, &letters[i], 1, (unsigned)(letters[i] % 3)) == 0);
 }
 
-/* The letters that are left, in the order in which they are received. */
+/* The messages that are left, in the order in which they are received. */
 static bool has(mqd_t queue, const char *letters)
 {
     struct timespec past = {0, 0};
@@ -69,7 +69,7 @@ static void begin_queues(void)
     fill(deaf, "ab");
     WANT(mq_unlink("/yak-short-deaf") == 0);
     fill(open_one("/yak-short-left", O_RDWR), "kept");
-    WANT(mq_close(deaf - 1) == 0); /* of the queue that is left: its number was free */
+    WANT(mq_close(deaf - 1) == 0); /* that of the queue that was left: its number was free */
     empty = fresh("/yak-short-empty", 4, 8, 0);
     full = fresh("/yak-short-full", 2, 8, 0);
     fill(full, "ff");
@@ -106,7 +106,7 @@ static void end_queues(void)
     event.sigev_notify = SIGEV_NONE;
     WANT(mq_notify(told, &event) == -1 && errno == EBUSY && notices == 0);
     fill(told, "n");
-    /* ThreadSanitizer lets a handler run only when its thread wakes. */
+    /* ThreadSanitizer runs a handler only when its thread wakes. */
     WANT((notices == 1 || HAS_THREAD_SANITIZER) && mq_notify(told, &event) == 0);
 }
 
@@ -144,7 +144,7 @@ static void begin_wait(void *(*run)(void *), long which)
     fclose(nowhere);
 }
 
-/* Wait i is of the parent if i is even, and else of the child, which takes its turn by a pipe. */
+/* Wait i belongs to the parent if i is even, else to the child, which takes its turn by a pipe. */
 static int turns[2][2];
 
 static void await_turn(int of)

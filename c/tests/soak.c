@@ -1,10 +1,10 @@
-/* 64 threads call queues, with deadlines at all borders, while others cancel them, interrupt them
- * by handlers that make calls of their own, and fork. Each message is received as often as it was
- * sent, nobody waits for what is there, no wait is left open, and in a forked child, which has
+/* 64 threads make calls, with deadlines at all limits, while others cancel them, interrupt them
+ * with handlers that make calls of their own, and fork. Each message is received as often as it was
+ * sent, no call waits for what is there, no wait is left open, and in a forked child, which has
  * queues of its own (YAK_FORK=new), each call fails.
  *
- * usage: soak SECONDS CALLS [WHAT]     at least so many calls, spread over so many seconds. WHAT is
- * cancel for cancellations alone. */
+ * usage: soak SECONDS CALLS [WHAT]     at least CALLS calls, spread over SECONDS seconds. With
+ * WHAT = cancel there are only cancellations. */
 #define _GNU_SOURCE
 #include <errno.h>
 #include <fcntl.h>
@@ -26,18 +26,17 @@
 #include "stored.h"
 #include "want.h"
 
-/* ThreadSanitizer holds signals back from a thread that sleeps, and starts no thread beside a fork.
- */
+/* ThreadSanitizer delays signals to a sleeping thread, and starts no thread during a fork. */
 enum { HAS_HANDLERS = !HAS_THREAD_SANITIZER };
 
 enum { THREADS = 64, QUEUES = 5, STUCK = 60 };
 
-/* What the threads of a place have done, one after the other. */
+/* What the successive threads of a slot have done. */
 typedef struct slot {
     pthread_t thread;
     pthread_mutex_t changes; /* held while the thread is joined and another is started */
     _Atomic uint64_t random, calls, sent, sent_sum, received, received_sum;
-    /* By queue: how many calls without a deadline are under way. */
+    /* By queue: how many calls without a deadline are in progress. */
     atomic_int sends[QUEUES], receives[QUEUES];
 } slot;
 
@@ -59,7 +58,7 @@ static double now(void)
     return (double)t.tv_sec + (double)t.tv_nsec / 1e9;
 }
 
-/* The next number by xorshift. A handler may come between, and then two numbers are alike. */
+/* The next number by xorshift. If a handler interrupts it, two numbers can be the same. */
 static uint64_t next(_Atomic uint64_t *state)
 {
     uint64_t x = atomic_load(state);
@@ -90,8 +89,8 @@ static struct timespec after(uint64_t micros)
     return t;
 }
 
-/* A deadline: none, one to come, one that has passed, the first and the last moments, and what is
- * no moment. */
+/* A deadline: none, a future one, a past one, the first and the last moments, and an invalid
+ * moment. */
 static const struct timespec *deadline(uint64_t number, struct timespec *it)
 {
     static const struct timespec borders[] = {
@@ -115,7 +114,7 @@ static const struct timespec *deadline(uint64_t number, struct timespec *it)
     return it;
 }
 
-/* Whether a call may have failed so. */
+/* Whether a call may fail with this error. */
 static bool is_usual(void)
 {
     return errno == EAGAIN || errno == EINTR || errno == ETIMEDOUT || errno == EINVAL ||
@@ -128,7 +127,7 @@ static void in_child(void)
     char buf[8];
     if (getpid() == parent)
         return;
-    /* The library tells there if a handler had interrupted a call inside. */
+    /* There the library says if a handler had interrupted a call inside. */
     close(STDERR_FILENO);
     WANT(mq_getattr(queues[0], &attr) == -1 && (errno == EBADF || errno == ENOSYS));
     WANT(mq_send(queues[0], "a", 1, 0) == -1 && (errno == EBADF || errno == ENOSYS));
@@ -182,7 +181,7 @@ static void call_one(bool is_send, mqd_t queue, uint64_t id, const struct timesp
         receive_one(queue, until, is_timed);
 }
 
-/* Without a deadline. It is counted while it is under way, also if it is cancelled. */
+/* A call without a deadline. It is counted while it is in progress, even if it is cancelled. */
 static __attribute__((noinline)) void call_endless(bool is_send, int queue, uint64_t id,
                                                    bool is_timed)
 {
@@ -192,7 +191,7 @@ static __attribute__((noinline)) void call_endless(bool is_send, int queue, uint
     pthread_cleanup_pop(1);
 }
 
-/* Any call, which may wait. */
+/* A random call, which may wait. */
 static void call_any(_Atomic uint64_t *random)
 {
     struct timespec moment;
@@ -206,8 +205,8 @@ static void call_any(_Atomic uint64_t *random)
         call_endless(number % 2 == 0, queue, id, number % 16 >= 8);
 }
 
-/* A handler that interrupts malloc must not make calls, and the end of a thread and a fork do what
- * malloc does. */
+/* A handler that interrupts malloc must not make calls, and the end of a thread and a fork call
+ * malloc. */
 static void hold_signals(void *before)
 {
     sigset_t held;
@@ -230,7 +229,7 @@ static void fork_one(void)
     pthread_sigmask(SIG_SETMASK, &before, 0);
 }
 
-/* Interrupts a wait, or anything else; and makes calls of its own, which may wait for a moment. */
+/* Interrupts a wait, or anything else, and makes calls of its own, which may wait for a moment. */
 static void handle(int signal)
 {
     int error = errno, before;
@@ -260,8 +259,8 @@ static void handle(int signal)
 
 /* ---- threads ---- */
 
-/* Keeps the calls spread over the time. A thread is not cancelled in the sleep: the GNU C library
- * would cancel it in a call of a handler that interrupted the sleep, wherever the call is. */
+/* Spreads the calls over the time. A thread is not cancelled in the sleep: the GNU C library would
+ * cancel it at any point of a call that a handler makes during the sleep. */
 static void keep_pace(_Atomic uint64_t *random)
 {
     int before;
@@ -305,7 +304,7 @@ static void start(slot *it)
     WANT(pthread_create(&it->thread, 0, work, it) == 0);
 }
 
-/* Cancels the threads one after the other, and starts others. */
+/* Cancels one thread after the other, and starts new ones. */
 static void *cancel(void *of)
 {
     _Atomic uint64_t random = 88172645463325252u;
@@ -339,7 +338,7 @@ static void *interrupt(void *of)
     return 0;
 }
 
-/* Ends the program where no call comes to its end any more. */
+/* Ends the program if no call completes any more. */
 static void *watch(void *of)
 {
     uint64_t before = 0;
@@ -358,7 +357,7 @@ static void *watch(void *of)
     return 0;
 }
 
-/* Each child that ended has ended well; `all` waits for those that have not ended. */
+/* Each child that has ended succeeded; with `all`, waits for those that have not ended. */
 static void reap(bool all)
 {
     static long reaped;
@@ -380,7 +379,7 @@ static int count_of(bool is_send, int queue)
     return sum;
 }
 
-/* Whoever waits now without a deadline has nothing to wait for. */
+/* No call waits now without a deadline for something that is there. */
 static bool is_settled(void)
 {
     for (int queue = 0; queue < QUEUES; ++queue) {
@@ -406,8 +405,8 @@ static void end_threads(void)
     }
 }
 
-/* Messages are as many as were sent, and the same; each queue takes and gives as many as it has
- * room for, and a receive of none is late. */
+/* As many messages were received as sent, and the same ones; each queue takes and returns as many
+ * as it has room for, and a receive from an empty one times out. */
 static void conserved(void)
 {
     uint64_t sent = 0, sent_sum = 0, received = 0, received_sum = 0;

@@ -1,6 +1,6 @@
-/* A thread that is stopped outside the lock keeps nobody out: while one is held between its calls,
- * and one in a call that waits, two others make thousands of calls. A signal's handler holds them,
- * as a stop of that thread alone would. */
+/* A thread that is stopped outside the lock blocks no other: while one thread is held between its
+ * calls, and one in a waiting call, two others make thousands of calls. A signal handler holds
+ * them, as stopping just that thread would. */
 #define _GNU_SOURCE
 #include <fcntl.h>
 #include <pthread.h>
@@ -17,7 +17,7 @@ static atomic_bool goes_on;
 static sem_t held;
 static sem_t ready;
 
-/* Holds the thread until it may go on. */
+/* Holds the thread until it may continue. */
 static void hold(int signal)
 {
     (void)signal;
@@ -38,7 +38,7 @@ static mqd_t queue_of(const char *name)
     return it;
 }
 
-/* Makes a call, and is stopped behind it. */
+/* Makes a call, and is stopped after it. */
 static void *stops_between(void *of)
 {
     (void)of;
@@ -66,7 +66,7 @@ static void *stops_in_wait(void *of)
     return 0;
 }
 
-/* Sends and receives on a queue of its own name with the others that work. */
+/* Sends and receives on a queue that it shares with the other working threads. */
 static void *works(void *of)
 {
     (void)of;

@@ -1,4 +1,4 @@
-/* What a test of libyakyrombe-mqueue asks of the journal, if it is stored and if it is not. */
+/* What a test of libyakyrombe-mqueue expects of the journal, stored or not. */
 #ifndef YAK_TESTS_STORED_H
 #define YAK_TESTS_STORED_H
 

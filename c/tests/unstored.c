@@ -1,5 +1,5 @@
-/* A system whose journal is not stored: messages pass between two threads, and what would read the
- * journal is YAK_UNSTORED. */
+/* A system whose journal is not stored: messages pass between two threads, and calls that would
+ * read the journal return YAK_UNSTORED. */
 #include <yakyrombe.h>
 
 #include <pthread.h>
@@ -67,7 +67,7 @@ static void no_line(void *with, const uint8_t *text, size_t len)
     (void)len;
 }
 
-/* Each function that reads the journal says that it is not stored; room is without end. */
+/* Each function that reads the journal says that it is not stored; the room is unlimited. */
 static bool is_unstored(yak_process *process)
 {
     uint8_t line[64];

@@ -1,6 +1,6 @@
 /* The journal of the exported mq_* is stored if YAK_JOURNAL names a file at the first call, or
- * under a seed. Else yak_program_journal writes nothing and fails with ENOTSUP, as does
- * yak_program_check. The report says in either case who waits.
+ * under a seed. Otherwise yak_program_journal writes nothing and fails with ENOTSUP, and so does
+ * yak_program_check. In either case the report lists the waiting calls.
  *
  * usage: unstored_symbol [FILE]     FILE is named by YAK_JOURNAL after the first call */
 #define _GNU_SOURCE
@@ -25,7 +25,7 @@ static void *receive(void *of)
     return 0;
 }
 
-/* How many lines the report has, and that it returns that number. */
+/* How many lines the report has; it must return that number. */
 static int report_lines(void)
 {
     FILE *to = tmpfile();

@@ -1,7 +1,7 @@
-/* A program that uses no queue is not touched by the library: pthread_cancel makes no system, whose
- * journal would be written at the end, and in a forked child it tells nothing of queues, also in a
- * child of a program that uses them. So it is under a seed, and under a schedule. The argument is
- * used or unused. */
+/* The library does not affect a program that uses no queue: pthread_cancel makes no system, whose
+ * journal would be written at the end, and in a forked child it says nothing about queues, even in
+ * a child of a program that uses them. The same holds under a seed and under a schedule. The
+ * argument is used or unused. */
 #define _GNU_SOURCE
 #include <fcntl.h>
 #include <mqueue.h>
@@ -16,7 +16,7 @@
 
 static void *sleep_long(void *of)
 {
-    /* Under a seed a sleep is no cancellation point. */
+    /* Under a seed a sleep is not a cancellation point. */
     for (;;) {
         sleep(1);
         pthread_testcancel();

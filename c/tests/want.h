@@ -9,7 +9,7 @@
 #include <time.h>
 #include <unistd.h>
 
-/* Ends the process, a forked child too, where it does not hold. */
+/* Ends the process, also a forked child, if the condition is false. */
 #define WANT(what)                                                                        \
     do                                                                                    \
         if (!(what)) {                                                                    \
