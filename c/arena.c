@@ -1,5 +1,5 @@
-/* The shared memory of the program, and the allocator of the proved library over it. What is here
- * is called inside the lock of the program alone, so nothing else guards it. */
+/* The shared memory of the program, and the allocator of the proved library over it. All of this is
+ * called only inside the lock of the program, so nothing else guards it. */
 #define _GNU_SOURCE
 #include "arena.h"
 #include "memory.h"
@@ -10,8 +10,8 @@
 #include <unistd.h>
 
 /* Blocks of a class have one size: steps of 16 bytes up to 1 KiB, powers of two up to 256 KiB, and
- * powers of eight above, since pages that nobody touches cost nothing, and a vector that grows is
- * seldom copied. The class stands in front of each block. */
+ * powers of eight above, because untouched pages cost nothing, and a growing vector is then seldom
+ * copied. The class precedes each block. */
 enum {
     STEP = 16,
     SMALL = 1024,
@@ -20,15 +20,15 @@ enum {
     MIDDLE_CLASSES = 8,
     HEAD = 16,
     PAGE = 4096,
-    /* A part is opened by this much at least, and by half of what is open up to a limit. */
+    /* A part is opened by at least this much, and by half of what is open, up to a limit. */
     LEAST_OPENED = 1 << 20,
     MOST_OPENED = 64 << 20,
-    /* So much of a space that is left stays with its pages. */
+    /* An abandoned space keeps the pages of this many bytes. */
     KEPT_PAGES = 1 << 20
 };
 
 arena *arena_here;
-/* How far this process may use each part. */
+/* How much of each part this process can access. */
 static size_t followed[ARENA_PARTS];
 
 static size_t whole_pages(size_t size)
@@ -73,7 +73,7 @@ bool arena_open(unsigned part, size_t wanted)
     return true;
 }
 
-/* Lays the parts out behind the tables. */
+/* Lays out the parts after the tables. */
 static void lay_out(char *at, size_t tables)
 {
     const size_t kept = (size_t)4 << 20, sixth = (arena_here->size - tables - kept) / 6;
@@ -89,7 +89,7 @@ static void lay_out(char *at, size_t tables)
     begin_space(1);
 }
 
-/* Whether the system counts all memory that is mapped, used or not (vm.overcommit_memory). */
+/* Whether the system counts all mapped memory, used or not (vm.overcommit_memory). */
 static bool is_counted(void)
 {
     const int file = open("/proc/sys/vm/overcommit_memory", O_RDONLY | O_CLOEXEC);
@@ -182,7 +182,7 @@ static size_t size_of(unsigned class)
     return (size_t)MIDDLE * 8 << 3 * (class - SMALL_CLASSES - MIDDLE_CLASSES);
 }
 
-/* A block of a class from behind all others; null if the space can't be opened that far. */
+/* A new block of a class, after all others; null if the space can't be opened that far. */
 static __attribute__((noinline)) void *take_new(unsigned class)
 {
     arena_space *space = &arena_here->spaces[arena_here->space];
@@ -214,7 +214,7 @@ static void give(void *block)
 {
     arena_space *space = &arena_here->spaces[arena_here->space];
     const size_t class = *(size_t *)((char *)block - HEAD), size = size_of((unsigned)class);
-    /* Large ones give their pages back. */
+    /* Large blocks return their pages. */
     if (size > MIDDLE) {
         char *from = (char *)whole_pages((uintptr_t)block + sizeof(void *)),
              *to = (char *)(((uintptr_t)block + size) & ~(uintptr_t)(PAGE - 1));

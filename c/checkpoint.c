@@ -1,15 +1,15 @@
-/* The log begun anew: by records that lead to what is there now, from which the system is then made
- * again.
+/* Checkpoints: a new log with records that recreate the current state, from which the system is
+ * then rebuilt.
  *
- * What is there is taken out of the system, which is lost by that: first its waits are ended, then
- * its messages are received. If the process dies in between, the log before still counts, and the
- * next process makes the system again from that. */
+ * Taking the state out destroys the system: first its waits are ended, then its messages are
+ * received. If the process dies in between, the old log is still in use, and the next process
+ * rebuilds the system from that. */
 #define _GNU_SOURCE
 #include "log.h"
 
 #include <string.h>
 
-/* The log that is written, and where its next record begins; null once it had no room. */
+/* The log that is written, and the address of its next record; null once the log is full. */
 typedef struct writer {
     unsigned log;
     char *next;
@@ -21,8 +21,7 @@ static void put(writer *to, record it, const void *own, size_t own_size, const v
         to->next = log_write(to->log, to->next, it, own, own_size, bytes);
 }
 
-/* The names under which queues are created that have lost theirs. None of another queue begins so.
- */
+/* The names under which unlinked queues are recreated. No other queue has such a name. */
 static size_t name_of(unsigned slot, char *name)
 {
     const queue *it = &the_program.tables.queues[slot];
@@ -40,7 +39,7 @@ static bool is_taken(const char *name, size_t len)
     return log_is_named(&the_program.tables.queues[slot], (const uint8_t *)name, len);
 }
 
-/* Chooses a number for those names that no queue has. */
+/* Chooses a number for those names, so that no queue has one of them. */
 static void choose_names(void)
 {
     char name[LONGEST_NAME];
@@ -50,9 +49,10 @@ static void choose_names(void)
             ++the_program.serials, i = 0;
 }
 
-/* ---- what is there, taken out of the system ---- */
+/* ---- taking the state out of the system ---- */
 
-/* Ends the open waits: what was answered is kept, and the rest is withdrawn, to be begun again. */
+/* Ends the open waits: keeps what was answered, and withdraws the others, which are started again
+ * later. */
 static bool end_waits(void)
 {
     for (unsigned process = 0; process < PROCESSES; ++process) {
@@ -74,14 +74,14 @@ static bool end_waits(void)
     return true;
 }
 
-/* A process of the library with one of its descriptors. */
+/* A process of the library, and one of its descriptors. */
 typedef struct holder {
     unsigned process;
     uint32_t d;
     bool is_there;
 } holder;
 
-/* Who holds a queue; if `reads`, only such as can receive from it. */
+/* A process that has a queue open, and its descriptor; if `reads`, one that can receive from it. */
 static holder find_holder(unsigned slot, bool reads)
 {
     const tables *all = &the_program.tables;
@@ -96,8 +96,8 @@ static holder find_holder(unsigned slot, bool reads)
     return (holder){0, 0, false};
 }
 
-/* Opens a queue by its name by a waiter, in place of its first descriptor. All queues that have
- * lost their names are written by then, so nobody else looks for that. */
+/* Opens a queue by its name in a waiter, as its descriptor 0, which it closes first. By then all
+ * unlinked queues are written, so find_holder does not need that descriptor. */
 static holder open_holder(unsigned slot)
 {
     const unsigned process = (unsigned)__builtin_ctz(the_program.tables.waiters);
@@ -110,8 +110,8 @@ static holder open_holder(unsigned slot)
     return (holder){process, d, answer == YAK_DONE};
 }
 
-/* Writes the messages of a queue, which process DISPATCHER is to send by descriptor 0. Those of a
- * queue from which nobody can receive any more, now and ever, only count. */
+/* Writes the messages of a queue as sends of process DISPATCHER by descriptor 0. If no process can
+ * ever receive from the queue again, only the number of its messages matters. */
 static bool put_messages(writer *to, unsigned slot)
 {
     static uint8_t bytes[MOST_BYTES];
@@ -180,7 +180,7 @@ static bool put_queue(writer *to, unsigned slot)
     return true;
 }
 
-/* For whom a process holds a descriptor; FOR_NOBODY if it does not. */
+/* What a process holds a descriptor for; FOR_NOBODY if it does not hold it. */
 static opened held_by(unsigned process, uint32_t d)
 {
     const uint8_t replica = the_program.tables.replicas[process][d];
@@ -196,8 +196,8 @@ static opened held_by(unsigned process, uint32_t d)
                     .whose = it->made != 0 ? FOR_DESCRIPTION : FOR_NOBODY};
 }
 
-/* Opens what a process holds, under the same numbers. Those in between are opened too, and closed
- * at the end. */
+/* Opens what a process holds, under the same numbers. The numbers in between are opened too, and
+ * closed at the end. */
 static void put_descriptors(writer *to, unsigned process)
 {
     uint32_t count = PER_DISPATCHER;
@@ -243,7 +243,7 @@ static void put_registrations(writer *to)
     }
 }
 
-/* The waits in the order in which they began, and then those that have ended. */
+/* Writes the waits in the order in which they began, and then those that have ended. */
 static void put_waits(writer *to)
 {
     uint32_t left = 0;
@@ -273,8 +273,8 @@ static void put_waits(writer *to)
     }
 }
 
-/* Those that have lost their names are first, since what waiters hold of the others can be let go.
- */
+/* Writes the bound or the unlinked queues. Unlinked ones come first, because waiters can close the
+ * others and open them again by name. */
 static bool put_queues(writer *to, bool is_bound)
 {
     for (unsigned slot = 0; slot < QUEUES; ++slot) {
@@ -285,8 +285,8 @@ static bool put_queues(writer *to, bool is_bound)
     return true;
 }
 
-/* The bytes that the new log has at the most. What a queue has that nobody holds is not known, so
- * it may be full. */
+/* The greatest possible size of the new log. The contents of a queue that nobody has open are
+ * unknown, so it may be full. */
 static size_t most_bytes(void)
 {
     size_t most = 2 * (size_t)LOG_LIMIT + (size_t)PROCESSES * MOST_BYTES;
@@ -311,7 +311,7 @@ bool log_checkpoint(void)
     const arena_part *part = &the_program.arena.parts[ARENA_LOG + to.log];
     size_t size;
     to.next = part->from;
-    /* Nothing is taken out before there is room for it. */
+    /* The state is taken out only once there is room for it. */
     if (program_kept(PROCESSES - 1) == 0 || !arena_reaches(ARENA_LOG + to.log, most_bytes()))
         return false;
     the_program.is_torn = true;

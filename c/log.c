@@ -1,4 +1,4 @@
-/* The calls that change the state, with the log of them, and the system made again from it. */
+/* The calls that change the state, their log, and how the system is rebuilt from it. */
 #define _GNU_SOURCE
 #include "log.h"
 #include "explored_calls.h"
@@ -29,7 +29,7 @@ char *log_write(unsigned log, char *to, record it, const void *own, size_t own_s
     return to + whole;
 }
 
-/* Lets a call count whose record ends at a place. */
+/* Commits the call whose record ends here. */
 static inline void commit(unsigned log, char *next)
 {
     __atomic_store_n(&the_program.log_next[log], next, __ATOMIC_RELEASE);
@@ -38,12 +38,12 @@ static inline void commit(unsigned log, char *next)
                          false) &&
         !the_program.is_stored) {
         the_program.log_limit = SIZE_MAX;
-        ++the_program.arena.openings; /* so that the next call makes it short */
+        ++the_program.arena.openings; /* so that the next call makes a checkpoint */
     }
 }
 
-/* Appends a record, by which its call counts. If the log has no room, it ends, and a death inside
- * can't be mended any more. */
+/* Appends and commits the record of a call. If the log has no room, logging ends, and the system
+ * can't recover from a death inside the lock any more. */
 static void note(record it, const void *own, size_t own_size, const void *bytes)
 {
     const unsigned log = the_program.log;
@@ -102,7 +102,7 @@ unsigned log_queue(const uint8_t *name, size_t len)
     return room;
 }
 
-/* A queue that has lost its name is there as long as it is held. */
+/* An unlinked queue exists as long as a process has it open. */
 static void settle(unsigned slot)
 {
     const tables *all = &the_program.tables;
@@ -218,7 +218,7 @@ uint32_t did_open(unsigned process, opened *it, const uint8_t *name, size_t len,
         return answer;
     it->queue = (uint8_t)log_queue(name, len);
     if (!the_program.tables.queues[it->queue].is_there) {
-        /* A stored journal has no entry of this, and its log is never made short. */
+        /* A stored journal has no entry for this, and its log is never shortened. */
         if (!the_program.is_stored)
             READ(answer_of_read, yak_proved_getattr(at(process), *d, &now));
         else
@@ -332,7 +332,7 @@ uint32_t did_start(unsigned process, pending *it, const request *asked, yak_mess
     return answer;
 }
 
-/* What was kept of a wait that has ended before. */
+/* Takes the kept result of a wait that has already ended. */
 static uint32_t take_kept(unsigned process, uint8_t *buf, size_t len, yak_message *message)
 {
     const pending *it = &the_program.tables.waits[process];
@@ -378,7 +378,7 @@ uint32_t did_end(unsigned process, uint8_t *buf, size_t len, yak_message *messag
     return answer;
 }
 
-/* ---- the system made again ---- */
+/* ---- rebuilding the system ---- */
 
 static uint8_t room[MOST_BYTES];
 
@@ -451,7 +451,7 @@ static uint32_t keep_again(const record *it, const uint8_t *own)
     return YAK_DONE;
 }
 
-/* Makes the call of a record again: YAK_DONE, unless memory is refused. */
+/* Makes the call of a record again: YAK_DONE, unless an allocation fails. */
 static uint32_t do_again(const record *it)
 {
     const uint8_t *own = (const uint8_t *)(it + 1);

@@ -1,10 +1,10 @@
-/* The memory of the proved library, which takes and frees it by these three. A program that has
- * them of its own links no part of this file. */
+/* The allocator of the proved library, which calls these three functions. A program that defines
+ * its own links no part of this file. */
 #include "memory.h"
 
 #include <stdlib.h>
 
-/* The library asks for an alignment of 16 at most. */
+/* The library requests an alignment of at most 16. */
 _Static_assert(_Alignof(max_align_t) >= 16, "malloc aligns by 16");
 
 rattle_tried rattle_alloc(size_t size, size_t align)

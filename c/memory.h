@@ -1,11 +1,11 @@
-/* memory.h: the functions by which the proved library takes and frees its memory. */
+/* memory.h: the functions by which the proved library allocates and frees memory. */
 #ifndef YAKYROMBE_MEMORY_H
 #define YAKYROMBE_MEMORY_H
 
 #include <stdbool.h>
 #include <stddef.h>
 
-/* What was asked for, if `ok`; a pointer has the alignment also if memory was refused. */
+/* The allocated block, if `ok`; the pointer is aligned even if the allocation failed. */
 typedef struct rattle_tried {
     bool ok;
     void *p;
@@ -15,7 +15,7 @@ rattle_tried rattle_alloc(size_t size, size_t align);
 rattle_tried rattle_realloc(void *p, size_t kept, size_t size, size_t align);
 void rattle_dealloc(void *p);
 
-/* The answer for this block, or for a refusal if it is null. */
+/* The result for this block, or for a failed allocation if it is null. */
 static inline rattle_tried rattle_tried_with(void *p)
 {
     static _Alignas(16) char nothing[16];

@@ -1,6 +1,6 @@
-/* Descriptors for poll, select and epoll. Each is an eventfd, which a call that makes its queue
- * empty or not empty lowers or raises, inside the lock. If the call is made by another process, a
- * thread of the library does so here (notices.c). */
+/* Descriptors for poll, select and epoll. Each is an eventfd. A call that makes its queue empty or
+ * nonempty lowers or raises it, inside the lock. If another process makes the call, a thread of the
+ * library does so in this process (notices.c). */
 #define _GNU_SOURCE
 #include "log.h"
 
@@ -16,10 +16,10 @@ typedef struct polled {
     int file;
 } polled;
 
-/* By the description. They are used inside the lock. */
+/* Indexed by the description, and used inside the lock. */
 static polled all[DESCRIPTIONS];
 
-/* Makes the file readable if the queue has a message, and else not. */
+/* Makes the file readable if the queue has a message, otherwise unreadable. */
 static void renew(uint32_t d)
 {
     polled *it = &all[d];
@@ -77,7 +77,7 @@ void program_drop_poll(uint32_t d)
     --the_program.polls;
 }
 
-/* Makes the file of a description: 0, or an error of the machine. */
+/* Makes the file of a description: 0, or an errno value. */
 static int add(uint32_t d)
 {
     const int file = eventfd(0, EFD_CLOEXEC | EFD_NONBLOCK);

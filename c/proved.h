@@ -1,10 +1,10 @@
 /* proved.h: the exports of the proved library, which wait.c and libyakyrombe-mqueue call.
  *
- * Each makes one try of its call and never sleeps: YAK_RETRY if the process did not come inside the
- * lock by this try. It is on its way then and keeps others out, until a call on it comes inside.
- * The proved library exports yak_open and so on; c/Makefile gives its symbols the names that stand
- * here, so that yak_open is the call that waits for the lock, from C and from every other language
- * that links the archive. */
+ * Each makes one attempt of its call and never sleeps. It returns YAK_RETRY if the process did not
+ * acquire the lock. Then the acquisition is in progress, and blocks others until a call on the
+ * handle acquires the lock. The proved library exports yak_open and so on; c/Makefile renames its
+ * symbols to the names declared here. So yak_open is the call that waits for the lock, from C and
+ * from every other language that links the archive. */
 #ifndef YAKYROMBE_PROVED_H
 #define YAKYROMBE_PROVED_H
 
@@ -37,7 +37,7 @@ uint32_t yak_proved_entry(yak_process *process, uint64_t place, uint8_t *text, s
                           size_t *len);
 uint32_t yak_proved_room(yak_process *process, yak_room_left *room);
 uint32_t yak_proved_nobody_can_call(yak_process *process);
-/* Empties the handle, also if its process has an open wait. */
+/* Empties the handle, even if its process has an open wait. */
 uint32_t yak_proved_free(yak_process *process);
 /* Which futex word the process sleeps on (wait.h). */
 uint32_t yak_proved_futex_word(yak_process *process, uint32_t *futex_word);

@@ -1,17 +1,17 @@
-/* the_program.h: what the exported calls of libyakyrombe-mqueue are made of.
+/* the_program.h: the state and the functions behind the exported calls of libyakyrombe-mqueue.
  *
  * One system of the library serves the whole program, with its forked children. Its process 1 is a
  * dispatcher: it holds a descriptor for each open description of the program, always nonblocking,
- * and makes each call on it. If a send or a receive is refused with YAK_AGAIN, and the description
- * is blocking, it is made again by a waiter: of the processes that are not dispatchers and have no
- * open wait, the lowest that holds the queue, or if none does, the lowest with room, which opens
- * it. The waiter keeps the call until its wait ends. So the order of messages, who is served and
- * every refusal are the library's. If the program has more than 16 open descriptions, waiters
- * become dispatchers, from process 32 down.
+ * and makes each call on it. If a send or a receive fails with YAK_AGAIN, and the description is
+ * blocking, a waiter makes it again: of the processes that are not dispatchers and have no open
+ * wait, the lowest that has the queue open, or if none does, the lowest with a free descriptor,
+ * which opens it. The waiter keeps the call until its wait ends. So the library decides the order
+ * of messages, which wait is served, and every error. If the program has more than 16 open
+ * descriptions, waiters become dispatchers, from process 32 down.
  *
- * All of this lies in memory that parent and forked children share (arena.h), and is guarded by one
- * lock, which is held for the time of a call and never while a call waits. If a process dies inside
- * it, the next one makes the system again from the log (log.h).
+ * All of this is in memory that parent and forked children share (arena.h). One lock guards it; it
+ * is held during a call and never while a call waits. If a process dies inside it, the next one
+ * rebuilds the system from the log (log.h).
  */
 #ifndef YAKYROMBE_THE_PROGRAM_H
 #define YAKYROMBE_THE_PROGRAM_H
@@ -37,29 +37,29 @@
 
 enum {
     PROCESSES = 32,
-    DISPATCHER = 0,      /* the first dispatcher; it stands for no waiter, and its word is that of
-                            overflow calls */
-    HOMES = 8,           /* at the most */
+    DISPATCHER = 0, /* the first dispatcher; as a waiter it means none, and overflow calls sleep
+                       on its word */
+    HOMES = 8,      /* the most dispatchers */
     PER_DISPATCHER = 16, /* descriptors that a process of the library holds */
     DESCRIPTIONS = HOMES * PER_DISPATCHER,
-    NUMBERS = 128, /* descriptors of one process of the machine */
-    OWNERS = 1024, /* processes of the machine that share the arena */
+    NUMBERS = 128, /* descriptors of one operating-system process */
+    OWNERS = 1024, /* operating-system processes that share the arena */
     QUEUES = 64,   /* as in the library */
-    DUE = 16,      /* notices that a process has not taken yet */
+    DUE = 16,      /* the most notices that a process has not taken yet */
     LONGEST_NAME = 256,
     MOST_BYTES = 65536, /* of a message */
-    /* The number of the first descriptor: far from those of files, so that a call on files refuses
-       it. */
+    /* The number of the first descriptor: far above file descriptors, so that calls on files fail
+       with it. */
     FIRST = 1000,
-    /* What an entry takes of a stored journal, beside its name or message, and how much more one
-       does that has a deadline, limits or the value of a registration. */
+    /* The bytes of an entry in a stored journal, without its name or message, and the additional
+       bytes of one with a deadline, limits or the value of a registration. */
     ENTRY_BYTES = 64,
     MORE_BYTES = 56,
     /* The error stream says when a stored journal has taken this much: 1 GB. */
     LARGE = 1000000000
 };
 
-/* ---- the tables that the log tells: they are made again with the system ---- */
+/* ---- the tables that the log determines: they are rebuilt with the system ---- */
 
 typedef struct queue {
     bool is_there; /* it has its name, or a process of the library holds it */
@@ -72,13 +72,13 @@ typedef struct queue {
 
 /* An open description: number i is descriptor i % 16 of dispatcher i / 16. */
 typedef struct description {
-    unsigned made; /* which open of the program it is from, counted from 1; 0 if there is none */
+    unsigned made; /* the open of the program that made it, counted from 1; 0 if it is unused */
     uint8_t queue;
     uint8_t access;
 } description;
 
-/* A registration, by the description that it was made with. Its function and its attributes lie in
- * the process that made it (notices.c). */
+/* A registration, indexed by the description that it was made with. Its function and its attributes
+ * are in the process that made it (notices.c). */
 typedef struct registration {
     bool is_set;
     uint16_t owner;
@@ -89,21 +89,21 @@ typedef struct registration {
     uint64_t serial;
 } registration;
 
-/* The open wait of a waiter. The bytes of a send, or those of a receive that has ended, are kept
- * beside it (ARENA_KEPT). */
+/* The open wait of a waiter. The bytes of a send, or those of a receive that has ended, are kept in
+ * ARENA_KEPT. */
 typedef struct pending {
     bool is_open;
     bool is_send;
     bool is_timed;
-    bool has_ended; /* the library has no wait any more, and its answer is kept here */
+    bool has_ended; /* the library no longer has the wait, and its result is kept here */
     uint8_t queue;
     uint16_t owner;
     uint32_t d;     /* the waiter's descriptor */
-    uint64_t order; /* waits are begun in it */
+    uint64_t order; /* its number in the order in which waits began */
     uint32_t prio;
     size_t len;
     yak_moment until, now;
-    yak_moment since; /* what a report says: when it began, by which thread, on which number */
+    yak_moment since; /* for reports: when it began, in which thread, on which descriptor */
     pid_t tid;
     int number;
     yak_message message;
@@ -114,98 +114,98 @@ typedef struct tables {
     description descriptions[DESCRIPTIONS];
     registration registrations[DESCRIPTIONS];
     uint8_t replicas[PROCESSES]
-                    [PER_DISPATCHER]; /* by a waiter's descriptor: its queue and 1, or 0 */
-    uint32_t holders[QUEUES];         /* the waiters that hold a queue, by bits */
+                    [PER_DISPATCHER]; /* by a waiter's descriptor: its queue plus 1, or 0 */
+    uint32_t holders[QUEUES];         /* the waiters that have a queue open, by bits */
     pending waits[PROCESSES];
     uint32_t waiters; /* the processes that are not dispatchers, by bits */
     uint32_t idle;    /* the waiters without an open wait */
     uint32_t registered;
 } tables;
 
-/* ---- processes of the machine ---- */
+/* ---- operating-system processes ---- */
 
 enum { OWNER_FREE, OWNER_COMING, OWNER_LIVE };
 
 typedef struct owner {
     _Atomic uint32_t state;
-    unsigned life;  /* how often the place was taken */
-    pid_t pid;      /* while it comes, that of its parent */
-    uint64_t start; /* when the machine started it */
-    /* Of a child that comes, in milliseconds: when its parent forked, and when that was over, so
-       that the child is there or will never be; 0 before. */
+    unsigned life;  /* how often the slot was taken */
+    pid_t pid;      /* while it is coming, that of its parent */
+    uint64_t start; /* when the operating system started it */
+    /* For a child that is coming, in milliseconds: when its parent forked; and when the fork was
+       over, so that the child exists or never will; 0 before. */
     uint64_t forked;
     _Atomic uint64_t is_made;
-    bool is_apart;   /* it goes on with a call of its parent before it comes */
-    uint64_t looked; /* when another process looked whether it lives, in milliseconds */
-    /* Held by the thread that came with it. The kernel marks it when that thread ends, and at
+    bool is_apart;   /* it completes a call of its parent before it joins */
+    uint64_t looked; /* when another process last checked whether it lives, in milliseconds */
+    /* Held by the first thread of the process. The kernel marks it when that thread ends, and at
        exec. */
     pthread_mutex_t alive;
-    uint8_t numbers[NUMBERS]; /* a description and 1, or 0 */
+    uint8_t numbers[NUMBERS]; /* a description plus 1, or 0 */
     uint32_t overflow;
     uint32_t own_threads;        /* threads of the library */
     _Atomic uint32_t futex_word; /* on which its notifier sleeps */
     uint32_t polls;              /* how many descriptors for poll it has */
-    uint64_t due[DUE];           /* serials of its notices that a thread of its own is to take */
+    uint64_t due[DUE];           /* serials of notices that its notifier thread has to take */
     unsigned due_count;
 } owner;
 
 /* A send or a receive. */
 typedef struct request {
     const char *call;
-    int number; /* as the program has it */
+    int number; /* the descriptor that the program passed */
     bool is_send;
     bool is_timed;
     bool is_reply;    /* it is a receive, and the thread's last send or receive was a send */
-    yak_moment until; /* the last moment of all if it is not timed */
+    yak_moment until; /* program_never if it is not timed */
     uint8_t *bytes;
     size_t len;
     uint32_t prio;
 } request;
 
-/* How a wait ended that another call of its thread has ended. It is kept for the call that waited,
- * unless that is known to be left. */
+/* The result of a wait that another call of its thread has ended. It is kept for the call that
+ * waited, unless a jump is known to have left that call. */
 typedef struct ending {
-    unsigned number; /* of the wait; 0 if there is no such ending */
+    unsigned number; /* of the wait; 0 if there is no such result */
     uint32_t answer; /* YAK_TIMEDOUT if the wait was withdrawn */
     yak_message message;
     uint8_t *bytes;    /* what a receive got */
-    const void *frame; /* a place of the stack that lies in the call */
+    const void *frame; /* a stack address inside the call */
     int cancelling;    /* the cancelability state of the thread outside the call */
 } ending;
 
-/* The wait of a thread, which has one at most. It is thread-local and not on the stack, where it
- * would be lost if a handler left the call by a jump. */
+/* The wait of a thread, which has at most one. It is thread-local, because on the stack it would be
+ * lost if a handler jumped out of the call. */
 typedef struct waiting {
-    unsigned number; /* of the wait, counted from 1 through the program; 0 if none is open */
+    unsigned number; /* of the wait, counted from 1 in the whole program; 0 if none is open */
     request asked;
     pthread_t thread;
-    pid_t tid; /* its thread, as the kernel counts them */
+    pid_t tid; /* the kernel's id of its thread */
     uint32_t d;
     yak_moment since;
     bool is_cancelled;
     unsigned process; /* DISPATCHER if no waiter was left */
     const void *frame;
-    int cancelling; /* as of an ending */
+    int cancelling; /* as in an ending */
     uint8_t name[LONGEST_NAME];
     size_t len;
     ending ended;
     struct waiting *next;
 } waiting;
 
-/* What all processes of the machine share. */
+/* What all operating-system processes of the program share. */
 typedef struct program {
-    pthread_mutex_t lock; /* its memory alone: lock.c */
+    pthread_mutex_t lock; /* only its memory is used: lock.c */
     arena arena;
     bool is_ready;
-    bool is_stored;         /* the journal is */
-    bool is_logged;         /* the log counts */
+    bool is_stored;         /* the journal is stored */
+    bool is_logged;         /* calls are logged */
     _Atomic bool is_shared; /* other processes may sleep on the words of the waits */
-    bool is_torn;           /* the system is to be made again before the next call */
-    bool is_lost;           /* it can't be */
-    int64_t until_large; /* how many bytes the journal may still take; below 0 the error stream is
-                            to say that it is large. If it is not stored, it never is */
+    bool is_torn;           /* the system has to be rebuilt before the next call */
+    bool is_lost;           /* the system can't be rebuilt */
+    int64_t until_large; /* how many bytes the journal may still take; below 0 the error stream has
+                            to say that it is large. A journal that is not stored never is */
     unsigned opens;
-    unsigned waited; /* how many waits were opened */
+    unsigned waited; /* how many waits were started */
     unsigned closes; /* how often a description was closed */
     uint64_t serials;
     uint32_t overflow; /* how many calls wait without a waiter */
@@ -213,27 +213,27 @@ typedef struct program {
     yak_process processes[PROCESSES];
     tables tables;
     bool nonblock[DESCRIPTIONS];
-    /* The names of the queues in the reports, also of those that have lost theirs. */
+    /* The names of the queues for the reports, also of unlinked ones. */
     size_t lens[QUEUES];
     uint8_t names[QUEUES][LONGEST_NAME];
-    unsigned seen_closes[PROCESSES];  /* at which a waiter has let go what nobody holds */
-    _Atomic uint32_t news[PROCESSES]; /* how often there was news for the wait of a waiter, and for
-                                         those without one by the dispatcher's */
-    unsigned log;                     /* which of the two counts */
+    unsigned seen_closes[PROCESSES];  /* `closes` when a waiter last released what nobody holds */
+    _Atomic uint32_t news[PROCESSES]; /* how often there was news for the wait of a waiter; that of
+                                         the dispatcher is for overflow calls */
+    unsigned log;                     /* which of the two logs is in use */
     char *log_next[2];
-    size_t log_limit;     /* in bytes: then it is made short */
-    unsigned owners_used; /* places behind it are free */
+    size_t log_limit;     /* in bytes: at this size a checkpoint is made */
+    unsigned owners_used; /* slots from here on are free */
     owner owners[OWNERS];
 } program;
 
-/* What this process knows of itself, in a page that a fork wipes. program_after_fork writes it
- * again; a child that was made without it (_Fork, clone) has no part in the queues. */
+/* What this process knows about itself, in a page that a fork wipes. program_after_fork writes it
+ * again; a child of _Fork or clone, which do not call that, can't use the queues. */
 typedef struct here {
-    owner *me;     /* null if it has no part */
-    unsigned seen; /* which openings of the arena it has followed; 0 before its first call */
+    owner *me;     /* null if it can't use the queues */
+    unsigned seen; /* the openings of the arena that it has followed; 0 before its first call */
 } here;
 
-/* Seen in the library alone, so that they are reached without a table. */
+/* Visible only inside the library, so that no GOT is needed to reach them. */
 #pragma GCC visibility push(hidden)
 
 /* Where a thread is, for a handler that interrupts it. */
@@ -242,7 +242,7 @@ enum { OUTSIDE, INSIDE, WAITING };
 extern program *program_at;
 #define the_program (*program_at)
 extern here *program_here;
-/* Whether ThreadSanitizer is told of the lock. */
+/* Whether to tell ThreadSanitizer about the lock. */
 extern bool program_is_watched;
 extern _Thread_local volatile int program_place;
 /* Whether the last send or receive of this thread was a send. */
@@ -252,7 +252,7 @@ extern _Thread_local waiting program_own_wait;
 extern waiting *program_waits;
 
 /* The word on which the wait of a process of the library sleeps. Until the first fork it is private
- * to the process of the machine, for which the kernel takes less time. */
+ * to the operating-system process, which is faster in the kernel. */
 static inline yak_word_ program_news(unsigned process)
 {
     const yak_word_ news = {
@@ -267,10 +267,10 @@ static inline unsigned program_owner_number(void)
     return (unsigned)(program_here->me - the_program.owners);
 }
 
-/* The last moment of all, which stands for the deadline of a call without one. */
+/* The last moment, used as the deadline of a call without one. */
 static const yak_moment program_never = {.sec = INT64_MAX, .nsec = 999999999};
 
-/* What a registration of this process has that others can't use. */
+/* The part of a registration that only its process can use. */
 typedef struct own_part {
     uint64_t serial; /* of the registration; 0 if there is none */
     union sigval value;
@@ -279,7 +279,7 @@ typedef struct own_part {
     pthread_attr_t attributes;
 } own_part;
 
-/* The notices that a call has brought, to be delivered. */
+/* The notices that a call has caused, to be delivered. */
 typedef struct notice {
     registration it;
     own_part part;
@@ -292,23 +292,23 @@ typedef struct notices {
 
 /* ---- the lock (lock.c) ---- */
 
-/* The number of this thread, 0 before its first call, and the place at which the kernel finds, if
- * the thread dies, which lock it held or was about to take. */
+/* The number of this thread, 0 before its first call; and the place where the kernel finds, if the
+ * thread dies, which lock it held or was acquiring. */
 extern _Thread_local volatile int program_thread;
 extern _Thread_local void *volatile *program_pending;
 void program_meet_thread(void);
-/* Takes the lock if the first try was in vain: 0, ENOTRECOVERABLE or ENOMEM, and then it is left.
- */
+/* Acquires the lock after the first attempt failed: 0, or ENOTRECOVERABLE or ENOMEM without the
+ * lock. */
 int program_lock_slowly(void);
-/* What is left of program_unlock if others sleep. */
+/* The rest of program_unlock, if other threads sleep. */
 void program_wake_next(void);
-/* Leaves the lock and wakes those whose waits were answered. If the process is killed in it, it has
- * woken them, or is known to have died inside. */
+/* Releases the lock and wakes the threads whose waits were answered. If the process is killed in
+ * this, it has woken them, or is known to have died inside the lock. */
 void program_leave_waking(uint32_t answered);
 void program_tell_locked(void);
 void program_tell_unlocked(bool is_before);
 void program_tell_forked(bool is_inside);
-/* Makes the system, at the first call: 0, or ENOMEM, and then the lock is left. */
+/* Makes the system, at the first call: 0, or ENOMEM with the lock released. */
 int program_first(void);
 
 #define PROGRAM_WORD (&the_program.lock.__data.__lock)
@@ -347,17 +347,19 @@ static inline void program_leave(void)
     program_unlock(OUTSIDE);
 }
 
-/* Comes into the lock in a process without a part, in a handler, or behind a jump out of a wait: 0,
- * or ENOSYS without a part, which the error stream tells once, EDEADLK in a handler that
- * interrupted another call inside, ENOMEM. A wait of this thread is ended first: the call that
- * began it finds its ending, unless a handler has left that call by a jump. */
+/* Acquires the lock in a process that can't use the queues, in a handler, or after a jump out of a
+ * wait. Returns 0; or ENOSYS if the process can't use the queues, which the error stream says once;
+ * EDEADLK in a handler that interrupted another call inside the lock; or ENOMEM. A wait of this
+ * thread is ended first: the call that began it finds the result, unless a handler has jumped out
+ * of that call. */
 int program_enter_apart(void);
-/* Does what is to be done before a call, inside the lock: makes the system, at the first; opens
- * what others have opened; makes the log short. 0, or ENOMEM or ENOTRECOVERABLE, and then the lock
- * is left. */
+/* The work before a call, inside the lock: makes the system at the first call, opens the memory
+ * that others have opened, and makes checkpoints. 0, or ENOMEM or ENOTRECOVERABLE with the lock
+ * released.
+ */
 int program_attend(void);
 
-/* Takes the lock, and does that. */
+/* Acquires the lock, and does that work if there is some. */
 static inline int program_come_in(void)
 {
     const int error = program_lock();
@@ -367,8 +369,8 @@ static inline int program_come_in(void)
                                                                                  : 0;
 }
 
-/* Comes into the program's lock: 0, or one of those errors. Nothing that is called from there on
- * until program_leave is a cancellation point, or cancellation is disabled there. */
+/* Acquires the program's lock: 0, or one of those errors. From here to program_leave, no call is a
+ * cancellation point, or cancellation is disabled. */
 static inline int program_enter(void)
 {
     if (program_place != OUTSIDE || program_here->me == 0)
@@ -376,24 +378,24 @@ static inline int program_enter(void)
     return program_come_in();
 }
 
-/* The same for a call that is none on queues: a wait that its handler has interrupted stays open.
- * The place is to be given to program_unlock. */
+/* The same for a call that is not on queues: a wait that its handler has interrupted stays open.
+ * The place has to be passed to program_unlock. */
 int program_enter_aside(int *place);
 
 /* Writes a line to the error stream, outside the lock; the thread can't be cancelled there. */
 void program_say(const char *line);
-/* Writes something that this process does, if YAK_VERBOSE is 1. */
+/* Writes what this process does, if YAK_VERBOSE is 1. */
 void program_tell(const char *what);
 
 /* ---- calls of the library ---- */
 
-/* Makes a call of a process that leaves no entry; inside the lock nothing keeps it out. */
+/* Makes a call of a process that leaves no entry. Inside the program's lock, nothing blocks it. */
 #define READ(answer, call) \
     do                     \
         (answer) = (call); \
     while ((answer) == YAK_RETRY)
 
-/* Counts what a call leaves in the journal; inside the lock. */
+/* Counts the bytes that a call adds to the journal; inside the lock. */
 static inline void program_count(size_t bytes)
 {
     the_program.until_large -= (int64_t)bytes;
@@ -406,15 +408,15 @@ static inline void program_count(size_t bytes)
         program_count(ENTRY_BYTES); \
     } while (0)
 
-/* The description that this process holds under a number; DESCRIPTIONS or more if it holds none. */
+/* The description that this process has under a number; DESCRIPTIONS or more if it has none. */
 static inline uint32_t program_number(int mqdes)
 {
     const uint32_t number = (uint32_t)mqdes - FIRST;
     return number < NUMBERS ? program_here->me->numbers[number] - 1u : (uint32_t)DESCRIPTIONS;
 }
 
-/* The process of the library that holds a description, and by which descriptor; the first
- * dispatcher and a number that it does not hold if there is no such description. */
+/* The dispatcher that holds a description, and its descriptor there; if there is no such
+ * description, the first dispatcher and a descriptor that it does not have. */
 static inline unsigned program_dispatcher_of(uint32_t d)
 {
     return d < PER_DISPATCHER || d >= DESCRIPTIONS ? (unsigned)DISPATCHER
@@ -437,7 +439,7 @@ static inline bool program_is_waiter(unsigned process)
     return (the_program.tables.waiters & 1u << process) != 0;
 }
 
-/* Whether two descriptions are of one queue. */
+/* Whether two descriptions refer to the same queue. */
 static inline bool program_is_same_queue(uint32_t one, uint32_t other)
 {
     const description *first = &the_program.tables.descriptions[one],
@@ -462,34 +464,34 @@ static inline __attribute__((always_inline)) uint32_t program_try(bool is_send, 
     return answer;
 }
 
-/* An idle waiter that holds the queue of this description too, by which descriptor; or DISPATCHER
- * if there is none. */
+/* An idle waiter that has the queue of this description open too, and its descriptor there; or
+ * DISPATCHER if there is none. */
 unsigned program_choose(uint32_t d, uint32_t *there);
-/* A waiter whose wait has ended lets go what nobody holds any more. */
+/* Makes a waiter whose wait has ended close the queues that nobody has open any more. */
 void program_release(unsigned process);
-/* Lets all idle waiters hold the queue with this name, before it loses its name. */
+/* Makes all idle waiters open the queue with this name, before it is unlinked. */
 void program_replicate_all(const uint8_t *name, size_t len);
 /* Makes a waiter a dispatcher: false if it has an open wait, or keeps a descriptor. */
 bool program_take_dispatcher(unsigned process);
-/* Closes a description that nobody holds any more, and what waiters hold for it. */
+/* Closes a description that nobody holds any more, and the descriptors of waiters for it. */
 uint32_t program_close_description(uint32_t d);
-/* The bytes beside the open wait of a waiter; null if memory was refused. */
+/* The kept bytes of the open wait of a waiter; null if an allocation failed. */
 uint8_t *program_kept(unsigned process);
 
-/* Notes inside the lock whose waits the last call of a process has answered, and after it wakes
- * them. */
+/* program_note_answers records, inside the lock, whose waits the last call of a process has
+ * answered; after the lock is released, the next function wakes them. */
 uint32_t program_note_answers(unsigned process);
 void program_wake_them(uint32_t answered);
 
-/* What becomes of a send or a receive. */
+/* How a send or a receive ended. */
 typedef enum fate {
     ANSWERED,    /* the library has answered it */
-    INTERRUPTED, /* its wait was, by a handler: EINTR */
+    INTERRUPTED, /* a handler interrupted its wait: EINTR */
     CANCELLED,
-    WITHDRAWN, /* its wait was, by a call of a handler: it is begun again */
-    /* Of these the lock is not held: */
-    LOST,   /* its thread is in a child now, which a handler forked: EINTR there */
-    ANEW,   /* the same if the handler restarts calls: it is to begin anew there */
+    WITHDRAWN, /* a call of a handler withdrew its wait: it starts again */
+    /* With these the lock is not held: */
+    LOST,   /* its thread is now in a child, which a handler forked: EINTR there */
+    ANEW,   /* the same if the handler restarts calls: the call starts again there */
     REFUSED /* `error` says why */
 } fate;
 
@@ -501,68 +503,68 @@ typedef struct outcome {
     };
 } outcome;
 
-/* Makes a call that the dispatcher would wait in, by the process that is written then, and waits
- * until it is answered. The lock is held before it, not while it sleeps, and after it but for what
- * `fate` says. After a wait cancellation is disabled, and its state from before is written. */
+/* Makes a call that would make the dispatcher wait, by a waiter, which it writes to `process`, and
+ * waits until it is answered. The lock is held before it, not while it sleeps, and after it except
+ * as `fate` says. After a wait cancellation is disabled, and its earlier state is written. */
 outcome program_wait(unsigned *process, uint32_t d, const request *asked, yak_message *message,
                      int *cancelling);
-/* Ends the open wait of this thread for another call of the thread; inside the lock. ENOMEM if it
- * stays open. */
+/* Ends the open wait of this thread, so that the thread can make another call; inside the lock.
+ * ENOMEM if it stays open. */
 int program_end_own_wait(void);
 /* Ends the open wait of a thread that ends. */
 void program_end_with_thread(void *unused);
 
-/* mq_notify's part, and what a call on a description may have brought. */
+/* The registration of mq_notify on a description. */
 int program_register(uint32_t d, const struct sigevent *event, uint32_t *answer);
-/* Ends the registration that a process has by a description that it lets go. */
+/* Ends the registration that a process made by a description that it closes. */
 void program_unregister(uint32_t d, unsigned owner);
 /* Takes the notices of the queue of a description, or with DESCRIPTIONS of all queues. Those for
- * other processes are delivered inside the lock, so that a death loses none; those for this one
- * by program_deliver, outside. */
+ * other processes are delivered inside the lock, so that the death of this process loses none;
+ * those for this one by program_deliver, outside the lock. */
 void program_collect_notices(uint32_t d, notices *found);
 void program_deliver(notices *found);
-/* Lets a thread of the library wait for what other processes send. */
+/* Starts the thread of the library that waits for what other processes send. */
 void program_begin_notifier(void);
-/* Whether this process is to be told by a thread. */
+/* Whether this process has registrations with SIGEV_THREAD. */
 bool program_has_thread_notices(void);
-/* In a child there is nothing of that. */
+/* Forgets all of that, in a child. */
 void program_forget_notices(void);
 /* Wakes the thread of the library in another process. */
 void program_ring(owner *to);
 
 /* ---- descriptors for poll (polls.c), all inside the lock ---- */
 
-/* Raises or lowers those of the queue of a description, or with DESCRIPTIONS of all queues: those
- * of this process; those of all processes. */
+/* Raises or lowers those of the queue of a description, or with DESCRIPTIONS of all queues: first
+ * those of this process, then those of all processes. */
 void program_renew_polls(uint32_t d);
 void program_tell_polls(uint32_t d);
-/* Whether this process has one. In a child there is none. */
+/* Whether this process has one. A child has none at first. */
 bool program_has_polls(void);
 void program_forget_polls(void);
-/* Ends that of a description, if there is one. */
+/* Closes that of a description, if there is one. */
 void program_drop_poll(uint32_t d);
 
-/* ---- the processes of the machine (family.c) ---- */
+/* ---- operating-system processes (family.c) ---- */
 
-/* Takes away what dead processes held; inside the lock. */
+/* Releases what dead processes held; inside the lock. */
 void program_sweep(void);
-/* Whether a process with an open wait may have died; by one load for each that waits. */
+/* Whether a process with an open wait may have died, by one load for each waiting one. */
 bool program_has_dead_waiter(void);
-/* Whether no other process has a part. */
+/* Whether no other process shares the queues. */
 bool program_is_alone(void);
 /* Whether the processes of this program share their queues: no seed decides, and YAK_FORK is not
  * new. */
 bool program_shares(void);
-/* If YAK_FORK is neither of its words, says so on the error stream. */
+/* If YAK_FORK is neither new nor shared, says so on the error stream. */
 void program_read_fork_word(void);
 /* Whether a process holds this description. */
 bool program_is_held(uint32_t d);
-/* Mends what a process that died inside may have left undone. */
+/* Completes what a process that died inside the lock may have left undone. */
 void program_mend(void);
-/* How often this thread has come into a child by a fork. */
+/* How many forks lead from the first process of the program to this one. */
 unsigned program_forks(void);
-/* What is left of leaving the lock in a child that a handler made inside a call: it comes back to
- * what it shares. */
+/* The rest of releasing the lock in a child that a handler forked inside a call: it returns to the
+ * shared memory. */
 extern bool program_is_apart;
 void program_come_to_family(void);
 /* Whether this process writes the journal at its end: the first one, and the last. */
@@ -570,13 +572,13 @@ bool program_keeps_journal(void);
 
 /* The file that the environment asks to write the journal to, or null. */
 const char *program_journal_path(void);
-/* The journal, to a file; inside the lock. */
+/* Writes the journal to a file; inside the lock. */
 void program_write_journal(void *with, FILE *to);
-/* Inside the lock, whether the error stream is to say now that the journal is large, and outside
- * it, says so. */
+/* The first function returns, inside the lock, whether to say now that the journal is large; the
+ * second says so on the error stream, outside the lock. */
 bool program_is_to_warn(void);
 void program_warn(void);
-/* Begins what the environment asks for. */
+/* Starts the reports that the environment asks for. */
 void program_begin_reports(void);
 
 #pragma GCC visibility pop
