@@ -110,7 +110,7 @@ static void end_queues(void)
     WANT((notices == 1 || HAS_THREAD_SANITIZER) && mq_notify(told, &event) == 0);
 }
 
-/* ---- who waits ---- */
+/* ---- waits ---- */
 
 static void *receive_one(void *of)
 {

@@ -104,7 +104,7 @@ impl Model {
     /// every order that can matter has been tried.
     ///
     /// For that, `yak-explore` runs the test's own executable, for this test only. It is the file
-    /// that `YAKYROMBE_EXPLORER` names, or the one beside the library of the crate, or the one on
+    /// that `YAKYROMBE_EXPLORER` names, or the one next to the library of the crate, or the one on
     /// the `PATH`. Each run repeats what the test does before this call, and not what follows it.
     ///
     /// Steps are the calls on queues, those of [`sync`](crate::sync), and starts, ends, joins,

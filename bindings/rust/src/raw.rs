@@ -337,7 +337,7 @@ impl Handle {
 
     /// The number of its process, from 1.
     pub fn number(&self) -> u32 {
-        // SAFETY: nobody writes the fields meanwhile.
+        // SAFETY: no other code writes the fields meanwhile.
         unsafe { (*self.0.get()).number }
     }
 
@@ -345,7 +345,7 @@ impl Handle {
     #[cfg(feature = "futures")]
     #[inline]
     pub fn answered_others(&self) -> u32 {
-        // SAFETY: nobody writes the fields meanwhile.
+        // SAFETY: no other code writes the fields meanwhile.
         unsafe { (*self.0.get()).answered }
     }
 
@@ -431,7 +431,7 @@ impl Handle {
         message: &mut Message,
         until: Moment,
     ) -> u32 {
-        // SAFETY: as of `receive`, and the moment lives through the call.
+        // SAFETY: as for `receive`, and the moment lives through the call.
         unsafe {
             yak_clock_receive(
                 self.0.get(),
@@ -463,7 +463,7 @@ impl Handle {
         until: Moment,
         now: Moment,
     ) -> u32 {
-        // SAFETY: as of `receive`, and the moments live through the call.
+        // SAFETY: as for `receive`, and the moments live through the call.
         unsafe {
             yak_start_timed_receive(
                 self.0.get(),
@@ -492,12 +492,12 @@ impl Handle {
     }
 
     pub fn collect(&self, buf: &mut [u8], message: &mut Message) -> u32 {
-        // SAFETY: as of `receive`.
+        // SAFETY: as for `receive`.
         unsafe { yak_collect(self.0.get(), buf.as_mut_ptr(), buf.len(), message) }
     }
 
     pub fn end_wait(&self, buf: &mut [u8], message: &mut Message, now: Moment) -> u32 {
-        // SAFETY: as of `receive`, and the moment lives through the call.
+        // SAFETY: as for `receive`, and the moment lives through the call.
         unsafe { yak_end_wait(self.0.get(), buf.as_mut_ptr(), buf.len(), message, &now) }
     }
 
