@@ -1,5 +1,5 @@
-/* Waits that began before the first fork are answered by a child: of receives, of sends, with a
- * deadline, and of more threads than wait in order. */
+/* A child answers waits that began before the first fork: receives, sends, waits with a deadline,
+ * and those of more threads than wait in order. */
 #define _GNU_SOURCE
 #include <pthread.h>
 #include <stdio.h>

@@ -1,5 +1,5 @@
-/* A wait is made by a process of the library that holds the queue already: with more queues than
- * one process holds, each is opened for a wait once. Run with YAK_JOURNAL. */
+/* A process of the library that already has the queue open makes a wait: with more queues than one
+ * process can have open, each is opened only once for waits. Run with YAK_JOURNAL. */
 #define _GNU_SOURCE
 #include <fcntl.h>
 #include <mqueue.h>
