@@ -138,7 +138,7 @@ static void quote_message(struct line *line, const char *message, size_t len)
     free(copy);
 }
 
-/* The name of an error that a history can have, or a text that no history has. */
+/* The name of an error that a history can express; null for any other. */
 static const char *name_of(int error)
 {
     switch (error) {
@@ -169,7 +169,7 @@ static const char *name_of(int error)
     }
 }
 
-/* Starts the line of a call. A thread makes one call at a time. */
+/* Writes the line of a call that begins. A thread makes one call at a time. */
 static uint64_t begin(struct line *call)
 {
     uint64_t began = moment();

@@ -149,8 +149,8 @@
 //!
 //! Any call can also fail with [`NoMemory`](Error::NoMemory) in a system without bounds, and with
 //! [`JournalFull`](Error::JournalFull) in one with bounds. Such a call changes nothing and has no
-//! entry in the journal. A call that fails with [`Waiting`](Error::Waiting) has none either. Every
-//! other call has an entry.
+//! entry in the journal. A call that fails with [`Waiting`](Error::Waiting), or has a malformed
+//! name, has no entry either. Every other call on queues has one.
 //!
 //! # What to keep in mind
 //!

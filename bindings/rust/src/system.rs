@@ -185,9 +185,9 @@ impl Builder {
 
     /// Stores the journal, with at most this many entries, and this many bytes of names and
     /// messages. All memory that the calls of the system need is allocated when it is built. A call
-    /// that finds the journal full fails with [`JournalFull`](Error::JournalFull). A call that
-    /// waits without a deadline then never returns: wait with a deadline, or check the
-    /// [`room`](Process::room) first.
+    /// that finds the journal full fails with [`JournalFull`](Error::JournalFull). Then no call
+    /// serves a wait, and an unserved one without a deadline never ends: wait with a deadline, or
+    /// check the [`room`](Process::room) first.
     ///
     /// This replaces an earlier [`journal`](Builder::journal).
     pub fn bounded(mut self, entries: u64, bytes: u64) -> Builder {
