@@ -16,6 +16,8 @@ machine the_machine;
 /* The number of this thread; 0 if the machine does not know it, and HAS_LEFT once it has ended. */
 enum { HAS_LEFT = MACHINE_SEATS + 1 };
 static __thread unsigned number_here;
+/* Whether the thread is parked, where a signal handler may interrupt it. */
+static __thread volatile bool is_parked;
 
 /* ThreadSanitizer, if it is there, is told that a turn comes after the one before it. */
 extern void __tsan_acquire(void *at) __attribute__((weak));
@@ -466,20 +468,20 @@ bool machine_act(const machine_op *op)
 {
     static const struct timespec moment = {.tv_nsec = 1000};
     seat *it = machine_seat();
-    if (it->state == SEAT_PARKED)
+    if (is_parked)
         machine_stop("a signal handler, which interrupted a thread that is parked, made a call");
     if (the_machine.seed != 0)
         the_machine.now = machine_later(&moment);
     it->op = *op;
     it->state = SEAT_PARKED;
     it->is_late = false;
-    if (!the_machine.chooses) {
-        if (goes_on_alone(it))
-            return true;
+    is_parked = true;
+    if (the_machine.chooses || !goes_on_alone(it)) {
         machine_begin_choices();
+        if (choose() != it)
+            await_turn(it);
     }
-    if (choose() != it)
-        await_turn(it);
+    is_parked = false;
     /* A wait for a condition ends with its mutex, also then. */
     if (machine_is_cancelled_in(it) && op->kind != STEP_WAKE)
         pthread_testcancel();
@@ -597,9 +599,12 @@ void machine_sit_down(seat *it, bool is_first)
     it->thread = pthread_self();
     it->tid = gettid();
     pthread_setspecific(the_machine.key, &the_machine);
-    if (!is_first)
-        await_turn(it);
-    if (the_machine.sees_memory && !is_first)
+    if (is_first)
+        return;
+    is_parked = true;
+    await_turn(it);
+    is_parked = false;
+    if (the_machine.sees_memory)
         forget_stack();
 }
 
