@@ -188,12 +188,14 @@ static void end_thread(void *of)
 static void in_child(void)
 {
     the_machine.is_on = the_machine.is_on && the_machine.seed != 0;
-    if (!machine_decides())
+    if (!the_machine.is_on)
         return;
+    the_machine.process = getpid();
     for (unsigned i = 0; i < the_machine.used; ++i)
-        if (&the_machine.seats[i] != machine_seat())
+        if (i + 1 == machine_number())
+            the_machine.seats[i].tid = the_machine.process;
+        else
             the_machine.seats[i].state = SEAT_OUT;
-    machine_seat()->tid = the_machine.process = getpid();
 }
 
 /* Maps the memory of yak-explore, by the numbers of its files: those of the memory and of the
