@@ -62,7 +62,7 @@ enum {
     X(STORE, "setattr", "an atomic store", "an atomic store")                     \
     X(READ, "getattr", "a read", "a read")                                        \
     X(WRITE, "setattr", "a write", "a write")                                     \
-    X(HANDLE, "setattr", "a call on queues", "a call on queues")
+    X(HANDLE, "setattr", "a call on", "a call on")
 
 typedef enum yak_kind {
 #define YAK_KIND(name, word, call, timed_call) STEP_##name,

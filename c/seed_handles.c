@@ -41,12 +41,8 @@ static void await_answer(yak_process *process, const yak_moment *until, const ch
     machine_waits(is_answered, process, until != 0 ? &end : 0, what);
 }
 
-static struct timespec now(void)
-{
-    return the_machine.now;
-}
-
-const yak_turns_ machine_turns = {.turn = take_turn, .await_answer = await_answer, .now = now};
+const yak_turns_ machine_turns = {
+    .turn = take_turn, .await_answer = await_answer, .now = yak_seed_now};
 
 uint64_t machine_entries(uint64_t before)
 {
