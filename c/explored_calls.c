@@ -85,7 +85,8 @@ void explored_transfer(bool is_send, int mqdes, size_t len, unsigned prio,
         op.flags |= YAK_NEVER_BLOCKS;
     else if (the_program.nonblock[d])
         op.flags |= YAK_TRY;
-    else if (queue_of(d)->object != 0)
+    /* By a seed the call waits in the library, where reports and notices see it. */
+    else if (queue_of(d)->object != 0 && the_machine.seed == 0)
         op.with = (void *)(uintptr_t)queue_of(d);
     machine_act(&op);
 }
@@ -217,8 +218,12 @@ static bool has_changed(void *of)
 
 void explored_await(const _Atomic uint32_t *word, uint32_t value, const struct timespec *until)
 {
+    const waiting *here = &program_own_wait;
     looked with = {.word = word, .value = value};
-    machine_waits(has_changed, &with, until, 0);
+    char what[LONGEST_NAME + 64];
+    snprintf(what, sizeof what, "%s on %.*s", here->asked.call, (int)here->len,
+             (const char *)here->name);
+    machine_waits(has_changed, &with, until, what);
 }
 
 void explored_journal(void)
