@@ -1,5 +1,4 @@
-//! Async tasks in one thread, with an executor over `std`: numbers pass through a queue that holds
-//! one message.
+//! Async tasks in one thread, with an executor over `std`, pass numbers through a short queue.
 
 use std::future::Future;
 use std::sync::{atomic::AtomicBool, atomic::Ordering::SeqCst, Arc};
