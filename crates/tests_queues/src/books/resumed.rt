@@ -88,7 +88,6 @@ const ENOUGH: Bounds = Bounds {
 #[test]
 fn every_call_goes_on_within_bounds(rt: HostRuntime) {
     expect_resumed(&rt, rt.alloc(), Some(ENOUGH), &CALLS);
-    expect_resumed(&rt, rt.alloc(), Some(ENOUGH), &ADMITTED);
 }
 
 #[test]
