@@ -3,9 +3,9 @@
 #define _GNU_SOURCE
 #include <pthread.h>
 #include <stdio.h>
-#include <yakyrombe/program.h>
 
 #include "family.h"
+#include "reported.h"
 
 enum { RECEIVERS = 40, SENDERS = 2 };
 
@@ -25,15 +25,6 @@ static void *sends(void *of)
     (void)of;
     WANT(mq_send(full, "b", 1, 0) == 0);
     return 0;
-}
-
-static void await_waits(int count)
-{
-    FILE *nowhere = fopen("/dev/null", "w");
-    WANT(nowhere != 0);
-    while (yak_program_report(nowhere) < count)
-        pause_for(1);
-    fclose(nowhere);
 }
 
 static void answer_all(void)

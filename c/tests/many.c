@@ -13,26 +13,15 @@
 #include <stdlib.h>
 #include <string.h>
 #include <time.h>
-#include <yakyrombe/program.h>
 
+#include "reported.h"
 #include "stored.h"
-#include "want.h"
 
 enum { IN_ORDER = 31, CROWD = 40, ROUNDS = 5 };
 
 static mqd_t queue;
 static int given[CROWD];
 static sem_t begun;
-
-/* Returns when `count` calls wait. */
-static void await_waits(int count)
-{
-    FILE *nowhere = fopen("/dev/null", "w");
-    WANT(nowhere != 0);
-    while (yak_program_report(nowhere) < count)
-        pause_for(1);
-    fclose(nowhere);
-}
 
 static mqd_t fresh(const char *name, long maxmsg)
 {
