@@ -5,12 +5,12 @@ use Rattle.schedules.specs.Outcomes.{AreAll, AreDistinct, IsWitness}
 use Rattle.schedules.specs.Work.{TakesAll}
 use Rattle.schedules.specs.declared.outcomes.Collected.{Collected}
 use Rattle.script_orders.specs.Orders.{AreLegal}
-use Rattle.script_orders.specs.Stage.{Stage, choice_count, first_stage, next_stage, stands_still, told}
+use Rattle.script_orders.specs.Stage.{Stage, choice_count, first_stage, next_stage, observed, stands_still}
 use Rattle.journal_tasks.specs.EveryOrder.{AreFound, answer_text}
 
 pub found-from : (budget : ℕ) (play : Stage) (collected : Collected) → first_stage play ≡ play →
-    All (IsWitness next_stage stands_still told (first_stage play)) collected.found.items → AreDistinct collected.found.items →
-    (collected.complete ≡ true → AreAll next_stage stands_still told (first_stage play) collected.found.items) →
+    All (IsWitness next_stage stands_still observed (first_stage play)) collected.found.items → AreDistinct collected.found.items →
+    (collected.complete ≡ true → AreAll next_stage stands_still observed (first_stage play) collected.found.items) →
     (collected.complete ≡ false → TakesAll next_stage choice_count (λ depth. 1) budget (first_stage play)) →
     AreLegal (first_stage play) → AreFound budget play collected
 found-from budget play collected first witnessed distinct all used_up legal =

@@ -14,7 +14,7 @@ use Rattle.schedules.specs.declared.outcomes.Collected.{Collected}
 use Rattle.schedules.specs.declared.outcomes.Witnessed.{Witnessed}
 use Rattle.script_orders.specs.Orders.{AreLegal, BeginsAfter}
 use Rattle.script_orders.specs.Report.{report_text}
-use Rattle.script_orders.specs.Stage.{Stage, choice_count, next_stage, stands_still, told}
+use Rattle.script_orders.specs.Stage.{Stage, choice_count, next_stage, observed, stands_still}
 use Rattle.journal_tasks.specs.Start.{IsNoStart}
 use Rattle.journal_tasks.specs.declared.every_order.Ending.{Ending}
 use Rattle.journal_tasks.specs.declared.every_order.Ending.TheVariants.{Well, NoSuch, Deadlock, OutOfBudget}
@@ -32,9 +32,9 @@ ending_status OutOfBudget = 6
 -- the same. If the search is complete there is nothing else. If not, a complete one takes at least
 -- as many steps as the budget. The journal after each schedule is legal.
 pub record AreFound (budget : ℕ) (from : Stage) (collected : Collected) : Type 0 where
-  pub witnessed : All (IsWitness next_stage stands_still told from) collected.found.items
+  pub witnessed : All (IsWitness next_stage stands_still observed from) collected.found.items
   pub distinct : AreDistinct collected.found.items
-  pub all : collected.complete ≡ true → AreAll next_stage stands_still told from collected.found.items
+  pub all : collected.complete ≡ true → AreAll next_stage stands_still observed from collected.found.items
   pub used_up : collected.complete ≡ false → TakesAll next_stage choice_count (λ depth. 1) budget from
   pub legal : AreLegal from
 

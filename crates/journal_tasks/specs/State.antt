@@ -32,16 +32,16 @@ pub record IsTextOf (wanted : Wanted) (past : Past) (text : List ℕ) : Type 0 w
   pub state : text ≡ state wanted.form (entries_wanted wanted past)
 
 -- The text of that state was appended to known bytes; or they are unchanged, and there is a reason.
-abbrev pub IsTold : Wanted → Past → Option NoState → Option (List ℕ) → Option (List ℕ) → Type 0
-IsTold wanted past None old new = (text : List ℕ) × IsTextOf wanted past text × known.Appends old new text
-IsTold wanted past (Some why) old new = LacksState wanted past why × (new ≡ old)
+abbrev pub IsShown : Wanted → Past → Option NoState → Option (List ℕ) → Option (List ℕ) → Type 0
+IsShown wanted past None old new = (text : List ℕ) × IsTextOf wanted past text × known.Appends old new text
+IsShown wanted past (Some why) old new = LacksState wanted past why × (new ≡ old)
 
 -- the same for the journal with this text
 pub record Tells (bytes : List ℕ) (wanted : Wanted) (why : Option NoState) (old new : Option (List ℕ)) : Type 0 where
   pub past : Past
   pub fits : AllFit past
   pub text : bytes ≡ journal_text past
-  pub told : IsTold wanted past why old new
+  pub told : IsShown wanted past why old new
 
 -- a proper prefix of the text of that state was appended to known bytes
 pub record TellsInPart (bytes : List ℕ) (wanted : Wanted) (old new : Option (List ℕ)) : Type 0 where

@@ -9,7 +9,7 @@ ghost use Rattle.script_text.specs.Script.{Whole, said_script, script_written};
 ghost use Rattle.mq_model.specs.Legality.{Legal};
 ghost use Rattle.schedules.specs.Schedules.{after};
 ghost use Rattle.schedules.specs.Outcomes.{IsWitness};
-ghost use Rattle.script_orders.specs.Stage.{first_stage, next_stage, stands_still, told};
+ghost use Rattle.script_orders.specs.Stage.{first_stage, next_stage, observed, stands_still};
 ghost use Rattle.journal_tasks.specs.EveryOrder.{Answers, AnswersAfter, AnswersAfterInPart, AnswersInPart, AnswersOrNot, AreFound, answer_ending, answer_text, ending_of, ending_status, has_deadlock, journal_of, numbered};
 
 use crate::start::{NoStart, start_after};
@@ -201,7 +201,7 @@ fn answer_text(
     collected: &Collected,
     trial: Trial,
 ) -> Result<Vec<u8>, AllocError>
-    requires { All (IsWitness next_stage stands_still told
+    requires { All (IsWitness next_stage stands_still observed
         (first_stage play.old)) collected.now.found.items }
     ensures { IfOk result (λ text. text.items ≡
         answer_text trial.journal trial.budget phases (first_stage play.old) collected.now) }

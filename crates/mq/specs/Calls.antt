@@ -84,8 +84,8 @@ pub record Calls (old new : Ticket Record) (own : Past) : Type 0 where
   pub grows : Grows author old.number old.left new.left own
 
 -- If a poll has told the process that its wait is answered, it has left a journal that answers it.
-abbrev pub KeepsTold : Ticket Record → Ticket Record → Type 0
-KeepsTold old new = old.told ≡ true → is_answered new.left new.number ≡ true
+abbrev pub KeepsAnswered : Ticket Record → Ticket Record → Type 0
+KeepsAnswered old new = old.told ≡ true → is_answered new.left new.number ≡ true
 
 -- The journal that a call found. The call added its record to it, and its reply is `JournalFull` if
 -- and only if it found the journal full.

@@ -49,7 +49,7 @@ impl<L: Look<Guarded>> Guard<L> {
     ghost use Rattle.mq_state.specs.Requests.{Brings};
     ghost use Rattle.mq.specs.Kinds.{IsOf, IsCall, IsWaiting, IsOver};
     ghost use Rattle.mq.specs.Blocked.{is_blocked};
-    ghost use Rattle.mq.specs.Calls.{IsFree, Calls, KeepsTold, WaitsIn};
+    ghost use Rattle.mq.specs.Calls.{IsFree, Calls, KeepsAnswered, WaitsIn};
 
     /// As [`Process::make`].
     #[inline(always)]
@@ -87,7 +87,7 @@ impl<L: Look<Guarded>> Guard<L> {
         ensures calls { Calls self.process result.0 [] }
         ensures wait { waiting_room result.0.left result.0.number ≡
             waiting_room self.process.left self.process.number }
-        ensures told { KeepsTold self.process result.0 }
+        ensures told { KeepsAnswered self.process result.0 }
     {
         let (inside, state) = begin::<L>(self.walk, self.number);
         let blocked = all_blocked(&state.books, processes);
@@ -100,7 +100,7 @@ impl<L: Look<Guarded>> Guard<L> {
         ensures calls { Calls self.process result [] }
         ensures wait { waiting_room result.left result.number ≡
             waiting_room self.process.left self.process.number }
-        ensures told { KeepsTold self.process result }
+        ensures told { KeepsAnswered self.process result }
     {
         self.are_blocked(mq, &[]).0
     }

@@ -14,23 +14,23 @@ use Rattle.mq_equivalence.specs.Views.{Message, Registered, Sender}
 use Rattle.mq_equivalence.specs.Key.{access_number, bytes_code, codes, deadline_code, description_code, index_of, limits_code, listed, message_code, number, optional, registered_code, sender_code, signed, test}
 
 -- a value and the numbers after it can both be decoded
-abbrev pub IsTold : {X : Type 0} → (X → List ℕ) → Type 0
-IsTold {X} code = (x y : X) (u v : List ℕ) → code x ++ u ≡ code y ++ v → (x ≡ y) × (u ≡ v)
+abbrev pub IsDecodable : {X : Type 0} → (X → List ℕ) → Type 0
+IsDecodable {X} code = (x y : X) (u v : List ℕ) → code x ++ u ≡ code y ++ v → (x ≡ y) × (u ≡ v)
 
-pub told-number : IsTold number
-told-number x y u v e = (cc, cc)
+pub decodable-number : IsDecodable number
+decodable-number x y u v e = (cc, cc)
 
-pub told-test : IsTold test
-told-test false false u v e = (refl, cc)
-told-test true true u v e = (refl, cc)
-told-test false true u v e = absurd (cc)
-told-test true false u v e = absurd (cc)
+pub decodable-test : IsDecodable test
+decodable-test false false u v e = (refl, cc)
+decodable-test true true u v e = (refl, cc)
+decodable-test false true u v e = absurd (cc)
+decodable-test true false u v e = absurd (cc)
 
-told-signed : IsTold signed
-told-signed (pos n) (pos m) u v e = (cc, cc)
-told-signed (negsuc n) (negsuc m) u v e = (cc, cc)
-told-signed (pos n) (negsuc m) u v e = absurd (cc)
-told-signed (negsuc n) (pos m) u v e = absurd (cc)
+decodable-signed : IsDecodable signed
+decodable-signed (pos n) (pos m) u v e = (cc, cc)
+decodable-signed (negsuc n) (negsuc m) u v e = (cc, cc)
+decodable-signed (pos n) (negsuc m) u v e = absurd (cc)
+decodable-signed (negsuc n) (pos m) u v e = absurd (cc)
 
 told-access : (a b : Access) → access_number a ≡ access_number b → a ≡ b
 told-access Read Read e = refl
@@ -52,23 +52,23 @@ told-bytes (x ∷ xs) (y ∷ ys) u v n e =
 told-bytes [] (y ∷ ys) u v n e = absurd (omega arith)
 told-bytes (x ∷ xs) [] u v n e = absurd (omega arith)
 
-pub told-optional : {X : Type 0} (code : X → List ℕ) → IsTold code → IsTold (optional code)
-told-optional code told None None u v e = (refl, cc)
-told-optional code told (Some x) (Some y) u v e = let rest = told x y u v (cc) in (ap Some rest.0, rest.1)
-told-optional code told None (Some y) u v e = absurd (cc)
-told-optional code told (Some x) None u v e = absurd (cc)
+pub decodable-optional : {X : Type 0} (code : X → List ℕ) → IsDecodable code → IsDecodable (optional code)
+decodable-optional code told None None u v e = (refl, cc)
+decodable-optional code told (Some x) (Some y) u v e = let rest = told x y u v (cc) in (ap Some rest.0, rest.1)
+decodable-optional code told None (Some y) u v e = absurd (cc)
+decodable-optional code told (Some x) None u v e = absurd (cc)
 
-told-codes : {X : Type 0} (code : X → List ℕ) → IsTold code → (xs ys : List X) (u v : List ℕ) → length xs ≡ length ys → codes code xs ++ u ≡ codes code ys ++ v → (xs ≡ ys) × (u ≡ v)
-told-codes code told [] [] u v n e = (refl, e)
-told-codes code told (x ∷ xs) (y ∷ ys) u v n e =
+decodable-codes : {X : Type 0} (code : X → List ℕ) → IsDecodable code → (xs ys : List X) (u v : List ℕ) → length xs ≡ length ys → codes code xs ++ u ≡ codes code ys ++ v → (xs ≡ ys) × (u ≡ v)
+decodable-codes code told [] [] u v n e = (refl, e)
+decodable-codes code told (x ∷ xs) (y ∷ ys) u v n e =
     let first = told x y (codes code xs ++ u) (codes code ys ++ v) (sym (append_assoc (code x) (codes code xs) u) ∙ e ∙ append_assoc (code y) (codes code ys) v) in
-    let rest = told-codes code told xs ys u v (omega arith) first.1 in
+    let rest = decodable-codes code told xs ys u v (omega arith) first.1 in
     (rw (first.0, rest.0) refl, rest.1)
-told-codes code told [] (y ∷ ys) u v n e = absurd (omega arith)
-told-codes code told (x ∷ xs) [] u v n e = absurd (omega arith)
+decodable-codes code told [] (y ∷ ys) u v n e = absurd (omega arith)
+decodable-codes code told (x ∷ xs) [] u v n e = absurd (omega arith)
 
-pub told-listed : {X : Type 0} (code : X → List ℕ) → IsTold code → IsTold (listed code)
-told-listed code told xs ys u v e = told-codes code told xs ys u v (cc) (cc)
+pub decodable-listed : {X : Type 0} (code : X → List ℕ) → IsDecodable code → IsDecodable (listed code)
+decodable-listed code told xs ys u v e = decodable-codes code told xs ys u v (cc) (cc)
 
 abbrev attr : ℤ → ℤ → Attr
 attr m n = record { maxmsg = m; msgsize = n }
@@ -78,10 +78,10 @@ attr-same a b d e =
     let goes : (m n k l : ℤ) → m ≡ k → n ≡ l → attr m n ≡ attr k l = λ m n k l d e. cc in
     goes a.maxmsg a.msgsize b.maxmsg b.msgsize d e
 
-pub told-limits : IsTold limits_code
-told-limits a b u v e =
-    let first = told-signed a.maxmsg b.maxmsg (signed a.msgsize ++ u) (signed b.msgsize ++ v) (sym (append_assoc (signed a.maxmsg) (signed a.msgsize) u) ∙ e ∙ append_assoc (signed b.maxmsg) (signed b.msgsize) v) in
-    let rest = told-signed a.msgsize b.msgsize u v first.1 in
+pub decodable-limits : IsDecodable limits_code
+decodable-limits a b u v e =
+    let first = decodable-signed a.maxmsg b.maxmsg (signed a.msgsize ++ u) (signed b.msgsize ++ v) (sym (append_assoc (signed a.maxmsg) (signed a.msgsize) u) ∙ e ∙ append_assoc (signed b.maxmsg) (signed b.msgsize) v) in
+    let rest = decodable-signed a.msgsize b.msgsize u v first.1 in
     (attr-same a b first.0 rest.0, rest.1)
 
 abbrev moment : ℤ → ℤ → Deadline
@@ -92,14 +92,14 @@ moment-same a b d e =
     let goes : (m n k l : ℤ) → m ≡ k → n ≡ l → moment m n ≡ moment k l = λ m n k l d e. cc in
     goes a.sec a.nsec b.sec b.nsec d e
 
-pub told-deadline : IsTold deadline_code
-told-deadline a b u v e =
-    let first = told-signed a.sec b.sec (signed a.nsec ++ u) (signed b.nsec ++ v) (sym (append_assoc (signed a.sec) (signed a.nsec) u) ∙ e ∙ append_assoc (signed b.sec) (signed b.nsec) v) in
-    let rest = told-signed a.nsec b.nsec u v first.1 in
+pub decodable-deadline : IsDecodable deadline_code
+decodable-deadline a b u v e =
+    let first = decodable-signed a.sec b.sec (signed a.nsec ++ u) (signed b.nsec ++ v) (sym (append_assoc (signed a.sec) (signed a.nsec) u) ∙ e ∙ append_assoc (signed b.sec) (signed b.nsec) v) in
+    let rest = decodable-signed a.nsec b.nsec u v first.1 in
     (moment-same a b first.0 rest.0, rest.1)
 
-pub told-bytes_code : IsTold bytes_code
-told-bytes_code xs ys u v e = told-bytes xs ys u v (cc) (cc)
+pub decodable-bytes_code : IsDecodable bytes_code
+decodable-bytes_code xs ys u v e = told-bytes xs ys u v (cc) (cc)
 
 abbrev registered : ℕ → ℕ → ℕ → Registered
 registered p d v = record { process = p; d = d; value = v }
@@ -109,8 +109,8 @@ registered-same a b c d e =
     let goes : (p q m n k l : ℕ) → p ≡ q → m ≡ n → k ≡ l → registered p m k ≡ registered q n l = λ p q m n k l c d e. cc in
     goes a.process b.process a.d b.d a.value b.value c d e
 
-pub told-registered : IsTold registered_code
-told-registered a b u v e = (registered-same a b (cc) (cc) (cc), cc)
+pub decodable-registered : IsDecodable registered_code
+decodable-registered a b u v e = (registered-same a b (cc) (cc) (cc), cc)
 
 -- descriptions of queues with the same index in two lists
 pub record SameDescription (qs ks : List ℕ) (g h : Description) : Type 0 where
@@ -127,7 +127,7 @@ SameHeld qs ks (Some g) None = ⊥
 pub told-held : (qs ks : List ℕ) (o p : Option Description) (u v : List ℕ) → optional (description_code qs) o ++ u ≡ optional (description_code ks) p ++ v → SameHeld qs ks o p × (u ≡ v)
 told-held qs ks None None u v e = (tt, cc)
 told-held qs ks (Some g) (Some h) u v e =
-    let rest = told-test g.nonblock h.nonblock u v (cc) in
+    let rest = decodable-test g.nonblock h.nonblock u v (cc) in
     (record { queue = cc; access = told-access g.access h.access (cc); nonblock = rest.0 }, rest.1)
 told-held qs ks None (Some h) u v e = absurd (cc)
 told-held qs ks (Some g) None u v e = absurd (cc)
@@ -140,8 +140,8 @@ message-same m n d e =
     let goes : (a b : ℕ) (xs ys : List ℕ) → a ≡ b → xs ≡ ys → message a xs ≡ message b ys = λ a b xs ys d e. cc in
     goes m.prio n.prio m.bytes n.bytes d e
 
-pub told-message : IsTold message_code
-told-message m n u v e =
+pub decodable-message : IsDecodable message_code
+decodable-message m n u v e =
     let rest = told-bytes m.bytes n.bytes u v (cc) (cc) in
     (message-same m n (cc) rest.0, rest.1)
 
@@ -153,9 +153,9 @@ sender-same s t d e =
     let goes : (a b : ℕ) (m n : Message) → a ≡ b → m ≡ n → sender a m ≡ sender b n = λ a b m n d e. cc in
     goes s.process t.process s.message t.message d e
 
-pub told-sender : IsTold sender_code
-told-sender s t u v e =
-    let rest = told-message s.message t.message u v (cc) in
+pub decodable-sender : IsDecodable sender_code
+decodable-sender s t u v e =
+    let rest = decodable-message s.message t.message u v (cc) in
     (sender-same s t (cc) rest.0, rest.1)
 
 -- two lists whose items are related pair by pair
@@ -189,12 +189,12 @@ length-numbers low (suc n) = omega (arith, length-numbers (low + 1) n)
 below-or : (p low : ℕ) (n : ℕ) → low ≤ p → p < low + suc n → (low == p) ≡ false → (low + 1 ≤ p) × (p < (low + 1) + n)
 below-or p low n l h d = let ne = eqb-false low p d in let other : low ≢ p = ne in (omega arith, omega arith)
 
-record ToldNumbered (P : ℕ → Type 0) (low n : ℕ) (u v : List ℕ) : Type 0 where
+record DecodedNumbered (P : ℕ → Type 0) (low n : ℕ) (u v : List ℕ) : Type 0 where
   each : (p : ℕ) → low ≤ p → p < low + n → P p
   rest : u ≡ v
 
 codes-numbered : (f g : ℕ → List ℕ) (P : ℕ → Type 0) → ((a : ℕ) (u v : List ℕ) → f a ++ u ≡ g a ++ v → P a × (u ≡ v)) →
-    (low n : ℕ) (u v : List ℕ) → codes f (numbers_from low n) ++ u ≡ codes g (numbers_from low n) ++ v → ToldNumbered P low n u v
+    (low n : ℕ) (u v : List ℕ) → codes f (numbers_from low n) ++ u ≡ codes g (numbers_from low n) ++ v → DecodedNumbered P low n u v
 codes-numbered f g P told low zero u v e = record { each = λ p l h. absurd (omega arith); rest = e }
 codes-numbered f g P told low (suc n) u v e =
     let us = codes f (numbers_from (low + 1) n) ++ u in
@@ -209,13 +209,13 @@ codes-numbered f g P told low (suc n) u v e =
     }
 
 -- two lists that are numbered from 0
-pub record AllTold (P : ℕ → Type 0) (n m : ℕ) (u v : List ℕ) : Type 0 where
+pub record AllDecoded (P : ℕ → Type 0) (n m : ℕ) (u v : List ℕ) : Type 0 where
   pub count : n ≡ m
   pub each : (p : ℕ) → p < n → P p
   pub rest : u ≡ v
 
 pub listed-numbered : (f g : ℕ → List ℕ) (P : ℕ → Type 0) → ((a : ℕ) (u v : List ℕ) → f a ++ u ≡ g a ++ v → P a × (u ≡ v)) →
-    (n m : ℕ) (u v : List ℕ) → listed f (numbers_from 0 n) ++ u ≡ listed g (numbers_from 0 m) ++ v → AllTold P n m u v
+    (n m : ℕ) (u v : List ℕ) → listed f (numbers_from 0 n) ++ u ≡ listed g (numbers_from 0 m) ++ v → AllDecoded P n m u v
 listed-numbered f g P told n m u v e =
     let lengths : length (numbers_from 0 n) ≡ length (numbers_from 0 m) = cc in
     let same : n ≡ m = sym (length-numbers 0 n) ∙ lengths ∙ length-numbers 0 m in

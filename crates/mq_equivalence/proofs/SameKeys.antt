@@ -20,7 +20,7 @@ use Rattle.mq_equivalence.specs.Views.{answer, at, bound_name, contents, receive
 use Rattle.mq_equivalence.specs.Key.{bytes_code, deadline_code, description_code, index_of, key_of, key_within, limits_code, listed, message_code, number, number_bound, optional, process_bound, process_code, queue_code, registered_code, sender_code}
 use Rattle.mq_equivalence.proofs.Appends.{listed-map}
 use Rattle.mq_equivalence.proofs.Bounds.{IsIdle, held-above, idle-above}
-use Rattle.mq_equivalence.proofs.Codes.{Pairs, SameDescription, SameHeld, length-numbers, listed-numbered, told-bytes_code, told-deadline, told-held, told-limits, told-listed, told-message, told-number, told-optional, told-pairs, told-registered, told-sender}
+use Rattle.mq_equivalence.proofs.Codes.{Pairs, SameDescription, SameHeld, length-numbers, listed-numbered, decodable-bytes_code, decodable-deadline, told-held, decodable-limits, decodable-listed, decodable-message, decodable-number, decodable-optional, told-pairs, decodable-registered, decodable-sender}
 use Rattle.mq_equivalence.proofs.Falling.{Falls}
 use Rattle.mq_equivalence.specs.Equivalence.{Equivalent}
 use Rattle.mq_equivalence.specs.Structure.{renumbered}
@@ -98,12 +98,12 @@ told-queue x y q k u v e =
     let flat : n ++ (a ++ (b ++ (c ++ (d ++ (r ++ u))))) ≡ n2 ++ (a2 ++ (b2 ++ (c2 ++ (d2 ++ (r2 ++ v))))) =
     sym (flatten n a b c d r u) ∙ e ∙ flatten n2 a2 b2 c2 d2 r2 v
     in
-    let name = told-optional bytes_code told-bytes_code (bound_name x q) (bound_name y k) _ _ flat in
-    let limits = told-limits (attributes x q) (attributes y k) _ _ name.1 in
-    let messages = told-listed (optional message_code) (told-optional message_code told-message) (contents x q) (contents y k) _ _ limits.1 in
-    let sending = told-listed (optional sender_code) (told-optional sender_code told-sender) (senders x q) (senders y k) _ _ messages.1 in
-    let receiving = told-listed (optional number) (told-optional number told-number) (receivers x q) (receivers y k) _ _ sending.1 in
-    let registered = told-optional registered_code told-registered (registered_as x q) (registered_as y k) u v receiving.1 in (
+    let name = decodable-optional bytes_code decodable-bytes_code (bound_name x q) (bound_name y k) _ _ flat in
+    let limits = decodable-limits (attributes x q) (attributes y k) _ _ name.1 in
+    let messages = decodable-listed (optional message_code) (decodable-optional message_code decodable-message) (contents x q) (contents y k) _ _ limits.1 in
+    let sending = decodable-listed (optional sender_code) (decodable-optional sender_code decodable-sender) (senders x q) (senders y k) _ _ messages.1 in
+    let receiving = decodable-listed (optional number) (decodable-optional number decodable-number) (receivers x q) (receivers y k) _ _ sending.1 in
+    let registered = decodable-optional registered_code decodable-registered (registered_as x q) (registered_as y k) u v receiving.1 in (
       record {
         name = name.0;
         limits = limits.0;
@@ -167,11 +167,11 @@ told-process x y n m wide_x wide_y p u v e =
     let d2 = listed number (notices y p) in
     let h2 = holdings (alive y) y p m in
     let flat : a ++ (b ++ (c ++ (d ++ (h ++ u)))) ≡ a2 ++ (b2 ++ (c2 ++ (d2 ++ (h2 ++ v)))) = sym (flatten a b c d h u) ∙ e ∙ flatten a2 b2 c2 d2 h2 v in
-    let room = told-optional number told-number (waiting_room x p) (waiting_room y p) _ _ flat in
-    let deadline = told-optional deadline_code told-deadline (wait_deadline x p) (wait_deadline y p) _ _ room.1 in
-    let deep = told-optional (optional (optional message_code)) (told-optional (optional message_code) (told-optional message_code told-message)) in
+    let room = decodable-optional number decodable-number (waiting_room x p) (waiting_room y p) _ _ flat in
+    let deadline = decodable-optional deadline_code decodable-deadline (wait_deadline x p) (wait_deadline y p) _ _ room.1 in
+    let deep = decodable-optional (optional (optional message_code)) (decodable-optional (optional message_code) (decodable-optional message_code decodable-message)) in
     let answered = deep (answer x p) (answer y p) _ _ deadline.1 in
-    let values = told-listed number told-number (notices x p) (notices y p) _ _ answered.1 in
+    let values = decodable-listed number decodable-number (notices x p) (notices y p) _ _ answered.1 in
     let held_is = holds-same x y p n m u v wide_x wide_y values.1 in (
       record {
         room = room.0;

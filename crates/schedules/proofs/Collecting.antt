@@ -5,14 +5,14 @@ use Rattle.std.proofs.lemmas.Bool.{eqb-true}
 use Rattle.std.proofs.lemmas.List.Folds.{list_any-append}
 use Rattle.std.proofs.lemmas.Slice.Eq.{bytes_eq-Decides}
 use Rattle.std.specs.Str.{bytes_eq}
-use Rattle.schedules.specs.Told.{Told}
+use Rattle.schedules.specs.Observed.{Observed}
 use Rattle.schedules.specs.Schedules.{HasNoGoal}
-use Rattle.schedules.specs.Outcomes.{AreAll, AreDistinct, are_same, is_among, told_by}
+use Rattle.schedules.specs.Outcomes.{AreAll, AreDistinct, are_same, is_among, observed_in}
 use Rattle.schedules.specs.declared.outcomes.Witnessed.{Witnessed}
 use Rattle.schedules.proofs.Covering.{Covered}
 
 -- the state is a goal, and nothing that was found tells the same
-abbrev pub is_new_goal : {S : Type 0} → (S → Bool) → (S → Told) → List Witnessed → S → Bool
+abbrev pub is_new_goal : {S : Type 0} → (S → Bool) → (S → Observed) → List Witnessed → S → Bool
 is_new_goal is_goal outcome found s = is_goal s && not (is_among found (outcome s))
 
 -- what is covered remains so if there are fewer goals
@@ -26,8 +26,8 @@ covered-fewer next is_goal fewer less (c ∷ path) s covered = (
 )
 
 -- if more was found, there are fewer new goals
-pub new-fewer : {S : Type 0} (is_goal : S → Bool) (outcome : S → Told) (old new : List Witnessed) →
-    ((told : Told) → is_among new told ≡ false → is_among old told ≡ false) →
+pub new-fewer : {S : Type 0} (is_goal : S → Bool) (outcome : S → Observed) (old new : List Witnessed) →
+    ((observed : Observed) → is_among new observed ≡ false → is_among old observed ≡ false) →
     (s : S) → is_new_goal is_goal outcome old s ≡ false → is_new_goal is_goal outcome new s ≡ false
 new-fewer is_goal outcome old new kept s before =
     let goes : (a b c : Bool) → (c ≡ false → b ≡ false) → (a && not b) ≡ false → (a && not c) ≡ false =
@@ -42,7 +42,7 @@ new-fewer is_goal outcome old new kept s before =
     goes (is_goal s) (is_among old (outcome s)) (is_among new (outcome s)) (kept (outcome s)) before
 
 -- a state of which the outcome was found is no new goal
-pub noted-is_old : {S : Type 0} (is_goal : S → Bool) (outcome : S → Told) (found : List Witnessed) (s : S) →
+pub noted-is_old : {S : Type 0} (is_goal : S → Bool) (outcome : S → Observed) (found : List Witnessed) (s : S) →
     (is_goal s ≡ true → is_among found (outcome s) ≡ true) → is_new_goal is_goal outcome found s ≡ false
 noted-is_old is_goal outcome found s noted =
     let goes : (a b : Bool) → (a ≡ true → b ≡ true) → (a && not b) ≡ false =
@@ -54,7 +54,7 @@ noted-is_old is_goal outcome found s noted =
     goes (is_goal s) (is_among found (outcome s)) noted
 
 -- if no schedule leads to a new goal, everything was found
-pub all-found : {S : Type 0} (next : S → ℕ → Option S) (is_goal : S → Bool) (outcome : S → Told) (from : S) (found : List Witnessed) →
+pub all-found : {S : Type 0} (next : S → ℕ → Option S) (is_goal : S → Bool) (outcome : S → Observed) (from : S) (found : List Witnessed) →
     HasNoGoal next (is_new_goal is_goal outcome found) from → AreAll next is_goal outcome from found
 all-found next is_goal outcome from found none schedule to leads =
     let goes : (a b : Bool) → a ≡ true → (a && not b) ≡ false → b ≡ true =
@@ -82,31 +82,31 @@ either-self true = refl
 either-self false = refl
 
 -- what tells the same is the same
-pub same-is : (a b : Told) → are_same a b ≡ true → a ≡ b
+pub same-is : (a b : Observed) → are_same a b ≡ true → a ≡ b
 same-is a b same =
     let outer = and-parts (a.stage == b.stage && (if a.stuck then b.stuck else not b.stuck)) (bytes_eq a.text b.text) same in
     let inner = and-parts (a.stage == b.stage) (if a.stuck then b.stuck else not b.stuck) outer.0 in
     let stage : a.stage ≡ b.stage = eqb-true a.stage b.stage inner.0 in
     let stuck : a.stuck ≡ b.stuck = both-true a.stuck b.stuck inner.1 in
     let text : a.text ≡ b.text = (bytes_eq-Decides a.text b.text).0 outer.1 in
-    let build : ℕ → Bool → List ℕ → Told = λ s k t. record { stage = s; stuck = k; text = t } in
+    let build : ℕ → Bool → List ℕ → Observed = λ s k t. record { stage = s; stuck = k; text = t } in
     ap (λ s. build s a.stuck a.text) stage ∙ ap (λ k. build b.stage k a.text) stuck ∙ ap (λ t. build b.stage b.stuck t) text
 
-pub same-self : (a : Told) → are_same a a ≡ true
+pub same-self : (a : Observed) → are_same a a ≡ true
 same-self a =
     let stage : (a.stage == a.stage) ≡ true = eq-eqb a.stage a.stage refl in
     let stuck : (if a.stuck then a.stuck else not a.stuck) ≡ true = either-self a.stuck in
     let text : bytes_eq a.text a.text ≡ true = (bytes_eq-Decides a.text a.text).1 refl in
     both_true (both_true stage stuck) text
 
-same-turned : (a b : Told) → are_same a b ≡ false → are_same b a ≡ false
+same-turned : (a b : Observed) → are_same a b ≡ false → are_same b a ≡ false
 same-turned a b differ =
     let goes : (x : Bool) → are_same b a ≡ x → are_same b a ≡ false =
     λ (x : Bool). elim x as (λ x. are_same b a ≡ x → are_same b a ≡ false) [
       | false ↦ (λ e. e)
       | true ↦ (λ e.
           let is : b ≡ a = same-is b a e in
-          let P : Told → Type 0 = λ t. are_same a t ≡ true in
+          let P : Observed → Type 0 = λ t. are_same a t ≡ true in
           let t : are_same a b ≡ true = subst P (sym is) (same-self a) in
           let k : true ≡ false = sym t ∙ differ in
           cc)
@@ -121,15 +121,15 @@ or-parts true false h = cc
 or-parts true true h = cc
 
 -- an outcome that was not found before may be added
-pub distinct-push : (found : List Witnessed) (w : Witnessed) → AreDistinct found → is_among found (told_by w.outcome) ≡ false → AreDistinct (found ++ w ∷ [])
+pub distinct-push : (found : List Witnessed) (w : Witnessed) → AreDistinct found → is_among found (observed_in w.outcome) ≡ false → AreDistinct (found ++ w ∷ [])
 distinct-push [] w distinct new = (tt, refl)
 distinct-push (x ∷ found) w distinct new =
-    let parts = or-parts (are_same (told_by x.outcome) (told_by w.outcome)) (is_among found (told_by w.outcome)) new in
+    let parts = or-parts (are_same (observed_in x.outcome) (observed_in w.outcome)) (is_among found (observed_in w.outcome)) new in
     let rest = distinct-push found w distinct.0 parts.1 in
-    let last : are_same (told_by w.outcome) (told_by x.outcome) ≡ false = same-turned (told_by x.outcome) (told_by w.outcome) parts.0 in
-    let others : is_among found (told_by x.outcome) ≡ false = distinct.1 in
-    let here : is_among (found ++ w ∷ []) (told_by x.outcome) ≡ false =
-    list_any-append (λ (y : Witnessed). are_same (told_by y.outcome) (told_by x.outcome)) found (w ∷ []) ∙ rw (others, last) refl
+    let last : are_same (observed_in w.outcome) (observed_in x.outcome) ≡ false = same-turned (observed_in x.outcome) (observed_in w.outcome) parts.0 in
+    let others : is_among found (observed_in x.outcome) ≡ false = distinct.1 in
+    let here : is_among (found ++ w ∷ []) (observed_in x.outcome) ≡ false =
+    list_any-append (λ (y : Witnessed). are_same (observed_in y.outcome) (observed_in x.outcome)) found (w ∷ []) ∙ rw (others, last) refl
     in
     (rest, here)
 
@@ -138,15 +138,15 @@ or-true true = refl
 or-true false = refl
 
 -- what was added is among those found
-pub among-push : (found : List Witnessed) (w : Witnessed) (told : Told) → told_by w.outcome ≡ told → is_among (found ++ w ∷ []) told ≡ true
-among-push [] w told is = let same : are_same (told_by w.outcome) told ≡ true = (let P : Told → Type 0 = λ t. are_same (told_by w.outcome) t ≡ true in subst P is (same-self (told_by w.outcome))) in rw same refl
-among-push (x ∷ found) w told is = rw (among-push found w told is) (or-true (are_same (told_by x.outcome) told))
+pub among-push : (found : List Witnessed) (w : Witnessed) (observed : Observed) → observed_in w.outcome ≡ observed → is_among (found ++ w ∷ []) observed ≡ true
+among-push [] w observed is = let same : are_same (observed_in w.outcome) observed ≡ true = (let P : Observed → Type 0 = λ t. are_same (observed_in w.outcome) t ≡ true in subst P is (same-self (observed_in w.outcome))) in rw same refl
+among-push (x ∷ found) w observed is = rw (among-push found w observed is) (or-true (are_same (observed_in x.outcome) observed))
 
 -- of two states that tell the same neither or both are new goals
-pub new-alike : {S : Type 0} (is_goal : S → Bool) (outcome : S → Told) (IsAlike : S → S → Type 0) →
+pub new-alike : {S : Type 0} (is_goal : S → Bool) (outcome : S → Observed) (IsAlike : S → S → Type 0) →
     ((x y : S) → IsAlike x y → is_goal x ≡ is_goal y) → ((x y : S) → IsAlike x y → outcome x ≡ outcome y) →
     (found : List Witnessed) (x y : S) → IsAlike x y → is_new_goal is_goal outcome found x ≡ is_new_goal is_goal outcome found y
 new-alike is_goal outcome IsAlike same_goal same_outcome found x y alike =
     let e : is_goal x ≡ is_goal y = same_goal x y alike in
     let f : outcome x ≡ outcome y = same_outcome x y alike in
-    ap (λ (b : Bool). b && not (is_among found (outcome x))) e ∙ ap (λ (t : Told). is_goal y && not (is_among found t)) f
+    ap (λ (b : Bool). b && not (is_among found (outcome x))) e ∙ ap (λ (t : Observed). is_goal y && not (is_among found t)) f

@@ -3,8 +3,8 @@ ghost use Rattle.std.specs.Prelude.{◌≡◌, ◌++◌, ◌∷◌, [], ℕ, All
 ghost use Rattle.schedules.specs.Choices.{IsFirstFrom};
 ghost use Rattle.schedules.specs.Schedules.{after};
 ghost use Rattle.schedules.specs.Seen.{Noted, is_done};
-ghost use Rattle.schedules.specs.Told.{Told};
-ghost use Rattle.schedules.specs.Outcomes.{AreAll, AreDistinct, IsWitness, are_same, is_among, told_by};
+ghost use Rattle.schedules.specs.Observed.{Observed};
+ghost use Rattle.schedules.specs.Outcomes.{AreAll, AreDistinct, IsWitness, are_same, is_among, observed_in};
 ghost use Rattle.schedules.specs.Work.{TakesAll};
 ghost use Rattle.schedules.specs.declared.outcomes.Level.{Level};
 
@@ -23,12 +23,12 @@ pub struct Outcome {
 }
 
 /// A machine with an outcome at each of its goals.
-pub trait Telling: Machine {
+pub trait Observable: Machine {
     /// The outcome of a state.
-    ghost outcome: { Self → Told };
+    ghost outcome: { Self → Observed };
 
     fn outcome(&self, alloc: Global) -> Result<Outcome, AllocError>
-        ensures { IfOk result (λ o. told_by o ≡ outcome self.now) };
+        ensures { IfOk result (λ o. observed_in o ≡ outcome self.now) };
 
     /// Whether a choice can be taken. It is not taken.
     fn can_step(&self, choice: u32) -> bool
@@ -36,9 +36,9 @@ pub trait Telling: Machine {
 }
 
 /// A machine whose equivalent states have the same outcome.
-pub trait TellsAlike: Telling + Keyed {
+pub trait EquivalentOutcomes: Observable + Keyed {
     /// Equivalent states have the same outcome. The method does nothing: its contract is the law.
-    fn tells_alike(&self)
+    fn have_equal_outcomes(&self)
         ensures { (x y : Self) → Self.IsAlike x y → Self.outcome x ≡ Self.outcome y };
 }
 
@@ -59,14 +59,14 @@ pub struct Collected {
 
 // Whether two outcomes are equal.
 fn are_same(a: &Outcome, b: &Outcome) -> bool
-    ensures { result ≡ are_same (told_by a.now) (told_by b.now) }
+    ensures { result ≡ are_same (observed_in a.now) (observed_in b.now) }
 {
     a.stage == b.stage && a.stuck == b.stuck && a.text.as_slice() == b.text.as_slice()
 }
 
 // Whether this outcome was found.
 fn is_among(found: &[Witnessed], outcome: &Outcome) -> bool
-    ensures { result ≡ is_among found.now (told_by outcome.now) }
+    ensures { result ≡ is_among found.now (observed_in outcome.now) }
 {
     found
         .iter()
@@ -75,7 +75,7 @@ fn is_among(found: &[Witnessed], outcome: &Outcome) -> bool
 
 // Adds the outcome of the machine's state, to which the path leads, if it is a goal and its outcome
 // was not found before.
-fn note<M: Telling>(
+fn note<M: Observable>(
     alloc: Global,
     machine: &M,
     path: &[u32],
@@ -88,8 +88,8 @@ fn note<M: Telling>(
     ensures distinct { OnOk result (AreDistinct found.new.items) }
     ensures witnessed { OnOk result
         (All (IsWitness M.next M.is_goal M.outcome (M.start machine.now)) found.new.items) }
-    ensures kept { OnOk result ((told : Told) → is_among found.new.items told ≡ false →
-        is_among found.old.items told ≡ false) }
+    ensures kept { OnOk result ((observed : Observed) → is_among found.new.items observed ≡ false →
+        is_among found.old.items observed ≡ false) }
     ensures noted { OnOk result (M.is_goal machine.now ≡ true →
         is_among found.new.items (M.outcome machine.now) ≡ true) }
 {
@@ -106,7 +106,7 @@ fn note<M: Telling>(
 }
 
 // The first choice from this one on that can be taken.
-fn first_from<M: Telling>(machine: &M, from: u64) -> Option<u32>
+fn first_from<M: Observable>(machine: &M, from: u64) -> Option<u32>
     ensures { IsFirstFrom M.next machine.now from result }
 {
     for choice in from..u64::from(machine.choices()) {
@@ -127,7 +127,7 @@ struct Level {
 
 // The first choice at a node that was just entered; none if the search is done with a node of the
 // same key.
-fn first_at<M: Telling>(machine: &M, seen: &Seen, key: &Option<Vec<u64>>) -> Option<u32>
+fn first_at<M: Observable>(machine: &M, seen: &Seen, key: &Option<Vec<u64>>) -> Option<u32>
     ensures new { is_done seen.now key.now ≡ false → IsFirstFrom M.next machine.now 0 result }
     ensures done { is_done seen.now key.now ≡ true → result ≡ None }
 {
@@ -155,7 +155,7 @@ fn leave(levels: &mut Vec<Level>, seen: &mut Seen) -> Result<Option<u32>, AllocE
 /// goals that they lead to. A step takes a choice, or takes one back. After taking one back, the
 /// choices before it are run again only if another choice follows them. Equivalent states, which
 /// have the same key, are explored once. Fails if memory was refused.
-pub fn collect<M: TellsAlike>(
+pub fn collect<M: EquivalentOutcomes>(
     alloc: Global,
     machine: &mut M,
     budget: u64,
@@ -170,7 +170,7 @@ pub fn collect<M: TellsAlike>(
     ensures start { OnOk result (M.start machine.new ≡ M.start machine.old) }
 {
     machine.keeps_alike();
-    machine.tells_alike();
+    machine.have_equal_outcomes();
     machine.restart()?;
     let mut path: Vec<u32> = Vec::new(alloc);
     let mut levels: Vec<Level> = Vec::new(alloc);

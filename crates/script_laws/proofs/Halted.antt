@@ -15,16 +15,16 @@ use Rattle.mq_model.specs.Waits.{is_answered, open_wait}
 use Rattle.mq_model.specs.declared.entries.Call.TheVariants.{Collect}
 use Rattle.mq_state.specs.Trails.{with_call}
 use Rattle.orders.proofs.Ordering.{and-parts}
-use Rattle.schedules.specs.Told.{Told}
+use Rattle.schedules.specs.Observed.{Observed}
 use Rattle.script_orders.specs.Progress.{Progress}
 use Rattle.script_orders.specs.Said.{said}
 use Rattle.script_orders.specs.Scenes.{Scene, after_call}
-use Rattle.script_orders.specs.Stage.{Stage, line_of, one_waits, replies, stands_still, told, wait_line_of, wait_of, wait_text, waiting_lines, waits}
+use Rattle.script_orders.specs.Stage.{Stage, line_of, one_waits, replies, stands_still, observed, wait_line_of, wait_of, wait_text, waiting_lines, waits}
 use Rattle.script_orders.specs.Turns.{Turned, after_line, after_turn, scene_of, turned}
 use Rattle.script_orders.specs.declared.plan.Planned.{Planned}
 use Rattle.script_runner.specs.Stands.{blocked_lines, line_in}
 use Rattle.script_runner.specs.declared.turns.Worked.{Worked}
-use Rattle.script_laws.specs.StandLaws.{stand_text, stand_told}
+use Rattle.script_laws.specs.StandLaws.{stand_text, stand_outcome}
 use Rattle.script_laws.proofs.Course.{Course}
 use Rattle.script_laws.proofs.Halting.{Halts}
 use Rattle.script_laws.proofs.Resting.{has-end, has-program, no-turn, still-where}
@@ -113,20 +113,20 @@ lines-from s (w ∷ ended) i says =
     ∙ ap (λ (l : List ℕ). waiting_lines s i ++ l) (sym (stand-more (line_in w.blocked) (blocked_lines ended))))))
 
 -- if no process waits, no line is reported
-none-told : (s : Stage) (n : ℕ) → one_waits s.past n ≡ false → waiting_lines s n ≡ []
-none-told s zero none = refl
-none-told s (suc n) none =
+none-waiting : (s : Stage) (n : ℕ) → one_waits s.past n ≡ false → waiting_lines s n ≡ []
+none-waiting s zero none = refl
+none-waiting s (suc n) none =
     let both = or-parts (one_waits s.past n) (is_some (open_wait s.past (n + 1))) none in
-    ap (λ (l : List ℕ). l ++ wait_of s n) (none-told s n both.0) ∙ ap (λ (b : Bool). if b then wait_text (wait_line_of s n) else []) both.1
+    ap (λ (l : List ℕ). l ++ wait_of s n) (none-waiting s n both.0) ∙ ap (λ (b : Bool). if b then wait_text (wait_line_of s n) else []) both.1
   where
     or-parts : (a b : Bool) → (a || b) ≡ false → (a ≡ false) × (b ≡ false)
     or-parts true b is = cc
     or-parts false b is = (refl, is)
 
 -- if some line waits, one is reported
-some-told : (lines : List ℕ) → lines ≢ [] → stand_text lines ≡ [] → ⊥
-some-told [] some none = some refl
-some-told (line ∷ lines) some none = cc
+some-waiting : (lines : List ℕ) → lines ≢ [] → stand_text lines ≡ [] → ⊥
+some-waiting [] some none = some refl
+some-waiting (line ∷ lines) some none = cc
 
 -- none can go on, and one of them waits
 module _ (frame : Frame) (phase : ℕ) (past to : Past) (runners : List Runner) (worked : List (Worked (Ticket Record))) (count : length runners ≡ length worked)
@@ -154,11 +154,11 @@ module _ (frame : Frame) (phase : ℕ) (past to : Past) (runners : List Runner) 
       let here : i ≡ 0 + i = omega arith in
       subst (λ (k : ℕ). wait_of s k ≡ stand_text (line_in w.blocked)) here (rests-said w.blocked i frame phase past to runners there.0 there.1 (rest i there.0 w there.1 has)))
 
-  pub halted-tells : (lines : List ℕ) → blocked_lines worked ≡ lines → lines ≢ [] → told (ended frame phase to runners) ≡ stand_told phase lines
-  halted-tells lines are some =
+  pub halted-outcome : (lines : List ℕ) → blocked_lines worked ≡ lines → lines ≢ [] → observed (ended frame phase to runners) ≡ stand_outcome phase lines
+  halted-outcome lines are some =
       let s : Stage = ended frame phase to runners in
       let n : ℕ = length (programs_in runners) in
       let all : waiting_lines s n ≡ stand_text lines = halted-lines ∙ ap stand_text are in
-      let waits_so : waits s ≡ true = split (waits s) (λ yes. yes) (λ no. absurd (some-told lines some (sym all ∙ none-told s n no))) in
-      let telling : Bool → Told = λ b. record { stage = phase; stuck = b; text = if b then waiting_lines s n else replies (ends_in runners) } in
+      let waits_so : waits s ≡ true = split (waits s) (λ yes. yes) (λ no. absurd (some-waiting lines some (sym all ∙ none-waiting s n no))) in
+      let telling : Bool → Observed = λ b. record { stage = phase; stuck = b; text = if b then waiting_lines s n else replies (ends_in runners) } in
       ap telling waits_so ∙ ap (λ (l : List ℕ). record { stage = phase; stuck = true; text = l }) all

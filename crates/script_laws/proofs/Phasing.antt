@@ -9,17 +9,17 @@ use Rattle.mq.specs.Calls.{bounds_in}
 use Rattle.mq_model.specs.Record.{Past, Record}
 use Rattle.schedules.specs.Outcomes.{AreAll, is_among}
 use Rattle.schedules.specs.Schedules.{after}
-use Rattle.schedules.specs.Told.{Told}
+use Rattle.schedules.specs.Observed.{Observed}
 use Rattle.schedules.specs.declared.outcomes.Witnessed.{Witnessed}
 use Rattle.schedules.proofs.Covering.{after-append}
 use Rattle.script_orders.specs.Orders.{Begins, BeginsAfter}
 use Rattle.script_orders.specs.Plans.{Plan, plan_of}
 use Rattle.script_orders.specs.Progress.{Progress}
-use Rattle.script_orders.specs.Stage.{Stage, fresh, next_stage, seats_cleared, stands_still, told}
+use Rattle.script_orders.specs.Stage.{Stage, fresh, next_stage, seats_cleared, stands_still, observed}
 use Rattle.script_orders.specs.declared.plan.Planned.{Planned}
 use Rattle.script_runner.specs.Runs.{NoneWaits, RunsAfter, RunsPhases, RunsWhole}
 use Rattle.script_text.specs.Script.{Whole, WrittenCall}
-use Rattle.script_laws.specs.RunLaws.{AreAmplePhases, AreFound, AreTold, AreToldBefore, IsAmple, IsAmpleAfter, phase_replies, phase_told, replies_after, whole_replies}
+use Rattle.script_laws.specs.RunLaws.{AreAmplePhases, AreFound, AreObserved, AreObservedBefore, IsAmple, IsAmpleAfter, phase_replies, phase_outcome, replies_after, whole_replies}
 use Rattle.script_laws.proofs.Beginning.{all-begin, all-left-with, count-from, in-order}
 use Rattle.script_laws.proofs.Growth.{AllLeft, AreEnds, IsEnd, all-grow, meeting, phase-grows, phases-end}
 use Rattle.script_laws.proofs.Joins.{all-left, all-right}
@@ -76,13 +76,13 @@ phase-runs from journal programs frame phase phases tickets reached to runners o
 
 -- what is printed for some phases is what one interleaving gives, which leads to the beginning of
 -- the later ones
-pub phases-told : (GoesOn : Stage → ℕ → Type 0) (journal : Past) (programs : List (Vec Planned Global)) (frame : Frame) (later : List (List WrittenCall)) (tickets : List (Ticket Record)) →
+pub phases-observed : (GoesOn : Stage → ℕ → Type 0) (journal : Past) (programs : List (Vec Planned Global)) (frame : Frame) (later : List (List WrittenCall)) (tickets : List (Ticket Record)) →
     All (IsOf (length programs)) journal → AreEnds journal tickets → ((from : Stage) (phase : ℕ) → Reached from journal programs frame phase later tickets → GoesOn from phase) →
     (phases : List (List WrittenCall)) (phase : ℕ) (from : Stage) (before : List (Ticket Record)) (text : List ℕ) (ran : RunsPhases phases before tickets text) → AreAmplePhases phases before tickets text ran →
-    Reached from journal programs frame phase (phases ++ later) before → AreToldBefore GoesOn from phase (phase_replies phases before tickets text ran)
-phases-told GoesOn journal programs frame later tickets of ends then [] phase from before text ran ample reached =
+    Reached from journal programs frame phase (phases ++ later) before → AreObservedBefore GoesOn from phase (phase_replies phases before tickets text ran)
+phases-observed GoesOn journal programs frame later tickets of ends then [] phase from before text ran ample reached =
     then from phase (subst (λ (ts : List (Ticket Record)). Reached from journal programs frame phase later ts) (sym ran.0) reached)
-phases-told GoesOn journal programs frame later tickets of ends then (calls ∷ phases) phase from before text ran ample reached =
+phases-observed GoesOn journal programs frame later tickets of ends then (calls ∷ phases) phase from before text ran ample reached =
     let between : List (Ticket Record) = ran.1 in
     let rest : List (List WrittenCall) = phases ++ later in
     let past : Past = reached.past in
@@ -93,7 +93,7 @@ phases-told GoesOn journal programs frame later tickets of ends then (calls ∷ 
     let through : AllThrough phase past to runners = λ i r has. at-number (1 + i) (i + 1) phase past to r (omega arith) (all.through i r has) in
     let runs = phase-runs from journal programs frame phase (calls ∷ rest) before reached to runners of (omega arith) met.from met.end all.programs_are all.seats_are (λ i r has. (through i r has).course) in
     let last : Stage = ended frame phase to runners in
-    let said : told last ≡ phase_told phase ran.3 = tells frame phase past to runners through ∙ ap (λ (l : List ℕ). phase_told phase l) all.replies_are in
+    let said : observed last ≡ phase_outcome phase ran.3 = tells frame phase past to runners through ∙ ap (λ (l : List ℕ). phase_outcome phase l) all.replies_are in
     let n : ℕ = length (programs_in runners) in
     let count = reached.count in
     let next : List (Vec Planned Global) → Option Stage = λ programs.
@@ -118,7 +118,7 @@ phases-told GoesOn journal programs frame later tickets of ends then (calls ∷ 
       last,
       record { runs = runs.1; goal = still frame phase past to runners through },
       said,
-      phases-told GoesOn journal programs frame later tickets of ends then phases (phase + 1) last between ran.4 ran.7 ample.1 on,
+      phases-observed GoesOn journal programs frame later tickets of ends then phases (phase + 1) last between ran.4 ran.7 ample.1 on,
     )
 
 -- a stage with this journal before all phases
@@ -152,11 +152,11 @@ new-reached script system journal from unbounded begins =
     all-reached [] script system journal from unbounded (λ p low high. refl) (record { more = journal; is = sym (append-nil journal) }) begins
 
 -- of a run: what is printed for its phases is what one interleaving gives
-pub run-told : (script : Whole) (text : List ℕ) (journal : Past) (ran : RunsWhole script text journal) (from : Stage) → IsAmple ran → Begins script from → AreTold from 0 (whole_replies ran)
-run-told script text journal ran from ample begins =
+pub run-observed : (script : Whole) (text : List ℕ) (journal : Past) (ran : RunsWhole script text journal) (from : Stage) → IsAmple ran → Begins script from → AreObserved from 0 (whole_replies ran)
+run-observed script text journal ran from ample begins =
     let tickets : List (Ticket Record) = tickets_from ran.system 1 script.processes in
     let first : Reached from journal from.programs (frame_of from []) 0 script.phases tickets = new-reached script ran.system journal from ran.unbounded begins in
-    phases-told (λ to next. Unit {0}) journal from.programs (frame_of from []) [] ran.processes (all-of script journal from begins ran.authors) (all-grow journal ran.processes ran.grows) (λ to next reached. tt)
+    phases-observed (λ to next. Unit {0}) journal from.programs (frame_of from []) [] ran.processes (all-of script journal from begins ran.authors) (all-grow journal ran.processes ran.grows) (λ to next reached. tt)
     script.phases 0 from tickets text ran.ran ample
     (subst (λ (phases : List (List WrittenCall)). Reached from journal from.programs (frame_of from []) 0 phases tickets) (sym (append-nil script.phases)) first)
 
@@ -171,13 +171,13 @@ after-end past script text journal some ran =
     first-end journal past ran.system script.processes some (phases-end journal script.phases tickets runs.processes text runs.ran (all-grow journal runs.processes runs.grows))
 
 -- the same for a run that continues from a journal
-pub run-after-told : (past : Past) (script : Whole) (text : List ℕ) (journal : Past) (ran : RunsAfter past script text journal) (from : Stage) → IsEnd past journal → IsAmpleAfter ran → BeginsAfter past script from → AreTold from 0 (replies_after ran)
-run-after-told past script text journal ran from end ample begins =
+pub run-after-observed : (past : Past) (script : Whole) (text : List ℕ) (journal : Past) (ran : RunsAfter past script text journal) (from : Stage) → IsEnd past journal → IsAmpleAfter ran → BeginsAfter past script from → AreObserved from 0 (replies_after ran)
+run-after-observed past script text journal ran from end ample begins =
     let runs = ran.runs in
     let tickets : List (Ticket Record) = tickets_with ran.system past 1 script.processes in
     let first : Reached from journal from.programs (frame_of from past) 0 script.phases tickets = all-reached past script ran.system journal from ran.unbounded ran.free end begins in
     let authors : All (IsOf script.processes) journal = subst (λ (n : ℕ). All (IsOf n) journal) ran.count runs.authors in
-    phases-told (λ to next. Unit {0}) journal from.programs (frame_of from past) [] runs.processes (all-of script journal from begins authors) (all-grow journal runs.processes runs.grows) (λ to next reached. tt)
+    phases-observed (λ to next. Unit {0}) journal from.programs (frame_of from past) [] runs.processes (all-of script journal from begins authors) (all-grow journal runs.processes runs.grows) (λ to next reached. tt)
     script.phases 0 from tickets text runs.ran ample
     (subst (λ (phases : List (List WrittenCall)). Reached from journal from.programs (frame_of from past) 0 phases tickets) (sym (append-nil script.phases)) first)
 
@@ -191,17 +191,17 @@ pub record FoundBefore (GoesOn : Stage → ℕ → Type 0) (first : Stage) (foun
   pub leads : after next_stage schedule first ≡ Some to
   pub goes_on : GoesOn to (phase + length texts)
 
-pub told-found : (GoesOn : Stage → ℕ → Type 0) (first from : Stage) (schedule : List ℕ) (found : List Witnessed) (phase : ℕ) (texts : List (List ℕ)) →
-    AreAll next_stage stands_still told first found → after next_stage schedule first ≡ Some from → AreToldBefore GoesOn from phase texts → FoundBefore GoesOn first found phase texts
-told-found GoesOn first from schedule found phase [] all leads are =
+pub observed-found : (GoesOn : Stage → ℕ → Type 0) (first from : Stage) (schedule : List ℕ) (found : List Witnessed) (phase : ℕ) (texts : List (List ℕ)) →
+    AreAll next_stage stands_still observed first found → after next_stage schedule first ≡ Some from → AreObservedBefore GoesOn from phase texts → FoundBefore GoesOn first found phase texts
+observed-found GoesOn first from schedule found phase [] all leads are =
     let here : phase ≡ phase + 0 = omega arith in
     record { phases = tt; schedule = schedule; to = from; leads = leads; goes_on = subst (λ (k : ℕ). GoesOn from k) here are }
-told-found GoesOn first from schedule found phase (text ∷ texts) all leads are =
+observed-found GoesOn first from schedule found phase (text ∷ texts) all leads are =
     let runs : after next_stage (schedule ++ are.0) first ≡ Some are.1 = then-after schedule are.0 first from are.1 leads are.2.runs in
-    let rest = told-found GoesOn first are.1 (schedule ++ are.0) found (phase + 1) texts all runs are.4 in
+    let rest = observed-found GoesOn first are.1 (schedule ++ are.0) found (phase + 1) texts all runs are.4 in
     let here : phase + 1 + length texts ≡ phase + length (text ∷ texts) = omega arith in
     record {
-      phases = (ap (λ (x : Told). is_among found x) (sym are.3) ∙ all (schedule ++ are.0) are.1 (record { runs = runs; goal = are.2.goal }), rest.phases);
+      phases = (ap (λ (x : Observed). is_among found x) (sym are.3) ∙ all (schedule ++ are.0) are.1 (record { runs = runs; goal = are.2.goal }), rest.phases);
       schedule = rest.schedule;
       to = rest.to;
       leads = rest.leads;

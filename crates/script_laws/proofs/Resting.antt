@@ -11,11 +11,11 @@ use Rattle.mq_model.specs.Waits.{open_wait}
 use Rattle.mq_model.specs.declared.entries.Call.TheVariants.{Collect}
 use Rattle.script_orders.specs.Progress.{Progress}
 use Rattle.script_orders.specs.Scenes.{Scene, after_call, after_step}
-use Rattle.script_orders.specs.Stage.{Stage, after_phase, in_next_phase, is_phase_over, next_stage, none_can_turn, one_waits, replies, stands_still, told, turn_of, waiting_lines, waits, with_turn}
+use Rattle.script_orders.specs.Stage.{Stage, after_phase, in_next_phase, is_phase_over, next_stage, none_can_turn, one_waits, replies, stands_still, observed, turn_of, waiting_lines, waits, with_turn}
 use Rattle.script_orders.specs.Turns.{Turned, after_line, after_turn, scene_of, turned}
 use Rattle.script_orders.specs.declared.plan.Planned.{Planned}
 use Rattle.script_orders.proofs.Turning.{turn_of-is}
-use Rattle.schedules.specs.Told.{Told}
+use Rattle.schedules.specs.Observed.{Observed}
 use Rattle.script_laws.proofs.Runners.{Frame, Runner, ends_in, programs_in, there-is}
 use Rattle.script_laws.proofs.Sitting.{Through}
 use Rattle.script_laws.proofs.Weaving.{ended}
@@ -77,9 +77,9 @@ module _ (frame : Frame) (phase : ℕ) (past to : Past) (runners : List Runner) 
       let there = there-is runners i (omega (arith, below, count)) in
       (through i there.0 there.1).free)
 
-  pub tells : told (ended frame phase to runners) ≡ record { stage = phase; stuck = false; text = replies (ends_in runners) }
+  pub tells : observed (ended frame phase to runners) ≡ record { stage = phase; stuck = false; text = replies (ends_in runners) }
   tells =
-      let telling : Bool → Told = λ b. record { stage = phase; stuck = b; text = if b then waiting_lines (ended frame phase to runners) (length (programs_in runners)) else replies (ends_in runners) } in
+      let telling : Bool → Observed = λ b. record { stage = phase; stuck = b; text = if b then waiting_lines (ended frame phase to runners) (length (programs_in runners)) else replies (ends_in runners) } in
       ap telling waits-none
 
   -- the next phase, if there is one

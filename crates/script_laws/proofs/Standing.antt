@@ -9,11 +9,11 @@ use Rattle.mq.specs.Blocked.{is_blocked}
 use Rattle.mq_model.specs.Record.{Past, Record}
 use Rattle.orders.proofs.Ordering.{and-parts}
 use Rattle.schedules.specs.Outcomes.{AreAll, is_among}
-use Rattle.schedules.specs.Told.{Told}
+use Rattle.schedules.specs.Observed.{Observed}
 use Rattle.schedules.specs.declared.outcomes.Witnessed.{Witnessed}
 use Rattle.script_orders.specs.Orders.{Begins}
 use Rattle.script_orders.specs.Progress.{Progress}
-use Rattle.script_orders.specs.Stage.{Stage, next_stage, stands_still, told}
+use Rattle.script_orders.specs.Stage.{Stage, next_stage, stands_still, observed}
 use Rattle.script_orders.specs.declared.plan.Planned.{Planned}
 use Rattle.script_runner.specs.Runs.{FindsLength, IsSameProcess, calls_of}
 use Rattle.script_runner.specs.Stands.{ComesToAStand, EndsIn, EndsPhase, blocked_processes, process_in}
@@ -22,12 +22,12 @@ use Rattle.script_runner.specs.declared.turns.Worked.{Worked}
 use Rattle.script_text.specs.Script.{Whole, WrittenCall}
 use Rattle.script_text.specs.declared.reply.Completion.{Completion}
 use Rattle.script_laws.specs.RunLaws.{AreFound}
-use Rattle.script_laws.specs.StandLaws.{AreAmpleEnds, ComesToStand, IsAmpleEnd, IsAmpleStop, Stands, replies_before, stand_told}
+use Rattle.script_laws.specs.StandLaws.{AreAmpleEnds, ComesToStand, IsAmpleEnd, IsAmpleStop, Stands, replies_before, stand_outcome}
 use Rattle.script_laws.proofs.Course.{Move}
 use Rattle.script_laws.proofs.Growth.{AllGrown, AllLeft, AreEnds, IsEnd, by-calls, all-grow, calls-grow, end-then, meeting, phase-ends}
 use Rattle.script_laws.proofs.Halting.{one-halts, waits-by}
-use Rattle.script_laws.proofs.Halted.{Rests, halted-course, halted-still, halted-tells}
-use Rattle.script_laws.proofs.Phasing.{Reached, all-of, frame_of, new-reached, phase-runs, phases-told, told-found, then-after}
+use Rattle.script_laws.proofs.Halted.{Rests, halted-course, halted-still, halted-outcome}
+use Rattle.script_laws.proofs.Phasing.{Reached, all-of, frame_of, new-reached, phase-runs, phases-observed, observed-found, then-after}
 use Rattle.script_laws.proofs.Runners.{Frame, Runner, programs_in, seats_in}
 use Rattle.script_laws.proofs.Sitting.{AllSit, Sits, end_of, one-runs}
 use Rattle.script_laws.proofs.Weaving.{IsOf, ended}
@@ -146,12 +146,12 @@ last-stands journal programs frame last later before lines after stand of ample 
       runs.0,
       ended frame phase to runners,
       record { runs = runs.1; goal = halted-still frame phase past to runners worked all.count rest },
-      halted-tells frame phase past to runners worked all.count rest lines stand.are stand.some,
+      halted-outcome frame phase past to runners worked all.count rest lines stand.are stand.some,
     )
 
 -- what is printed for a run that deadlocks is what one interleaving gives
-pub stand-told : (script : Whole) (lines : List ℕ) (old new : Option (List ℕ)) (from : Stage) (stop : StopsInDeadlock script lines old new) → IsAmpleStop stop → Begins script from → ComesToStand from 0 (replies_before stop) lines
-stand-told script lines old new from stop ample begins =
+pub stand-observed : (script : Whole) (lines : List ℕ) (old new : Option (List ℕ)) (from : Stage) (stop : StopsInDeadlock script lines old new) → IsAmpleStop stop → Begins script from → ComesToStand from 0 (replies_before stop) lines
+stand-observed script lines old new from stop ample begins =
     let s = stop.stops in
     let tickets : List (Ticket Record) = tickets_from stop.system 1 script.processes in
     let journal : Past = stop.journal in
@@ -162,17 +162,17 @@ stand-told script lines old new from stop ample begins =
     let first : Reached from journal from.programs (frame_of from []) 0 (s.first ++ s.last ∷ s.later) tickets =
     subst (λ (phases : List (List WrittenCall)). Reached from journal from.programs (frame_of from []) 0 phases tickets) s.are (new-reached script stop.system journal from stop.unbounded begins)
     in
-    phases-told (Stands lines) journal from.programs (frame_of from []) (s.last ∷ s.later) s.between of between
+    phases-observed (Stands lines) journal from.programs (frame_of from []) (s.last ∷ s.later) s.between of between
     (last-stands journal from.programs (frame_of from []) s.last s.later s.between lines stop.processes stand of ample.1 ends)
     s.first 0 from tickets s.replies s.ran ample.0 first
 
 -- and found if all interleavings were tried
-pub stand-found : (from : Stage) (found : List Witnessed) (n : ℕ) (texts : List (List ℕ)) (lines : List ℕ) → length texts ≡ n → AreAll next_stage stands_still told from found → ComesToStand from 0 texts lines → AreFound found 0 texts × (is_among found (stand_told n lines) ≡ true)
+pub stand-found : (from : Stage) (found : List Witnessed) (n : ℕ) (texts : List (List ℕ)) (lines : List ℕ) → length texts ≡ n → AreAll next_stage stands_still observed from found → ComesToStand from 0 texts lines → AreFound found 0 texts × (is_among found (stand_outcome n lines) ≡ true)
 stand-found from found n texts lines count all comes =
-    let f = told-found (Stands lines) from from [] found 0 texts all refl comes in
+    let f = observed-found (Stands lines) from from [] found 0 texts all refl comes in
     let stands = f.goes_on in
     let same : 0 + length texts ≡ n = omega (arith, count) in
     let runs = then-after f.schedule stands.0 from f.to stands.1 f.leads stands.2.runs in (
       f.phases,
-      ap (λ (k : ℕ). is_among found (stand_told k lines)) (sym same) ∙ (ap (λ (x : Told). is_among found x) (sym stands.3) ∙ all (f.schedule ++ stands.0) stands.1 (record { runs = runs; goal = stands.2.goal })),
+      ap (λ (k : ℕ). is_among found (stand_outcome k lines)) (sym same) ∙ (ap (λ (x : Observed). is_among found x) (sym stands.3) ∙ all (f.schedule ++ stands.0) stands.1 (record { runs = runs; goal = stands.2.goal })),
     )

@@ -129,8 +129,8 @@ wait-begins phase program from progress old begun call given at next begins =
     record { found = s.found; is = s.is; goes = wait-goes phase program old.number from s.found progress call given (at-free old.number from old at) s.others next s.next }
 
 -- the same count and text
-told-as : (begun n : ℕ) (text line : List ℕ) (past : Past) (o : Option Turned) → o ≡ Some (record { past = past; progress = record { begun = begun; text = text } }) → begun ≡ n → text ≡ line → o ≡ Some (record { past = past; progress = record { begun = n; text = line } })
-told-as begun n text line past o is count same =
+turned-as : (begun n : ℕ) (text line : List ℕ) (past : Past) (o : Option Turned) → o ≡ Some (record { past = past; progress = record { begun = begun; text = text } }) → begun ≡ n → text ≡ line → o ≡ Some (record { past = past; progress = record { begun = n; text = line } })
+turned-as begun n text line past o is count same =
     is ∙ ap (λ (k : ℕ). Some (record { past = past; progress = record { begun = k; text = text } })) count ∙ ap (λ (l : List ℕ). Some (record { past = past; progress = record { begun = n; text = l } })) same
 
 -- a wait and its collect are two moves, if this is printed for the collect
@@ -166,7 +166,7 @@ waited-moves phase program from progress old new call given line by at next wait
       others = s.others;
       mine = mine-one p Collect [] (Collected by);
       eager = λ none. let bad : end ∷ [] ≡ [] = none in absurd (cc);
-      turn = told-as (progress.begun + 1 + 0) (progress.begun + 1) ((progress.text ++ []) ++ said_of_collect (end ∷ found) p by) (progress.text ++ line) (end ∷ found) (after_turn found phase p first program) c.0 count text;
+      turn = turned-as (progress.begun + 1 + 0) (progress.begun + 1) ((progress.text ++ []) ++ said_of_collect (end ∷ found) p by) (progress.text ++ line) (end ∷ found) (after_turn found phase p first program) c.0 count text;
     }
     in
     record {

@@ -6,9 +6,9 @@ use Rattle.mq_model.specs.Record.{Past, Record}
 use Rattle.mq_model.specs.declared.faults.Fault.TheVariants.{NoMemory}
 use Rattle.schedules.specs.Outcomes.{is_among}
 use Rattle.schedules.specs.Schedules.{LeadsToGoal}
-use Rattle.schedules.specs.Told.{Told}
+use Rattle.schedules.specs.Observed.{Observed}
 use Rattle.schedules.specs.declared.outcomes.Witnessed.{Witnessed}
-use Rattle.script_orders.specs.Stage.{Stage, next_stage, stands_still, told}
+use Rattle.script_orders.specs.Stage.{Stage, next_stage, stands_still, observed}
 use Rattle.script_runner.specs.Runs.{RunsAfter, RunsPhase, RunsPhases, RunsWhole}
 use Rattle.script_text.specs.Script.{Whole, WrittenCall}
 use Rattle.script_text.specs.declared.reply.Completion.{Completion}
@@ -39,8 +39,8 @@ abbrev pub IsAmpleAfter : {past : Past} {script : Whole} {replies : List ℕ} {j
 IsAmpleAfter {past} {script} {replies} ran = AreAmplePhases script.phases (tickets_with ran.system past 1 script.processes) ran.runs.processes replies ran.runs.ran
 
 -- the outcome of a phase that ended with these replies
-abbrev pub phase_told : ℕ → List ℕ → Told
-phase_told phase text = record { stage = phase; stuck = false; text = text }
+abbrev pub phase_outcome : ℕ → List ℕ → Observed
+phase_outcome phase text = record { stage = phase; stuck = false; text = text }
 
 -- the replies of each phase that was run; together they are the text
 abbrev pub phase_replies : (phases : List (List WrittenCall)) (before after : List (Ticket Record)) (text : List ℕ) → RunsPhases phases before after text → List (List ℕ)
@@ -58,19 +58,19 @@ replies_after {past} {script} {replies} ran = phase_replies script.phases (ticke
 -- In some interleaving of the calls from this stage, phases end one after the other, each with its
 -- replies; `phase` is the number of the first. GoesOn then holds of the stage that they lead to and
 -- of the number of the next phase.
-abbrev pub AreToldBefore : (Stage → ℕ → Type 0) → Stage → ℕ → List (List ℕ) → Type 0
-AreToldBefore GoesOn from phase [] = GoesOn from phase
-AreToldBefore GoesOn from phase (text ∷ texts) =
+abbrev pub AreObservedBefore : (Stage → ℕ → Type 0) → Stage → ℕ → List (List ℕ) → Type 0
+AreObservedBefore GoesOn from phase [] = GoesOn from phase
+AreObservedBefore GoesOn from phase (text ∷ texts) =
     (schedule : List ℕ) × (to : Stage)
     × LeadsToGoal next_stage stands_still from schedule to
-    × (told to ≡ phase_told phase text)
-    × AreToldBefore GoesOn to (phase + 1) texts
+    × (observed to ≡ phase_outcome phase text)
+    × AreObservedBefore GoesOn to (phase + 1) texts
 
 -- the same, without a condition on what follows
-abbrev pub AreTold : Stage → ℕ → List (List ℕ) → Type 0
-AreTold from phase texts = AreToldBefore (λ to next. Unit {0}) from phase texts
+abbrev pub AreObserved : Stage → ℕ → List (List ℕ) → Type 0
+AreObserved from phase texts = AreObservedBefore (λ to next. Unit {0}) from phase texts
 
 -- the replies of each phase are among the outcomes found
 abbrev pub AreFound : List Witnessed → ℕ → List (List ℕ) → Type 0
 AreFound found phase [] = Unit {0}
-AreFound found phase (text ∷ texts) = (is_among found (phase_told phase text) ≡ true) × AreFound found (phase + 1) texts
+AreFound found phase (text ∷ texts) = (is_among found (phase_outcome phase text) ≡ true) × AreFound found (phase + 1) texts

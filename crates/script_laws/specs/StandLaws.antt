@@ -4,15 +4,15 @@ use Rattle.std.specs.List.{All, AllZip}
 use Rattle.fast_mutex.specs.Items.{Ticket, tickets_from}
 use Rattle.mq_model.specs.Record.{Record}
 use Rattle.schedules.specs.Schedules.{LeadsToGoal}
-use Rattle.schedules.specs.Told.{Told}
-use Rattle.script_orders.specs.Stage.{Stage, next_stage, stands_still, told, wait_text}
+use Rattle.schedules.specs.Observed.{Observed}
+use Rattle.script_orders.specs.Stage.{Stage, next_stage, stands_still, observed, wait_text}
 use Rattle.script_runner.specs.Runs.{calls_of}
 use Rattle.script_runner.specs.Stands.{EndsIn, EndsPhase}
 use Rattle.script_runner.specs.Stops.{StopsInDeadlock}
 use Rattle.script_runner.specs.declared.turns.Worked.{Worked}
 use Rattle.script_text.specs.Script.{Whole, WrittenCall}
 use Rattle.script_text.specs.declared.reply.Completion.{Completion}
-use Rattle.script_laws.specs.RunLaws.{AreAmplePhases, AreToldBefore, HadMemory, phase_replies}
+use Rattle.script_laws.specs.RunLaws.{AreAmplePhases, AreObservedBefore, HadMemory, phase_replies}
 
 -- No call that the process made failed with `NoMemory`. If it waits for ever, this is said of the
 -- calls before that wait.
@@ -41,20 +41,20 @@ stand_text [] = []
 stand_text (line ∷ lines) = wait_text line ++ stand_text lines
 
 -- the outcome of a phase that deadlocks in the calls of these lines
-abbrev pub stand_told : ℕ → List ℕ → Told
-stand_told phase lines = record { stage = phase; stuck = true; text = stand_text lines }
+abbrev pub stand_outcome : ℕ → List ℕ → Observed
+stand_outcome phase lines = record { stage = phase; stuck = true; text = stand_text lines }
 
 -- in some interleaving of the calls from this stage, the phase with this number deadlocks in the
 -- calls of these lines
 abbrev pub Stands : List ℕ → Stage → ℕ → Type 0
 Stands lines from phase =
-    (schedule : List ℕ) × (to : Stage) × LeadsToGoal next_stage stands_still from schedule to × (told to ≡ stand_told phase lines)
+    (schedule : List ℕ) × (to : Stage) × LeadsToGoal next_stage stands_still from schedule to × (observed to ≡ stand_outcome phase lines)
 
 -- In some interleaving of the calls from this stage, phases end one after the other, each with its
 -- replies, and then the next one deadlocks in the calls of these lines. `phase` is the number of
 -- the first.
 abbrev pub ComesToStand : Stage → ℕ → List (List ℕ) → List ℕ → Type 0
-ComesToStand from phase texts lines = AreToldBefore (Stands lines) from phase texts
+ComesToStand from phase texts lines = AreObservedBefore (Stands lines) from phase texts
 
 -- the replies of each phase of a run that ended before the one that deadlocked
 abbrev pub replies_before : {script : Whole} {lines : List ℕ} {old new : Option (List ℕ)} → StopsInDeadlock script lines old new → List (List ℕ)

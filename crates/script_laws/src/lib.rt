@@ -8,18 +8,18 @@ ghost use Rattle.schedules.specs.Outcomes.{AreAll, is_among};
 ghost use Rattle.schedules.specs.declared.outcomes.Witnessed.{Witnessed};
 ghost use Rattle.script_text.specs.Script.{Whole};
 ghost use Rattle.script_orders.specs.Orders.{Begins, BeginsAfter};
-ghost use Rattle.script_orders.specs.Stage.{Stage, next_stage, stands_still, told};
+ghost use Rattle.script_orders.specs.Stage.{Stage, next_stage, stands_still, observed};
 ghost use Rattle.script_runner.specs.Runs.{RunsAfter, RunsWhole};
 ghost use Rattle.script_runner.specs.Stops.{StopsInDeadlock};
-ghost use Rattle.script_laws.specs.RunLaws.{AreFound, AreTold, IsAmple, IsAmpleAfter, replies_after, whole_replies};
-ghost use Rattle.script_laws.specs.StandLaws.{ComesToStand, IsAmpleStop, replies_before, stand_told};
+ghost use Rattle.script_laws.specs.RunLaws.{AreFound, AreObserved, IsAmple, IsAmpleAfter, replies_after, whole_replies};
+ghost use Rattle.script_laws.specs.StandLaws.{ComesToStand, IsAmpleStop, replies_before, stand_outcome};
 
 /// What a run prints for each phase is the outcome of that phase in some interleaving of the calls,
 /// from the start of the script's processes. No call of the run may have failed with `NoMemory`.
 pub fn prints_outcomes()
     ensures { (script : Whole) (replies : List ℕ) (journal : Past) (from : Stage)
         (ran : RunsWhole script replies journal) → IsAmple ran → Begins script from →
-        AreTold from 0 (whole_replies ran) }
+        AreObserved from 0 (whole_replies ran) }
 {}
 
 /// If every interleaving of the calls was tried, what a run prints for each phase is among the
@@ -27,7 +27,7 @@ pub fn prints_outcomes()
 pub fn prints_what_is_found()
     ensures { (script : Whole) (replies : List ℕ) (journal : Past) (from : Stage)
         (found : List Witnessed) (ran : RunsWhole script replies journal) → IsAmple ran →
-        Begins script from → AreAll next_stage stands_still told from found →
+        Begins script from → AreAll next_stage stands_still observed from found →
         AreFound found 0 (whole_replies ran) }
 {}
 
@@ -44,14 +44,14 @@ pub fn prints_what_is_found_after()
     ensures { (past : Past) (script : Whole) (replies : List ℕ) (journal : Past) (from : Stage)
         (found : List Witnessed) (ran : RunsAfter past script replies journal) →
         1 ≤ script.processes → IsAmpleAfter ran →
-        BeginsAfter past script from → AreAll next_stage stands_still told from found →
+        BeginsAfter past script from → AreAll next_stage stands_still observed from found →
         AreFound found 0 (replies_after ran) }
 {}
 
 /// If a run deadlocks, so does some interleaving of the calls, from the start of the script's
 /// processes: what the run prints for the earlier phases are their outcomes, and the next phase
 /// deadlocks in the calls of the same lines. No call of the run may have failed with `NoMemory`.
-pub fn tells_deadlocks()
+pub fn outcomes_have_deadlocks()
     ensures { (script : Whole) (lines : List ℕ) (old new : Option (List ℕ)) (from : Stage)
         (stop : StopsInDeadlock script lines old new) → IsAmpleStop stop → Begins script from →
         ComesToStand from 0 (replies_before stop) lines }
@@ -62,7 +62,7 @@ pub fn tells_deadlocks()
 pub fn finds_deadlocks()
     ensures { (script : Whole) (lines : List ℕ) (old new : Option (List ℕ)) (from : Stage)
         (found : List Witnessed) (stop : StopsInDeadlock script lines old new) → IsAmpleStop stop →
-        Begins script from → AreAll next_stage stands_still told from found →
+        Begins script from → AreAll next_stage stands_still observed from found →
         AreFound found 0 (replies_before stop)
-        × (is_among found (stand_told (length stop.stops.first) lines) ≡ true) }
+        × (is_among found (stand_outcome (length stop.stops.first) lines) ≡ true) }
 {}

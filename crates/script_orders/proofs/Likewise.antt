@@ -12,7 +12,7 @@ use Rattle.mq_model.specs.declared.entries.Call.TheVariants.{MqClose, Collect}
 use Rattle.mq_state.specs.Trails.{can_call, record_of_call}
 use Rattle.mq_equivalence.specs.Key.{key_of, listed}
 use Rattle.mq_equivalence.specs.Views.{Message}
-use Rattle.mq_equivalence.proofs.Codes.{IsTold, told-listed, told-message}
+use Rattle.mq_equivalence.proofs.Codes.{IsDecodable, decodable-listed, decodable-message}
 use Rattle.mq_equivalence.proofs.Alike.{refused-alike}
 use Rattle.mq_equivalence.proofs.Calls.{can-alike}
 use Rattle.mq_equivalence.specs.Equivalence.{Equivalent}
@@ -21,13 +21,13 @@ use Rattle.mq_equivalence.proofs.SameKeys.{same-key}
 use Rattle.mq_equivalence.proofs.Runs.{steps-equivalent}
 use Rattle.schedules.specs.Likeness.{AreBothAlike}
 use Rattle.schedules.specs.Schedules.{IsReached, after}
-use Rattle.schedules.specs.Told.{Told}
+use Rattle.schedules.specs.Observed.{Observed}
 use Rattle.schedules.proofs.Covering.{reach-start}
 use Rattle.script_orders.specs.Progress.{Progress}
 use Rattle.script_orders.specs.Said.{said}
 use Rattle.script_orders.specs.Scenes.{Scene, after_call, after_step, close_first, close_held, is_held}
 use Rattle.script_orders.specs.Turns.{Turned, after_line, after_turn, scene_of, turned}
-use Rattle.script_orders.specs.Stage.{Stage, after_phase, first_stage, in_next_phase, is_phase_over, next_stage, none_can_turn, one_waits, replies, stands_still, told, turn_of, wait_line_of, wait_of, wait_text, waiting_lines, waits, with_turn}
+use Rattle.script_orders.specs.Stage.{Stage, after_phase, first_stage, in_next_phase, is_phase_over, next_stage, none_can_turn, one_waits, replies, stands_still, observed, turn_of, wait_line_of, wait_of, wait_text, waiting_lines, waits, with_turn}
 use Rattle.script_orders.specs.StageLaws.{next-first}
 use Rattle.script_orders.specs.Likeness.{AreStagesAlike, IsStageKey, seat_code, stage_code, with_past}
 use Rattle.script_orders.specs.declared.plan.Planned.{Planned}
@@ -189,10 +189,10 @@ lines-alike s past (suc n) alike =
     ap (λ (text : List ℕ). text ++ wait_of (with_past s past) n) (lines-alike s past n alike)
     ∙ ap (λ (b : Bool). waiting_lines s n ++ line b) (alike.equivalent.waits (n + 1))
 
-told-alike : (s : Stage) (past : Past) → Equivalent s.past past → told (with_past s past) ≡ told s
-told-alike s past alike =
+observed-alike : (s : Stage) (past : Past) → Equivalent s.past past → observed (with_past s past) ≡ observed s
+observed-alike s past alike =
     let n = length s.programs in
-    let build : Bool → List ℕ → Told = λ b lines. record { stage = s.phase; stuck = b; text = if b then lines else replies s.seats } in
+    let build : Bool → List ℕ → Observed = λ b lines. record { stage = s.phase; stuck = b; text = if b then lines else replies s.seats } in
     ap (λ (b : Bool). build b (waiting_lines (with_past s past) n)) (waits-alike s.past past n alike) ∙ ap (λ (lines : List ℕ). build (waits s) lines) (lines-alike s past n alike)
 
 -- a choice ------------------------------------------------------------------------------------------------------------------
@@ -248,17 +248,17 @@ pub stages-goal : (x y : Stage) → AreStagesAlike x y → stands_still x ≡ st
 stages-goal x y alike =
     sym (none-alike x y.past (length x.programs) alike.few alike.journals) ∙ ap stands_still (sym alike.differ)
 
-pub stages-told : (x y : Stage) → AreStagesAlike x y → told x ≡ told y
-stages-told x y alike = sym (told-alike x y.past alike.journals) ∙ ap told (sym alike.differ)
+pub stages-observed : (x y : Stage) → AreStagesAlike x y → observed x ≡ observed y
+stages-observed x y alike = sym (observed-alike x y.past alike.journals) ∙ ap observed (sym alike.differ)
 
 reach-first : (schedule : List ℕ) (s x : Stage) → after next_stage schedule s ≡ Some x → first_stage x ≡ first_stage s
 reach-first schedule s x h = reach-start next_stage first_stage next-first schedule s x h
 
-told-seat : IsTold seat_code
-told-seat a b u v e =
+decodable-seat : IsDecodable seat_code
+decodable-seat a b u v e =
     let message : Progress → Message = λ (q : Progress). record { prio = q.begun; bytes = q.text } in
     let progress : Message → Progress = λ (m : Message). record { begun = m.prio; text = m.bytes } in
-    let same = told-message (message a) (message b) u v e in
+    let same = decodable-message (message a) (message b) u v e in
     (ap progress same.0, same.1)
 
 -- stages that are reached from one, and have one key
@@ -275,7 +275,7 @@ stages-key from x y key legal to_x to_y key_x key_y =
     let codes : stage_code y ≡ stage_code x = sym key_y.is ∙ key_x.is in
     let phase : y.phase ≡ x.phase = cc in
     let rest : listed seat_code y.seats ++ key_of y.past ≡ listed seat_code x.seats ++ key_of x.past = cc in
-    let parts = told-listed seat_code told-seat y.seats x.seats (key_of y.past) (key_of x.past) rest in
+    let parts = decodable-listed seat_code decodable-seat y.seats x.seats (key_of y.past) (key_of x.past) rest in
     let build : List (Vec Planned Global) → ℕ → Past → ℕ → List Progress → Stage = λ programs phases start phase seats. record { programs = programs; phases = phases; start = start; phase = phase; past = y.past; seats = seats } in
     record {
       few = key_x.few;

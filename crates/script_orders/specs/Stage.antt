@@ -5,7 +5,7 @@ use Rattle.std.specs.Option.{option_map, option_and_then, unwrap_or}
 use Rattle.std.specs.declared.alloc.Global.{Global}
 use Rattle.mq_model.specs.Record.{Past}
 use Rattle.mq_model.specs.Waits.{open_wait}
-use Rattle.schedules.specs.Told.{Told}
+use Rattle.schedules.specs.Observed.{Observed}
 use Rattle.script_orders.specs.Progress.{Progress}
 use Rattle.script_orders.specs.Turns.{Turned, after_turn}
 use Rattle.script_orders.specs.declared.plan.Planned.{Planned}
@@ -109,5 +109,5 @@ waiting_lines s zero = []
 waiting_lines s (suc n) = waiting_lines s n ++ wait_of s n
 
 -- The outcome when no process can take a step: the phase, whether it deadlocks, and the text.
-abbrev pub told : Stage → Told
-told s = record { stage = s.phase; stuck = waits s; text = if waits s then waiting_lines s (length s.programs) else replies s.seats }
+abbrev pub observed : Stage → Observed
+observed s = record { stage = s.phase; stuck = waits s; text = if waits s then waiting_lines s (length s.programs) else replies s.seats }

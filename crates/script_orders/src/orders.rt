@@ -8,7 +8,7 @@ ghost use Rattle.schedules.specs.Outcomes.{AreAll, AreDistinct, IsWitness};
 ghost use Rattle.schedules.specs.Work.{TakesAll};
 ghost use Rattle.script_text.specs.Script.{Whole, said_script};
 ghost use Rattle.script_orders.specs.Orders.{AreLegal, Begins, BeginsAfter, HasMade};
-ghost use Rattle.script_orders.specs.Stage.{Stage, choice_count, first_stage, next_stage, stands_still, told, turn_of};
+ghost use Rattle.script_orders.specs.Stage.{Stage, choice_count, first_stage, next_stage, stands_still, observed, turn_of};
 
 use crate::plan::programs_of;
 use crate::play::Play;
@@ -41,10 +41,10 @@ pub fn play_after(alloc: Global, script: &Script<'_>, journal: Journal) -> Resul
 /// memory was refused.
 pub fn outcomes_of(alloc: Global, play: &mut Play, budget: u64) -> Result<Collected, AllocError>
     ensures witnessed { IfOk result (λ c.
-        All (IsWitness next_stage stands_still told (first_stage play.old)) c.found.items) }
+        All (IsWitness next_stage stands_still observed (first_stage play.old)) c.found.items) }
     ensures distinct { IfOk result (λ c. AreDistinct c.found.items) }
     ensures all { IfOk result (λ c. c.complete ≡ true →
-        AreAll next_stage stands_still told (first_stage play.old) c.found.items) }
+        AreAll next_stage stands_still observed (first_stage play.old) c.found.items) }
     ensures used_up { IfOk result (λ c. c.complete ≡ false →
         TakesAll next_stage choice_count (λ depth. 1) budget (first_stage play.old)) }
     ensures legal { AreLegal (first_stage play.old) }

@@ -14,7 +14,7 @@ use mq_model::journals::Journal;
 use mq_state::trail::Trail;
 use schedules::keyed::Keyed;
 use schedules::machine::Machine;
-use schedules::outcomes::{Outcome, Telling, TellsAlike};
+use schedules::outcomes::{EquivalentOutcomes, Observable, Outcome};
 use std::alloc::{AllocError, Global};
 use std::marker::Model;
 
@@ -334,10 +334,10 @@ impl Machine for Play {
     ghost no_others = { next-others };
 }
 
-impl Telling for Play {
-    ghost use Rattle.script_orders.specs.Stage.{told};
+impl Observable for Play {
+    ghost use Rattle.script_orders.specs.Stage.{observed};
 
-    ghost outcome = { told };
+    ghost outcome = { observed };
 
     fn outcome(&self, alloc: Global) -> Result<Outcome, AllocError> {
         let stuck = self.one_waits();
@@ -388,8 +388,8 @@ impl Keyed for Play {
     }
 }
 
-impl TellsAlike for Play {
-    fn tells_alike(&self) {
+impl EquivalentOutcomes for Play {
+    fn have_equal_outcomes(&self) {
         let _processes = self.programs.len();
     }
 }

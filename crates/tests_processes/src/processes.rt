@@ -16,7 +16,7 @@ use std::io::Print;
 use std::process::Abort;
 use std::sync::Wait;
 use std::time::Clock;
-use steps::{Ask, CREATE, OPEN, Step, Told, expect_steps};
+use steps::{Ask, CREATE, OPEN, Step, Expected, expect_steps};
 use tests_refusals::say_refused;
 
 mod blocked;
@@ -128,45 +128,45 @@ pub fn expect_journal<R: Abort>(rt: &R, journal: &Journal, wanted: &[(u32, Reply
 }
 
 static IN_ORDER: [Step; 9] = [
-    (1, Ask::Number, Told::Number(1)),
-    (2, Ask::Number, Told::Number(2)),
-    (1, Ask::Open(CREATE, 2), Told::Opened(0)),
-    (1, Ask::Send(0, b"a", 1), Told::Done),
-    (1, Ask::Send(0, b"b", 1), Told::Done),
+    (1, Ask::Number, Expected::Number(1)),
+    (2, Ask::Number, Expected::Number(2)),
+    (1, Ask::Open(CREATE, 2), Expected::Opened(0)),
+    (1, Ask::Send(0, b"a", 1), Expected::Done),
+    (1, Ask::Send(0, b"b", 1), Expected::Done),
     (1, Ask::Receive(0), RECEIVED),
-    (1, Ask::Buffer, Told::Bytes([b'a', 0, 0, 0, 0, 0, 0, 0])),
+    (1, Ask::Buffer, Expected::Bytes([b'a', 0, 0, 0, 0, 0, 0, 0])),
     (1, Ask::Receive(0), RECEIVED),
-    (1, Ask::Buffer, Told::Bytes([b'b', 0, 0, 0, 0, 0, 0, 0])),
+    (1, Ask::Buffer, Expected::Bytes([b'b', 0, 0, 0, 0, 0, 0, 0])),
 ];
 
-const RECEIVED: Told = Told::Got(Received { len: 1, prio: 1 });
+const RECEIVED: Expected = Expected::Got(Received { len: 1, prio: 1 });
 
 static BOTH_WAIT: [Step; 21] = [
-    (1, Ask::Open(CREATE, 1), Told::Opened(0)),
-    (2, Ask::Open(OPEN, 1), Told::Opened(0)),
-    (1, Ask::StartReceive(0), Told::Waits),
-    (1, Ask::Waiting, Told::Room(Some(8))),
-    (1, Ask::Answered, Told::Is(false)),
-    (1, Ask::Collect, Told::Came(None)),
-    (2, Ask::Send(0, b"hi", 4), Told::Done),
-    (1, Ask::Answered, Told::Is(true)),
-    (1, Ask::Answered, Told::Is(true)),
+    (1, Ask::Open(CREATE, 1), Expected::Opened(0)),
+    (2, Ask::Open(OPEN, 1), Expected::Opened(0)),
+    (1, Ask::StartReceive(0), Expected::Waits),
+    (1, Ask::Waiting, Expected::Room(Some(8))),
+    (1, Ask::Answered, Expected::Is(false)),
+    (1, Ask::Collect, Expected::Came(None)),
+    (2, Ask::Send(0, b"hi", 4), Expected::Done),
+    (1, Ask::Answered, Expected::Is(true)),
+    (1, Ask::Answered, Expected::Is(true)),
     (
         1,
         Ask::Collect,
-        Told::Came(Some(Collected::Got(Received { len: 2, prio: 4 }))),
+        Expected::Came(Some(Collected::Got(Received { len: 2, prio: 4 }))),
     ),
-    (1, Ask::Answered, Told::Is(false)),
-    (1, Ask::Buffer, Told::Bytes([b'h', b'i', 0, 0, 0, 0, 0, 0])),
-    (2, Ask::StartSend(0, b"a", 0), Told::Done),
-    (2, Ask::StartSend(0, b"b", 0), Told::Waits),
-    (2, Ask::Waiting, Told::Room(Some(0))),
-    (2, Ask::Send(0, b"c", 0), Told::Nothing),
-    (1, Ask::Waiting, Told::Room(None)),
-    (1, Ask::Receive(0), Told::Got(Received { len: 1, prio: 0 })),
-    (1, Ask::Buffer, Told::Bytes([b'a', b'i', 0, 0, 0, 0, 0, 0])),
-    (2, Ask::Collect, Told::Came(Some(Collected::Sent))),
-    (2, Ask::Waiting, Told::Room(None)),
+    (1, Ask::Answered, Expected::Is(false)),
+    (1, Ask::Buffer, Expected::Bytes([b'h', b'i', 0, 0, 0, 0, 0, 0])),
+    (2, Ask::StartSend(0, b"a", 0), Expected::Done),
+    (2, Ask::StartSend(0, b"b", 0), Expected::Waits),
+    (2, Ask::Waiting, Expected::Room(Some(0))),
+    (2, Ask::Send(0, b"c", 0), Expected::Nothing),
+    (1, Ask::Waiting, Expected::Room(None)),
+    (1, Ask::Receive(0), Expected::Got(Received { len: 1, prio: 0 })),
+    (1, Ask::Buffer, Expected::Bytes([b'a', b'i', 0, 0, 0, 0, 0, 0])),
+    (2, Ask::Collect, Expected::Came(Some(Collected::Sent))),
+    (2, Ask::Waiting, Expected::Room(None)),
 ];
 
 const CREATED: Reply = Reply::Opened {

@@ -23,7 +23,7 @@ impl<L: Look<Guarded>> Guard<L> {
     ghost use Rattle.mq_model.specs.Record.{record_at};
     ghost use Rattle.mq_state.specs.Buffers.{waiting_room};
     ghost use Rattle.mq_state.specs.Room.{NobodyCanCall, room_left};
-    ghost use Rattle.mq.specs.Calls.{Calls, KeepsTold, bounds_of, stored_in};
+    ghost use Rattle.mq.specs.Calls.{Calls, KeepsAnswered, bounds_of, stored_in};
     ghost use Rattle.mq.specs.Readings.{record_of};
 
     /// Checks the stored journal from its first entry, as [`verdict`] does.
@@ -34,7 +34,7 @@ impl<L: Look<Guarded>> Guard<L> {
         ensures calls { Calls self.process result.0 [] }
         ensures wait { waiting_room result.0.left result.0.number ≡
             waiting_room self.process.left self.process.number }
-        ensures told { KeepsTold self.process result.0 }
+        ensures told { KeepsAnswered self.process result.0 }
     {
         let (inside, state) = begin::<L>(self.walk, self.number);
         let checked = verdict(alloc, state.books.journal());
@@ -50,7 +50,7 @@ impl<L: Look<Guarded>> Guard<L> {
         ensures calls { Calls self.process result.0 [] }
         ensures wait { waiting_room result.0.left result.0.number ≡
             waiting_room self.process.left self.process.number }
-        ensures told { KeepsTold self.process result.0 }
+        ensures told { KeepsAnswered self.process result.0 }
     {
         let (inside, state) = begin::<L>(self.walk, self.number);
         let entry = state.books.journal().entry(place);
@@ -71,7 +71,7 @@ impl<L: Look<Guarded>> Guard<L> {
         ensures calls { Calls self.process result.0 [] }
         ensures wait { waiting_room result.0.left result.0.number ≡
             waiting_room self.process.left self.process.number }
-        ensures told { KeepsTold self.process result.0 }
+        ensures told { KeepsAnswered self.process result.0 }
     {
         let (inside, state) = begin::<L>(self.walk, self.number);
         let read = record_at(alloc, state.books.journal(), place);
@@ -85,7 +85,7 @@ impl<L: Look<Guarded>> Guard<L> {
         ensures calls { Calls self.process result.0 [] }
         ensures wait { waiting_room result.0.left result.0.number ≡
             waiting_room self.process.left self.process.number }
-        ensures told { KeepsTold self.process result.0 }
+        ensures told { KeepsAnswered self.process result.0 }
     {
         let (inside, state) = begin::<L>(self.walk, self.number);
         let room = state.books.room();
@@ -99,7 +99,7 @@ impl<L: Look<Guarded>> Guard<L> {
         ensures calls { Calls self.process result.0 [] }
         ensures wait { waiting_room result.0.left result.0.number ≡
             waiting_room self.process.left self.process.number }
-        ensures told { KeepsTold self.process result.0 }
+        ensures told { KeepsAnswered self.process result.0 }
     {
         let (inside, state) = begin::<L>(self.walk, self.number);
         let count = state.books.journal_len();
@@ -114,7 +114,7 @@ impl<L: Look<Guarded>> Guard<L> {
         ensures calls { Calls self.process result.0 [] }
         ensures wait { waiting_room result.0.left result.0.number ≡
             waiting_room self.process.left self.process.number }
-        ensures told { KeepsTold self.process result.0 }
+        ensures told { KeepsAnswered self.process result.0 }
     {
         let (inside, state) = begin::<L>(self.walk, self.number);
         let nobody = state.books.nobody_can_call();

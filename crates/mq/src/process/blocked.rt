@@ -17,7 +17,7 @@ impl<L: Look<Guarded>> Process<L> {
     ghost use Rattle.mq_state.specs.Buffers.{waiting_room};
     ghost use Rattle.mq.specs.Blocked.{is_blocked};
     ghost use Rattle.mq_state.specs.Room.{NobodyCanCall, room_left};
-    ghost use Rattle.mq.specs.Calls.{Calls, KeepsTold, IsFree, OneCall, ReceiveCall, WaitsIn, bounds_of};
+    ghost use Rattle.mq.specs.Calls.{Calls, KeepsAnswered, IsFree, OneCall, ReceiveCall, WaitsIn, bounds_of};
     ghost use Rattle.mq.specs.Says.{start_send_says, start_receive_says};
 
     /// Whether each of these processes is blocked: it has an open wait that no entry serves. It
@@ -30,7 +30,7 @@ impl<L: Look<Guarded>> Process<L> {
         ensures calls { Calls self.old self.new [] }
         ensures wait { waiting_room self.new.left self.new.number ≡
             waiting_room self.old.left self.old.number }
-        ensures told { KeepsTold self.old self.new }
+        ensures told { KeepsAnswered self.old self.new }
     {
         in_one_stay!(self, rt, mq, |guard| guard.are_blocked(mq, processes))
     }
@@ -45,7 +45,7 @@ impl<L: Look<Guarded>> Process<L> {
         ensures calls { Calls self.old self.new [] }
         ensures wait { waiting_room self.new.left self.new.number ≡
             waiting_room self.old.left self.old.number }
-        ensures told { KeepsTold self.old self.new }
+        ensures told { KeepsAnswered self.old self.new }
     {
         in_one_stay!(self, rt, mq, |guard| guard.nobody_can_call(mq))
     }
@@ -59,7 +59,7 @@ impl<L: Look<Guarded>> Process<L> {
         ensures calls { Calls self.old self.new [] }
         ensures wait { waiting_room self.new.left self.new.number ≡
             waiting_room self.old.left self.old.number }
-        ensures told { KeepsTold self.old self.new }
+        ensures told { KeepsAnswered self.old self.new }
     {
         in_one_stay!(self, rt, mq, |guard| guard.room(mq))
     }
@@ -71,7 +71,7 @@ impl<L: Look<Guarded>> Process<L> {
         ensures calls { Calls self.old self.new [] }
         ensures wait { waiting_room self.new.left self.new.number ≡
             waiting_room self.old.left self.old.number }
-        ensures told { KeepsTold self.old self.new }
+        ensures told { KeepsAnswered self.old self.new }
     {
         in_one_stay!(self, rt, mq, |guard| guard.journal_len(mq))
     }

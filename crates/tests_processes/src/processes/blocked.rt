@@ -1,7 +1,7 @@
 //! Waits with a deadline that are started and not waited for, and which processes are blocked
 //! meanwhile.
 use super::journal_after;
-use super::steps::{Ask, CREATE, OPEN, Step, Told};
+use super::steps::{Ask, CREATE, OPEN, Step, Expected};
 use mq::{Collected, Received};
 
 const RECEIVED: Received = Received { len: 1, prio: 0 };
@@ -9,24 +9,24 @@ const RECEIVED: Received = Received { len: 1, prio: 0 };
 // A process is blocked from the call that waits to the entry that serves its wait, and not until
 // its collect. The calls that ask add no entry.
 static STEPS: [Step; 18] = [
-    (1, Ask::JournalLen, Told::Entries(0)),
-    (1, Ask::Open(CREATE, 1), Told::Opened(0)),
-    (2, Ask::Open(OPEN, 1), Told::Opened(0)),
-    (1, Ask::AreBlocked(&[1]), Told::Is(false)),
-    (1, Ask::StartTimedReceive(0), Told::Waits),
-    (1, Ask::AreBlocked(&[1]), Told::Is(true)),
-    (1, Ask::JournalLen, Told::Entries(3)),
-    (2, Ask::JournalLen, Told::Entries(3)),
-    (2, Ask::AreBlocked(&[1, 2]), Told::Is(false)),
-    (2, Ask::StartTimedSend(0, b"a", 0), Told::Done),
-    (1, Ask::AreBlocked(&[1]), Told::Is(false)),
-    (1, Ask::Collect, Told::Came(Some(Collected::Got(RECEIVED)))),
-    (2, Ask::StartTimedSend(0, b"b", 0), Told::Done),
-    (2, Ask::StartTimedSend(0, b"c", 0), Told::Waits),
-    (1, Ask::AreBlocked(&[2]), Told::Is(true)),
-    (1, Ask::StartTimedReceive(0), Told::Got(RECEIVED)),
-    (2, Ask::AreBlocked(&[2]), Told::Is(false)),
-    (2, Ask::Collect, Told::Came(Some(Collected::Sent))),
+    (1, Ask::JournalLen, Expected::Entries(0)),
+    (1, Ask::Open(CREATE, 1), Expected::Opened(0)),
+    (2, Ask::Open(OPEN, 1), Expected::Opened(0)),
+    (1, Ask::AreBlocked(&[1]), Expected::Is(false)),
+    (1, Ask::StartTimedReceive(0), Expected::Waits),
+    (1, Ask::AreBlocked(&[1]), Expected::Is(true)),
+    (1, Ask::JournalLen, Expected::Entries(3)),
+    (2, Ask::JournalLen, Expected::Entries(3)),
+    (2, Ask::AreBlocked(&[1, 2]), Expected::Is(false)),
+    (2, Ask::StartTimedSend(0, b"a", 0), Expected::Done),
+    (1, Ask::AreBlocked(&[1]), Expected::Is(false)),
+    (1, Ask::Collect, Expected::Came(Some(Collected::Got(RECEIVED)))),
+    (2, Ask::StartTimedSend(0, b"b", 0), Expected::Done),
+    (2, Ask::StartTimedSend(0, b"c", 0), Expected::Waits),
+    (1, Ask::AreBlocked(&[2]), Expected::Is(true)),
+    (1, Ask::StartTimedReceive(0), Expected::Got(RECEIVED)),
+    (2, Ask::AreBlocked(&[2]), Expected::Is(false)),
+    (2, Ask::Collect, Expected::Came(Some(Collected::Sent))),
 ];
 
 #[test]

@@ -2,7 +2,7 @@
 ghost use Rattle.std.specs.Prelude.{◌≡◌, []};
 ghost use Rattle.fast_mutex.specs.Items.{tickets_from};
 
-use super::steps::{Ask, CREATE, Step, Told, asked_once};
+use super::steps::{Ask, CREATE, Step, Expected, asked_once};
 use fast_mutex::{FastMutex, Look};
 use mq::{Guarded, Mq, Process};
 use mq_model::entries::{Received, Status};
@@ -109,7 +109,7 @@ fn alone<R: Wait + Clock + Abort + Print>(
     after::<FastMutex<Guarded>, R>(rt, alloc, entries, bytes, steps)
 }
 
-const FULL: Told = Told::Refused(Fault::JournalFull);
+const FULL: Expected = Expected::Refused(Fault::JournalFull);
 
 const EMPTY: Status = Status {
     nonblock: false,
@@ -120,18 +120,18 @@ const EMPTY: Status = Status {
 
 // Four entries and four bytes: two of the name, and two of messages.
 static FOUR_OF_EACH: [Step; 12] = [
-    (1, Ask::Open(CREATE, 2), Told::Opened(0)),
-    (1, Ask::Send(0, b"ab", 0), Told::Done),
+    (1, Ask::Open(CREATE, 2), Expected::Opened(0)),
+    (1, Ask::Send(0, b"ab", 0), Expected::Done),
     (1, Ask::Send(0, b"c", 0), FULL),
-    (1, Ask::Receive(0), Told::Got(Received { len: 2, prio: 0 })),
-    (1, Ask::Buffer, Told::Bytes([b'a', b'b', 0, 0, 0, 0, 0, 0])),
+    (1, Ask::Receive(0), Expected::Got(Received { len: 2, prio: 0 })),
+    (1, Ask::Buffer, Expected::Bytes([b'a', b'b', 0, 0, 0, 0, 0, 0])),
     (1, Ask::Receive(0), FULL),
     (1, Ask::TimedReceive(0, 1), FULL),
     (1, Ask::Send(0, b"", 0), FULL),
-    (1, Ask::Getattr(0), Told::Attrs(EMPTY)),
+    (1, Ask::Getattr(0), Expected::Attrs(EMPTY)),
     (1, Ask::Close(0), FULL),
     (1, Ask::Exit, FULL),
-    (1, Ask::Waiting, Told::Room(None)),
+    (1, Ask::Waiting, Expected::Room(None)),
 ];
 
 #[test]
@@ -153,7 +153,7 @@ static NOTHING_FITS: [Step; 14] = [
     (1, Ask::NextNotice, FULL),
     (1, Ask::Getattr(0), FULL),
     (1, Ask::Setattr(0, EMPTY), FULL),
-    (1, Ask::Exit, Told::Done),
+    (1, Ask::Exit, Expected::Done),
 ];
 
 #[test]
@@ -193,7 +193,7 @@ fn bounds_beyond_all_memory_are_refused_at_the_making(rt: HostRuntime) {
 
 // One entry, and the two bytes of the name.
 static ONE_ENTRY: [Step; 3] = [
-    (1, Ask::Open(CREATE, 2), Told::Opened(0)),
+    (1, Ask::Open(CREATE, 2), Expected::Opened(0)),
     (1, Ask::Getattr(0), FULL),
     (1, Ask::Exit, FULL),
 ];

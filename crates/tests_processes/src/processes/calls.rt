@@ -1,5 +1,5 @@
 //! The calls of a process that never wait.
-use super::steps::{Ask, CREATE, OPEN, Step, Told};
+use super::steps::{Ask, CREATE, OPEN, Step, Expected};
 use super::{expect_journal, journal_after};
 use mq_model::entries::{Received, Reply, Status};
 use mq_model::faults::Fault;
@@ -20,23 +20,23 @@ const NONBLOCK: Status = Status {
 // message, a receive by a nonblocking descriptor fails. A queue exists without descriptors until
 // its unlink.
 static EACH_CALL: [Step; 17] = [
-    (1, Ask::Open(CREATE, 2), Told::Opened(0)),
-    (1, Ask::Notify(0, Some(7)), Told::Done),
-    (1, Ask::NextNotice, Told::Notice(None)),
-    (1, Ask::Send(0, b"a", 3), Told::Done),
-    (1, Ask::NextNotice, Told::Notice(Some(7))),
-    (1, Ask::NextNotice, Told::Notice(None)),
-    (1, Ask::Receive(0), Told::Got(Received { len: 1, prio: 3 })),
-    (1, Ask::Setattr(0, NONBLOCK), Told::Attrs(EMPTY)),
-    (1, Ask::Getattr(0), Told::Attrs(NONBLOCK)),
-    (1, Ask::Receive(0), Told::Refused(Fault::Again)),
-    (1, Ask::Close(0), Told::Done),
-    (1, Ask::Getattr(0), Told::Refused(Fault::BadDescriptor)),
-    (1, Ask::Open(OPEN, 2), Told::Opened(0)),
-    (1, Ask::Exit, Told::Done),
-    (1, Ask::Getattr(0), Told::Refused(Fault::BadDescriptor)),
-    (1, Ask::Unlink, Told::Done),
-    (1, Ask::Open(OPEN, 2), Told::Refused(Fault::NoEntry)),
+    (1, Ask::Open(CREATE, 2), Expected::Opened(0)),
+    (1, Ask::Notify(0, Some(7)), Expected::Done),
+    (1, Ask::NextNotice, Expected::Notice(None)),
+    (1, Ask::Send(0, b"a", 3), Expected::Done),
+    (1, Ask::NextNotice, Expected::Notice(Some(7))),
+    (1, Ask::NextNotice, Expected::Notice(None)),
+    (1, Ask::Receive(0), Expected::Got(Received { len: 1, prio: 3 })),
+    (1, Ask::Setattr(0, NONBLOCK), Expected::Attrs(EMPTY)),
+    (1, Ask::Getattr(0), Expected::Attrs(NONBLOCK)),
+    (1, Ask::Receive(0), Expected::Refused(Fault::Again)),
+    (1, Ask::Close(0), Expected::Done),
+    (1, Ask::Getattr(0), Expected::Refused(Fault::BadDescriptor)),
+    (1, Ask::Open(OPEN, 2), Expected::Opened(0)),
+    (1, Ask::Exit, Expected::Done),
+    (1, Ask::Getattr(0), Expected::Refused(Fault::BadDescriptor)),
+    (1, Ask::Unlink, Expected::Done),
+    (1, Ask::Open(OPEN, 2), Expected::Refused(Fault::NoEntry)),
 ];
 
 static REPLIES: [(u32, Reply); 17] = [

@@ -1,5 +1,5 @@
 //! Receives with a deadline that passes, by a clock of the test and by the real one.
-use super::steps::{Ask, CREATE, OPEN, Step, Told, expect_steps};
+use super::steps::{Ask, CREATE, OPEN, Step, Expected, expect_steps};
 use super::{Pair, finish, make_pair, room};
 use fast_mutex::{FastMutex, Look};
 use mq::{Guarded, Monotonic};
@@ -52,17 +52,17 @@ impl Moments for Ticks {
 const MOST: u64 = 20;
 
 static STEPS: [Step; 7] = [
-    (1, Ask::Open(CREATE, 1), Told::Opened(0)),
-    (2, Ask::Open(OPEN, 1), Told::Opened(0)),
-    (1, Ask::ReceiveUntilTick(0), Told::Refused(Fault::TimedOut)),
-    (1, Ask::Buffer, Told::Bytes([0; 8])),
-    (1, Ask::Send(0, b"a", 0), Told::Done),
+    (1, Ask::Open(CREATE, 1), Expected::Opened(0)),
+    (2, Ask::Open(OPEN, 1), Expected::Opened(0)),
+    (1, Ask::ReceiveUntilTick(0), Expected::Refused(Fault::TimedOut)),
+    (1, Ask::Buffer, Expected::Bytes([0; 8])),
+    (1, Ask::Send(0, b"a", 0), Expected::Done),
     (
         2,
         Ask::TimedSend(0, b"b", 0, MOST),
-        Told::Refused(Fault::TimedOut),
+        Expected::Refused(Fault::TimedOut),
     ),
-    (1, Ask::Waiting, Told::Room(None)),
+    (1, Ask::Waiting, Expected::Room(None)),
 ];
 
 // The journal of these steps, and how long they took.

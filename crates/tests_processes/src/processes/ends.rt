@@ -1,7 +1,7 @@
 //! The end of a system: with no process, with one process of two, and while one waits.
 ghost use Rattle.std.specs.Prelude.{◌≡◌, []};
 
-use super::steps::{Ask, CREATE, Step, Told, expect_steps};
+use super::steps::{Ask, CREATE, Step, Expected, expect_steps};
 use super::{
     CREATED, Pair, QUEUED, RECEIVED, expect_journal, finish, journal_after, make_pair, room,
 };
@@ -47,9 +47,9 @@ fn finish_early<L: Look<Guarded>, A: Abort>(
     (whole, one, parts)
 }
 
-static FIRST: [Step; 1] = [(1, Ask::Open(CREATE, 2), Told::Opened(0))];
+static FIRST: [Step; 1] = [(1, Ask::Open(CREATE, 2), Expected::Opened(0))];
 
-static SECOND: [Step; 1] = [(1, Ask::Send(0, b"a", 1), Told::Done)];
+static SECOND: [Step; 1] = [(1, Ask::Send(0, b"a", 1), Expected::Done)];
 
 static THIRD: [Step; 1] = [(1, Ask::Receive(0), RECEIVED)];
 
@@ -92,8 +92,8 @@ fn what_an_early_end_hands_back_is_used_again(rt: HostRuntime) {
 }
 
 static STILL_WAITS: [Step; 2] = [
-    (1, Ask::Open(CREATE, 1), Told::Opened(0)),
-    (1, Ask::StartReceive(0), Told::Waits),
+    (1, Ask::Open(CREATE, 1), Expected::Opened(0)),
+    (1, Ask::StartReceive(0), Expected::Waits),
 ];
 
 #[test]

@@ -2,7 +2,7 @@
 //! from outside.
 ghost use Rattle.std.specs.Prelude.{◌≡◌};
 
-use super::steps::{Ask, CREATE, Told, asked, asked_once};
+use super::steps::{Ask, CREATE, Expected, asked, asked_once};
 use super::{Pair, finish, make_pair, room};
 use fast_mutex::{FastMutex, Look};
 use mq::{Guarded, Mq, Process};
@@ -27,7 +27,7 @@ fn is_open<L: Look<Guarded>, R: Wait + Clock + Print>(
     requires { p.old.lock ≡ mq.now }
     ensures { p.new.lock ≡ mq.now }
 {
-    asked(rt, mq, p, Ask::Getattr(d), &mut [0; 8]) != Told::Refused(Fault::BadDescriptor)
+    asked(rt, mq, p, Ask::Getattr(d), &mut [0; 8]) != Expected::Refused(Fault::BadDescriptor)
 }
 
 // Opens this number of descriptors.
@@ -42,7 +42,7 @@ fn expect_opens<L: Look<Guarded>, R: Wait + Clock + Abort + Print>(
 {
     for d in 0..count {
         let opened = asked(rt, mq, p, Ask::Open(CREATE, 1), &mut [0; 8]);
-        assert!(rt; opened == Told::Opened(d), "descriptor {d}");
+        assert!(rt; opened == Expected::Opened(d), "descriptor {d}");
     }
 }
 
@@ -76,11 +76,11 @@ fn expect_exit<L: Look<Guarded>, R: Wait + Clock + Abort + Print>(
     requires { p.old.lock ≡ mq.now }
     ensures { p.new.lock ≡ mq.now }
 {
-    if asked_once(rt, mq, p, Ask::Exit, &mut [0; 8]) == Told::Refused(Fault::NoMemory) {
+    if asked_once(rt, mq, p, Ask::Exit, &mut [0; 8]) == Expected::Refused(Fault::NoMemory) {
         assert!(rt; closed(rt, mq, p, count) < count);
         say_refused(rt, "an exit");
         let again = asked_once(rt, mq, p, Ask::Exit, &mut [0; 8]);
-        assert!(rt; again == Told::Done);
+        assert!(rt; again == Expected::Done);
     }
     assert_eq!(rt; closed(rt, mq, p, count), count);
 }

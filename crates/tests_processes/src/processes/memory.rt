@@ -1,5 +1,5 @@
 //! Calls of processes that take no memory, while every allocation may be made to fail from outside.
-use super::steps::{Ask, CREATE, OPEN, Step, Told, expect_steps};
+use super::steps::{Ask, CREATE, OPEN, Step, Expected, expect_steps};
 use super::{CREATED, OPENED, Pair, expect_journal, finish, make_pair, room};
 use fast_mutex::{FastMutex, Look};
 use mq::Guarded;
@@ -15,30 +15,30 @@ use tests_refusals::refuse_all;
 
 // Process 1 has a wait that is answered, process 2 one that is not.
 static WAITING: [Step; 5] = [
-    (1, Ask::Open(CREATE, 1), Told::Opened(0)),
-    (2, Ask::Open(OPEN, 1), Told::Opened(0)),
-    (1, Ask::StartReceive(0), Told::Waits),
-    (2, Ask::Send(0, b"hi", 4), Told::Done),
-    (2, Ask::StartReceive(0), Told::Waits),
+    (1, Ask::Open(CREATE, 1), Expected::Opened(0)),
+    (2, Ask::Open(OPEN, 1), Expected::Opened(0)),
+    (1, Ask::StartReceive(0), Expected::Waits),
+    (2, Ask::Send(0, b"hi", 4), Expected::Done),
+    (2, Ask::StartReceive(0), Expected::Waits),
 ];
 
 static WITHOUT_MEMORY: [Step; 12] = [
-    (1, Ask::Number, Told::Number(1)),
-    (1, Ask::Waiting, Told::Room(Some(8))),
-    (1, Ask::Answered, Told::Is(true)),
+    (1, Ask::Number, Expected::Number(1)),
+    (1, Ask::Waiting, Expected::Room(Some(8))),
+    (1, Ask::Answered, Expected::Is(true)),
     (
         1,
         Ask::Collect,
-        Told::Came(Some(Collected::Got(Received { len: 2, prio: 4 }))),
+        Expected::Came(Some(Collected::Got(Received { len: 2, prio: 4 }))),
     ),
-    (1, Ask::Buffer, Told::Bytes([b'h', b'i', 0, 0, 0, 0, 0, 0])),
-    (1, Ask::Waiting, Told::Room(None)),
-    (1, Ask::Answered, Told::Is(false)),
-    (2, Ask::Number, Told::Number(2)),
-    (2, Ask::Waiting, Told::Room(Some(8))),
-    (2, Ask::Answered, Told::Is(false)),
-    (2, Ask::Collect, Told::Came(None)),
-    (2, Ask::Waiting, Told::Room(Some(8))),
+    (1, Ask::Buffer, Expected::Bytes([b'h', b'i', 0, 0, 0, 0, 0, 0])),
+    (1, Ask::Waiting, Expected::Room(None)),
+    (1, Ask::Answered, Expected::Is(false)),
+    (2, Ask::Number, Expected::Number(2)),
+    (2, Ask::Waiting, Expected::Room(Some(8))),
+    (2, Ask::Answered, Expected::Is(false)),
+    (2, Ask::Collect, Expected::Came(None)),
+    (2, Ask::Waiting, Expected::Room(Some(8))),
 ];
 
 static REPLIES: [(u32, Reply); 6] = [

@@ -66,7 +66,7 @@ pub enum Ask<'a> {
 
 /// What the call returns.
 #[derive(Clone, Copy, PartialEq, Eq)]
-pub enum Told {
+pub enum Expected {
     Done,
     Opened(u32),
     Got(Received),
@@ -86,7 +86,7 @@ pub enum Told {
 }
 
 /// Process 1 or 2 makes this call, which must return this.
-pub type Step = (u32, Ask<'static>, Told);
+pub type Step = (u32, Ask<'static>, Expected);
 
 // The calls of a process that has no open wait.
 fn call<L: Look<Guarded>, R: Wait + Clock>(
@@ -95,7 +95,7 @@ fn call<L: Look<Guarded>, R: Wait + Clock>(
     p: &mut Process<L>,
     ask: Ask,
     buf: &mut [u8; 8],
-) -> Result<Told, Fault>
+) -> Result<Expected, Fault>
     requires made { p.old.lock ≡ mq.now }
     requires free { IsFree p.old }
     ensures { p.new.lock ≡ mq.now }
@@ -104,54 +104,54 @@ fn call<L: Look<Guarded>, R: Wait + Clock>(
     Ok(match ask {
         Ask::Open(flags, maxmsg) => {
             let attr = Some(Attr { maxmsg, msgsize: 8 });
-            Told::Opened(p.open(rt, mq, &name, flags, attr)?)
+            Expected::Opened(p.open(rt, mq, &name, flags, attr)?)
         }
         Ask::Unlink => done(p.unlink(rt, mq, &name)?),
         Ask::Close(d) => done(p.close(rt, mq, d)?),
         Ask::Exit => done(p.exit(rt, mq)?),
         Ask::Send(d, bytes, prio) => done(p.send(rt, mq, d, bytes, prio)?),
-        Ask::Receive(d) => Told::Got(p.receive(rt, mq, d, buf)?),
+        Ask::Receive(d) => Expected::Got(p.receive(rt, mq, d, buf)?),
         Ask::TimedSend(d, bytes, prio, most) => {
             let Ok(clock) = Monotonic::start(rt) else {
-                return Ok(Told::Nothing);
+                return Ok(Expected::Nothing);
             };
             let until = clock.after(Duration::from_millis(most));
             done(p.timed_send(rt, mq, d, bytes, prio, until, &clock)?)
         }
         Ask::TimedReceive(d, most) => {
             let Ok(clock) = Monotonic::start(rt) else {
-                return Ok(Told::Nothing);
+                return Ok(Expected::Nothing);
             };
             let until = clock.after(Duration::from_millis(most));
-            Told::Got(p.timed_receive(rt, mq, d, buf, until, &clock)?)
+            Expected::Got(p.timed_receive(rt, mq, d, buf, until, &clock)?)
         }
         Ask::ReceiveUntilTick(d) => {
-            Told::Got(p.timed_receive(rt, mq, d, buf, LATER, &Ticks::new())?)
+            Expected::Got(p.timed_receive(rt, mq, d, buf, LATER, &Ticks::new())?)
         }
         Ask::StartSend(d, bytes, prio) => begun(p.start_send(rt, mq, d, bytes, prio)?),
         Ask::StartReceive(d) => p
             .start_receive(rt, mq, d, buf)?
-            .map_or(Told::Waits, Told::Got),
+            .map_or(Expected::Waits, Expected::Got),
         Ask::StartTimedSend(d, bytes, prio) => {
             begun(p.start_timed_send(rt, mq, d, bytes, prio, LATER, START)?)
         }
         Ask::StartTimedReceive(d) => p
             .start_timed_receive(rt, mq, d, buf, LATER, START)?
-            .map_or(Told::Waits, Told::Got),
+            .map_or(Expected::Waits, Expected::Got),
         Ask::Notify(d, value) => done(p.notify(rt, mq, d, value)?),
-        Ask::NextNotice => Told::Notice(p.next_notice(rt, mq)?),
-        Ask::Getattr(d) => Told::Attrs(p.getattr(rt, mq, d)?),
-        Ask::Setattr(d, new) => Told::Attrs(p.setattr(rt, mq, d, new)?),
-        _ => Told::Nothing,
+        Ask::NextNotice => Expected::Notice(p.next_notice(rt, mq)?),
+        Ask::Getattr(d) => Expected::Attrs(p.getattr(rt, mq, d)?),
+        Ask::Setattr(d, new) => Expected::Attrs(p.setattr(rt, mq, d, new)?),
+        _ => Expected::Nothing,
     })
 }
 
-fn done(_: ()) -> Told {
-    Told::Done
+fn done(_: ()) -> Expected {
+    Expected::Done
 }
 
-fn begun(sent: bool) -> Told {
-    if sent { Told::Done } else { Told::Waits }
+fn begun(sent: bool) -> Expected {
+    if sent { Expected::Done } else { Expected::Waits }
 }
 
 // The outcome of the open wait, if there is one that fits the buffer.
@@ -160,13 +160,13 @@ fn collect<L: Look<Guarded>, R: Wait>(
     mq: &Mq<L>,
     p: &mut Process<L>,
     buf: &mut [u8; 8],
-) -> Told
+) -> Expected
     requires { p.old.lock ≡ mq.now }
     ensures { p.new.lock ≡ mq.now }
 {
     match p.waiting() {
-        Some(room) if room <= buf.len() => Told::Came(p.collect(rt, mq, buf)),
-        _ => Told::Nothing,
+        Some(room) if room <= buf.len() => Expected::Came(p.collect(rt, mq, buf)),
+        _ => Expected::Nothing,
     }
 }
 
@@ -177,22 +177,22 @@ pub fn asked_once<L: Look<Guarded>, R: Wait + Clock>(
     p: &mut Process<L>,
     ask: Ask,
     buf: &mut [u8; 8],
-) -> Told
+) -> Expected
     requires { p.old.lock ≡ mq.now }
     ensures { p.new.lock ≡ mq.now }
 {
     match ask {
-        Ask::Number => Told::Number(p.number()),
-        Ask::Waiting => Told::Room(p.waiting()),
-        Ask::Answered => Told::Is(p.answered(mq)),
-        Ask::Buffer => Told::Bytes(*buf),
+        Ask::Number => Expected::Number(p.number()),
+        Ask::Waiting => Expected::Room(p.waiting()),
+        Ask::Answered => Expected::Is(p.answered(mq)),
+        Ask::Buffer => Expected::Bytes(*buf),
         Ask::Collect => collect(rt, mq, p, buf),
-        Ask::AreBlocked(processes) => Told::Is(p.are_blocked(rt, mq, processes)),
-        Ask::JournalLen => Told::Entries(p.journal_len(rt, mq)),
-        _ if p.waiting().is_some() => Told::Nothing,
+        Ask::AreBlocked(processes) => Expected::Is(p.are_blocked(rt, mq, processes)),
+        Ask::JournalLen => Expected::Entries(p.journal_len(rt, mq)),
+        _ if p.waiting().is_some() => Expected::Nothing,
         _ => match call(rt, mq, p, ask, buf) {
             Ok(told) => told,
-            Err(fault) => Told::Refused(fault),
+            Err(fault) => Expected::Refused(fault),
         },
     }
 }
@@ -205,13 +205,13 @@ pub fn asked<L: Look<Guarded>, R: Wait + Clock + Print>(
     p: &mut Process<L>,
     ask: Ask,
     buf: &mut [u8; 8],
-) -> Told
+) -> Expected
     requires { p.old.lock ≡ mq.now }
     ensures { p.new.lock ≡ mq.now }
 {
     let lent = *buf;
     match asked_once(rt, mq, p, ask, buf) {
-        Told::Refused(Fault::NoMemory) if *buf == lent => {
+        Expected::Refused(Fault::NoMemory) if *buf == lent => {
             say_refused(rt, "a call");
             asked_once(rt, mq, p, ask, buf)
         }

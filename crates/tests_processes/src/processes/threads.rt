@@ -1,7 +1,7 @@
 //! Processes in threads of their own.
 ghost use Rattle.std.specs.Prelude.{◌≡◌};
 
-use super::steps::{Ask, CREATE, OPEN, Step, Told, asked, expect_steps};
+use super::steps::{Ask, CREATE, OPEN, Step, Expected, asked, expect_steps};
 use super::{Pair, finish, make_pair, room};
 use fast_mutex::{FastMutex, Look};
 use mq::{Guarded, Mq, Process};
@@ -17,11 +17,11 @@ use std::time::Clock;
 
 const MESSAGES: u8 = 200;
 
-const RECEIVED: Told = Told::Got(Received { len: 1, prio: 0 });
+const RECEIVED: Expected = Expected::Got(Received { len: 1, prio: 0 });
 
 static OPENS: [Step; 2] = [
-    (1, Ask::Open(CREATE, 2), Told::Opened(0)),
-    (2, Ask::Open(OPEN, 2), Told::Opened(0)),
+    (1, Ask::Open(CREATE, 2), Expected::Opened(0)),
+    (2, Ask::Open(OPEN, 2), Expected::Opened(0)),
 ];
 
 // Sends this number of messages, each with its number, through a queue that holds two.
@@ -36,7 +36,7 @@ fn send_all<L: Look<Guarded>, R: Wait + Clock + Print>(
     let mut all = true;
     let mut buf = [0; 8];
     'numbers: for number in 0..MESSAGES {
-        all &= asked(rt, mq, &mut p, Ask::Send(0, &[number], 0), &mut buf) == Told::Done;
+        all &= asked(rt, mq, &mut p, Ask::Send(0, &[number], 0), &mut buf) == Expected::Done;
     }
     (p, all)
 }

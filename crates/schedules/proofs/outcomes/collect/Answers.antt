@@ -17,11 +17,11 @@ loop-init g c =
     let next = g.M.Machine.next in
     let start = g.M.Machine.start c.args.machine.now in
     let found = c.note.new.found.items in
-    let is_new = is_new_goal g.M.Machine.is_goal g.M.Telling.outcome found in
+    let is_new = is_new_goal g.M.Machine.is_goal g.M.Observable.outcome found in
     let now = c.restart.new.self in
     let first = c.first_from-next.result in
     let at : now ≡ start = c.in_ok-restart.ensures in
-    let old : is_new now ≡ false = noted-is_old g.M.Machine.is_goal g.M.Telling.outcome found now c.in_ok-note.ensures.noted in
+    let old : is_new now ≡ false = noted-is_old g.M.Machine.is_goal g.M.Observable.outcome found now c.in_ok-note.ensures.noted in
     let same : g.M.Machine.start now ≡ start = ap g.M.Machine.start at ∙ g.met.M.Machine.start_is_first c.args.machine.now in
     let begins : Stands next is_new g.M.Keyed.IsKey [] [] start now first =
     rw at (stands-first next is_new g.M.Keyed.IsKey start first (rw (← at) old) (rw (← at) c.first_from-next.ensures))
@@ -51,12 +51,12 @@ pub returns-in_default-clause-all : goal.returns-in_default-clause-all
 returns-in_default-clause-all g c =
     let next = g.M.Machine.next in
     let start = g.M.Machine.start c.args.machine.now in
-    let is_new = is_new_goal g.M.Machine.is_goal g.M.Telling.outcome c.loop.found.items in
+    let is_new = is_new_goal g.M.Machine.is_goal g.M.Observable.outcome c.loop.found.items in
     let stands = (rw c.in-None.is at c.loop.invariant.stands) in
     let empty : c.loop.path.items ≡ [] = nil_from_length _ (omega (arith, c.in_default.ensures.cases)) in
     let here : start ≡ stands.node = (let P : List ℕ → Type 0 = λ xs. after next xs start ≡ Some stands.node in let h : Some start ≡ Some stands.node = subst P empty stands.runs in cc) in
     let from : HasNoGoal next is_new start = rw here stands.ahead in
-    λ _. all-found next g.M.Machine.is_goal g.M.Telling.outcome start c.loop.found.items from
+    λ _. all-found next g.M.Machine.is_goal g.M.Observable.outcome start c.loop.found.items from
 
 pub run_again-requires : goal.run_again-requires
 run_again-requires g c =
@@ -68,7 +68,7 @@ pub loop-preserved : goal.loop-preserved
 loop-preserved g c =
     let next = g.M.Machine.next in
     let is_goal = g.M.Machine.is_goal in
-    let outcome = g.M.Telling.outcome in
+    let outcome = g.M.Observable.outcome in
     let IsKey = g.M.Keyed.IsKey in
     let start = g.M.Machine.start c.args.machine.now in
     let path = c.loop.path.items in
@@ -133,7 +133,7 @@ loop-preserved g c =
             stands = rw (last.0, last.1) (back.back w.run_again.new.machine (λ some. runs));
             done =
                 done-more next is_new g.M.Keyed.IsAlike IsKey start c.keeps_alike.ensures.by_key
-                (new-alike is_goal outcome g.M.Keyed.IsAlike c.keeps_alike.ensures.same_goal c.tells_alike.ensures found) c.keeps_alike.ensures.same_next
+                (new-alike is_goal outcome g.M.Keyed.IsAlike c.keeps_alike.ensures.same_goal c.have_equal_outcomes.ensures found) c.keeps_alike.ensures.same_next
                 seen w.leave.new.seen back.level.key stands.node last.2 back.key (path, stands.runs) stands.ahead c.loop.invariant.done;
             start = w.in_ok-run_again-in-None.ensures.start ∙ c.loop.invariant.start;
             distinct = c.loop.invariant.distinct;
@@ -155,7 +155,7 @@ loop-preserved g c =
             stands = rw (last.0, last.1) (back.back now machine);
             done =
                 done-more next is_new g.M.Keyed.IsAlike IsKey start c.keeps_alike.ensures.by_key
-                (new-alike is_goal outcome g.M.Keyed.IsAlike c.keeps_alike.ensures.same_goal c.tells_alike.ensures found) c.keeps_alike.ensures.same_next
+                (new-alike is_goal outcome g.M.Keyed.IsAlike c.keeps_alike.ensures.same_goal c.have_equal_outcomes.ensures found) c.keeps_alike.ensures.same_next
                 seen w.leave.new.seen back.level.key stands.node last.2 back.key (path, stands.runs) stands.ahead c.loop.invariant.done;
             start = c.loop.invariant.start;
             distinct = c.loop.invariant.distinct;

@@ -12,14 +12,14 @@ use Rattle.schedules.proofs.outcomes.collect.Given as goal
 abbrev pub invariant-loop : goal.invariant-loop
 invariant-loop g l = record {
   stands :
-      Stands g.M.Machine.next (is_new_goal g.M.Machine.is_goal g.M.Telling.outcome l.found.items) g.M.Keyed.IsKey l.path.items l.levels.items
+      Stands g.M.Machine.next (is_new_goal g.M.Machine.is_goal g.M.Observable.outcome l.found.items) g.M.Keyed.IsKey l.path.items l.levels.items
       (g.M.Machine.start l.fn.machine) l.machine l.next;
   done :
-      AreDone g.M.Machine.next (is_new_goal g.M.Machine.is_goal g.M.Telling.outcome l.found.items) g.M.Keyed.IsKey
+      AreDone g.M.Machine.next (is_new_goal g.M.Machine.is_goal g.M.Observable.outcome l.found.items) g.M.Keyed.IsKey
       (g.M.Machine.start l.fn.machine) l.seen;
   start : g.M.Machine.start l.machine ≡ g.M.Machine.start l.fn.machine;
   distinct : AreDistinct l.found.items;
-  witnessed : All (IsWitness g.M.Machine.next g.M.Machine.is_goal g.M.Telling.outcome (g.M.Machine.start l.fn.machine)) l.found.items;
+  witnessed : All (IsWitness g.M.Machine.next g.M.Machine.is_goal g.M.Observable.outcome (g.M.Machine.start l.fn.machine)) l.found.items;
   spent :
       (node : g.row.M.Denot) → after g.M.Machine.next l.path.items (g.M.Machine.start l.fn.machine) ≡ Some node →
       HasSpent g.M.Machine.next g.M.Machine.choices (λ depth. 1) l.fn.budget l.counter 0 l.path.items (g.M.Machine.start l.fn.machine) node l.next;
