@@ -1,5 +1,5 @@
 -- Systems that start with a journal.
-use Rattle.std.specs.Prelude.{ℕ, ◌≡◌, ◌<◌, ◌+◌, ◌⊎◌, true, List, length, IfSome, Option}
+use Rattle.std.specs.Prelude.{ℕ, ◌≡◌, ◌<◌, ◌+◌, ◌⊎◌, true, false, List, length, IfSome, Option}
 use Rattle.mq_model.specs.Record.{Past, record_at}
 use Rattle.mq_model.specs.Legality.{IsFirstIllegal}
 use Rattle.mq_model.specs.declared.bounds.Bounds.{Bounds}
@@ -55,10 +55,11 @@ IsRefused bounds text handles line after code =
     ⊎ TextIsNoStart (length handles) text after code
 
 -- A system with these bounds was made that starts with a journal. `begins` relates that journal to
--- the one whose text was given.
+-- the one whose text was given, which is not too long for the bounds.
 pub record GoesOn (begins : Past → Past → Type 0) (bounds : Option Bounds) (text : List ℕ) (old new : List Handle) (code : ℕ) : Type 0 where
   pub written : Past
   pub of_text : IsTextOf written text
+  pub within : is_too_long bounds written ≡ false
   pub past : Past
   pub begun : begins written past
   pub fills : Fills bounds true past old new code

@@ -1,5 +1,5 @@
 //! Making a system that starts with a journal.
-ghost use Rattle.std.specs.Prelude.{◌≡◌, ◌≤◌, ◌<◌, ◌⊎◌, true, None, Some, ℕ, length, slice_get, IfOk, IfErr};
+ghost use Rattle.std.specs.Prelude.{◌≡◌, ◌≤◌, ◌<◌, ◌⊎◌, true, false, None, Some, ℕ, length, slice_get, IfOk, IfErr};
 ghost use Rattle.std.specs.List.{list_all};
 ghost use Rattle.mq_model.specs.Waits.{wait_deadline};
 ghost use Rattle.mq_equivalence.specs.Equivalence.{Equivalent};
@@ -70,6 +70,7 @@ fn begun(
         (books.n ≤ 32)) }
     ensures stored { IfOk result (λ books. (books.bounds ≡ bounds) × (books.stored ≡ true)) }
     ensures empty { IfOk result (λ books. list_all is_empty processes.now ≡ true) }
+    ensures within { IfOk result (λ books. is_too_long bounds books.records ≡ false) }
     ensures same { IfOk result (λ books. line.new ≡ line.old) }
     ensures refused { IfErr result (λ code.
         IsRefused bounds text.now processes.now line.old line.new code) }
@@ -103,6 +104,7 @@ fn stocked(
     ensures records { IfOk result (λ books. books.records ≡ journal.records) }
     ensures count { IfOk result (λ books. books.n ≡ n) }
     ensures stored { IfOk result (λ books. (books.bounds ≡ bounds) × (books.stored ≡ true)) }
+    ensures within { IfOk result (λ books. is_too_long bounds journal.records ≡ false) }
     ensures same { IfOk result (λ books. line.new ≡ line.old) }
     ensures refused { IfErr result (λ code. ((code ≡ 11) × (line.new ≡ line.old)) ⊎
         ((code ≡ 13) × (line.new ≡ line.old) × (is_too_long bounds journal.records ≡ true)) ⊎

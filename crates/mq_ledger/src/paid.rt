@@ -17,7 +17,7 @@ struct Share {
 pub struct Paid {
     shares: Vec<Share>,
     latest: Option<Share>,
-    // how many processes may wait
+    // how many processes may wait; 0 if nothing was ever paid for
     processes: usize,
 }
 
@@ -33,6 +33,12 @@ impl Paid {
             latest: None,
             processes: 0,
         }
+    }
+
+    /// Whether nothing was ever paid for, so that no queue has slots of its own.
+    #[inline(always)]
+    pub fn is_empty(&self) -> bool {
+        self.processes == 0
     }
 
     /// The latest queue that was paid for.

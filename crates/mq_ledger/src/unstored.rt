@@ -35,8 +35,6 @@ pub struct Unstored {
     // Whether the index has that slot. Its entry often ends before another is looked up, so the
     // note is made late.
     is_last_noted: bool,
-    // whether any queue has slots of its own
-    is_prepaid: bool,
     // the spare buffer, for the next payload
     next: Vec<u8>,
     // Most calls touch the fields above and the first two of the index: two lines of a cache.
@@ -108,7 +106,6 @@ impl Unstored {
             ended: None,
             last: 0,
             is_last_noted: true,
-            is_prepaid: false,
             next: Vec::new(alloc),
             index: Index::new(alloc),
             paid: Paid::new(alloc),
@@ -350,7 +347,7 @@ impl Unstored {
     // The class of slots for a kept entry that is made on queue q.
     #[inline(always)]
     fn class_of(&self, reply: Reply, q: u64) -> u32 {
-        if !self.is_prepaid {
+        if self.paid.is_empty() {
             return GROWING;
         }
         match reply {
@@ -386,7 +383,6 @@ impl Unstored {
         ensures keeps { (k : ℕ) → HasPlace self.old.places k → HasPlace self.new.places k }
     {
         let exists = self.is_latest_there();
-        self.is_prepaid = true;
         self.paid
             .expect(exists, self.len, messages, size, processes)?;
         for class in 0..CLASSES {

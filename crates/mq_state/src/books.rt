@@ -17,7 +17,7 @@ ghost use Rattle.mq_state.specs.Pool.{IsPooled};
 ghost use Rattle.mq_state.specs.Requests.{Brings};
 ghost use Rattle.mq_state.specs.Room.{NobodyCanCall, room_left};
 ghost use Rattle.mq_model.specs.Messages.{is_send, is_receive};
-ghost use Rattle.mq_state.specs.Replays.{IsMisfit};
+ghost use Rattle.mq_state.specs.Replays.{IsMisfit, is_too_long};
 
 use crate::buffers;
 use crate::collected::{Answer, Collected};
@@ -184,6 +184,7 @@ impl Books {
         ensures processes { IfOk result (λ b. b.n ≡ n) }
         ensures bounds { IfOk result (λ b. b.bounds ≡ bounds) }
         ensures stored { IfOk result (λ b. b.stored ≡ true) }
+        ensures within { IfOk result (λ b. is_too_long bounds journal.records ≡ false) }
         ensures back { IfErr result (λ r. r.journal.records ≡ journal.records) }
         ensures why { IfErr result (λ r. IsMisfit journal.records n bounds r.why) }
     {
@@ -600,6 +601,8 @@ fn restock(mut inner: Box<Inner>, mut journal: Journal) -> Result<Box<Inner>, Re
     ensures processes { IfOk result (λ s. s.value.tables.n ≡ inner.value.tables.n) }
     ensures bounds { IfOk result (λ s. s.value.tables.bounds ≡ inner.value.tables.bounds) }
     ensures stored { IfOk result (λ s. s.value.journal.stored ≡ true) }
+    ensures within { IfOk result (λ s.
+        is_too_long inner.value.tables.bounds journal.records ≡ false) }
     ensures back { IfErr result (λ r. r.journal.records ≡ journal.records) }
     ensures why { IfErr result (λ r. IsMisfit journal.records inner.value.tables.n
         inner.value.tables.bounds r.why) }

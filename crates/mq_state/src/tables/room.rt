@@ -1,5 +1,5 @@
 //! Which processes can still make a call, and how much room the journal has.
-ghost use Rattle.std.specs.Prelude.{◌≡◌, ◌≤◌, ◌↔◌, IsTrue, IfSome, None};
+ghost use Rattle.std.specs.Prelude.{◌≡◌, ◌≤◌, ◌↔◌, IsTrue, IfSome, is_some, not};
 ghost use Rattle.mq_model.specs.Owners.{waits_count};
 ghost use Rattle.mq_state.specs.Kept.{AreThoseOf, IsKeptBy, IsRoomWithin};
 ghost use Rattle.mq_state.specs.Replays.{is_too_long};
@@ -46,7 +46,7 @@ impl Tables {
     pub fn room_to_go_on(&self, journal: &Journal) -> Option<(usize, usize)>
         requires tables { AreThoseOf journal.now.records self.now }
         requires processes { AreAtMost self.now.n journal.now.records }
-        ensures none { (result ≡ None) ↔ IsTrue (is_too_long self.now.bounds journal.now.records) }
+        ensures none { is_some result ≡ not (is_too_long self.now.bounds journal.now.records) }
         ensures waits { IfSome result (λ room. waits_count self.now.owners.items ≤ room.0) }
         ensures within { IfSome result (λ room.
             IsRoomWithin self.now.bounds journal.now.records room.0 room.1) }
