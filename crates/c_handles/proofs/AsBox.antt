@@ -8,7 +8,7 @@ use Rattle.std.specs.contracts.impls.GlobalAllocator.TheImpl.{ghosts, dict}
 use Rattle.std.proofs.alloc.Global.TheLaws as heap
 use Rattle.c_handles.specs.contracts.member.Member as Deck
 use Rattle.c_handles.proofs.member.Member.TheLaws as deck
-use Rattle.c_box.specs.contracts.Parts as Parts
+use Rattle.c_handles.specs.contracts.parts.Parts as Parts
 use Rattle.c_handles.specs.contracts.seal.Seal as Sealed
 
 abbrev pub E : Bx

@@ -9,6 +9,7 @@ pub mod handle;
 pub mod journals;
 pub mod member;
 pub mod numbers;
+pub mod parts;
 pub mod reading;
 pub mod requests;
 pub mod resuming;

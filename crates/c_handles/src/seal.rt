@@ -4,7 +4,7 @@ ghost use Rattle.c_handles.specs.declared.member.Member.{Member};
 ghost use Rattle.c_handles.specs.Owning.{seal_owns, member_coded};
 
 use crate::member::Member;
-use c_box::Parts;
+use crate::parts::Parts;
 use std::alloc::Global;
 use std::marker::{Model, Send};
 use std::mem;
