@@ -1,0 +1,77 @@
+//! Calls of processes that take no memory, while every allocation may be made to fail from outside.
+use super::steps::{Ask, CREATE, Expected, OPEN, Step, expect_steps};
+use super::{CREATED, OPENED, Pair, expect_journal, finish, make_pair, room};
+use crate::refusals::refuse_all;
+use fast_mutex::{FastMutex, Look};
+use mq::Guarded;
+use mq_model::entries::{Received, Reply};
+use mq_model::journals::Journal;
+use mq_state::collected::Collected;
+use std::alloc::Global;
+use std::io::Print;
+use std::process::Abort;
+use std::sync::Wait;
+use std::time::Clock;
+
+// Process 1 has a wait that is answered, process 2 one that is not.
+static WAITING: [Step; 5] = [
+    (1, Ask::Open(CREATE, 1), Expected::Opened(0)),
+    (2, Ask::Open(OPEN, 1), Expected::Opened(0)),
+    (1, Ask::StartReceive(0), Expected::Waits),
+    (2, Ask::Send(0, b"hi", 4), Expected::Done),
+    (2, Ask::StartReceive(0), Expected::Waits),
+];
+
+static WITHOUT_MEMORY: [Step; 12] = [
+    (1, Ask::Number, Expected::Number(1)),
+    (1, Ask::Waiting, Expected::Room(Some(8))),
+    (1, Ask::Answered, Expected::Is(true)),
+    (
+        1,
+        Ask::Collect,
+        Expected::Came(Some(Collected::Got(Received { len: 2, prio: 4 }))),
+    ),
+    (
+        1,
+        Ask::Buffer,
+        Expected::Bytes([b'h', b'i', 0, 0, 0, 0, 0, 0]),
+    ),
+    (1, Ask::Waiting, Expected::Room(None)),
+    (1, Ask::Answered, Expected::Is(false)),
+    (2, Ask::Number, Expected::Number(2)),
+    (2, Ask::Waiting, Expected::Room(Some(8))),
+    (2, Ask::Answered, Expected::Is(false)),
+    (2, Ask::Collect, Expected::Came(None)),
+    (2, Ask::Waiting, Expected::Room(Some(8))),
+];
+
+static REPLIES: [(u32, Reply); 6] = [
+    (1, CREATED),
+    (2, OPENED),
+    (1, Reply::Waits),
+    (2, Reply::Handed { wait: 2 }),
+    (2, Reply::Waits),
+    (1, Reply::Collected { by: 3 }),
+];
+
+fn journal_of_waits<L: Look<Guarded>, R: Wait + Clock + Abort + Print>(
+    rt: &R,
+    alloc: Global,
+) -> Journal {
+    let processes = room(rt, alloc);
+    let Pair {
+        mq,
+        mut one,
+        mut two,
+    } = make_pair::<L, R>(rt, alloc);
+    expect_steps(rt, &mq, &mut one, &mut two, &WAITING);
+    refuse_all(rt, alloc);
+    expect_steps(rt, &mq, &mut one, &mut two, &WITHOUT_MEMORY);
+    finish(rt, processes, mq, one, two)
+}
+
+#[test]
+fn processes_collect_and_queues_end_without_memory(rt: HostRuntime) {
+    let journal = journal_of_waits::<FastMutex<Guarded>, _>(&rt, rt.alloc());
+    expect_journal(&rt, &journal, &REPLIES);
+}

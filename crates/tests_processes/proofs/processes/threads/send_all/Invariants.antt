@@ -1,5 +1,0 @@
-use Rattle.std.proofs.Common.{◌≡◌}
-use Rattle.tests_processes.proofs.processes.threads.send_all.Given as goal
-
-abbrev pub invariant-numbers : goal.invariant-numbers
-invariant-numbers g l = l.p.lock ≡ l.initial.p.lock
