@@ -3,7 +3,7 @@ use Rattle.std.specs.Result.{IfOk}
 use Rattle.exploration.specs.Shown.{Shows}
 use Rattle.exploration.specs.declared.operation.Choice.{Choice}
 use Rattle.exploration.specs.declared.operation.Step.{Step}
-use Rattle.tests_exploration.proofs.simulated.SimulatedProgram.run.Goals as goal
+use Rattle.tests_tools.proofs.simulated.SimulatedProgram.run.Goals as goal
 
 -- of a test that is true of all choices, steps show what it says
 shows-all : (before : List Choice) (steps : List Step) → Shows (λ _ _. true) before steps

@@ -1,2 +1,0 @@
-mod comparing;
-mod reading;
