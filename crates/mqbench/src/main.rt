@@ -2,12 +2,32 @@
 //! name.
 #![tactic(auto)]
 
+mod alone;
+mod busy;
+mod calls;
+mod course;
+mod crowd;
+mod dice;
+mod fault;
+mod gusts;
+mod idle;
+mod line;
+mod made;
+mod measuring;
+mod members;
+mod replays;
+mod report;
 mod run;
+mod size;
+mod storm;
+mod tally;
 #[cfg(test)]
 mod tests;
+mod wide;
+mod workload;
 
-use bench_line::fault::BenchFault;
-use bench_line::line::write_usage;
+use fault::BenchFault;
+use line::write_usage;
 use run::run_line;
 use std::alloc::AllocError;
 use std::io::{ErrorKind, Input, Print, Write};

@@ -1,18 +1,19 @@
 //! From the bytes of the input to the output.
 ghost use Rattle.std.specs.Prelude.{◌≡◌, ◌+◌, ℕ, List, OnOk, Some, Ok, Err, take};
 ghost use Rattle.std.specs.Io.KnownBytes.{Appends};
-ghost use Rattle.bench_line.specs.Faults.{IsOfGoodLine, IsRefusal};
-ghost use Rattle.bench_line.specs.Grammar.{request_read};
-ghost use Rattle.bench_line.specs.Usage.{usage_text};
-ghost use Rattle.bench_line.specs.declared.fault.LineFault.{LineFault};
-ghost use Rattle.bench_line.specs.declared.workload.Request.TheVariants.{Usage, Measure};
-ghost use Rattle.bench_line.specs.declared.workload.Workload.{Workload};
-ghost use Rattle.bench_line.specs.declared.workload.Conditions.{Conditions};
+ghost use Rattle.mqbench.specs.Faults.{IsOfGoodLine, IsRefusal};
+ghost use Rattle.mqbench.specs.Grammar.{request_read};
+ghost use Rattle.mqbench.specs.Usage.{usage_text};
+ghost use Rattle.mqbench.specs.declared.fault.LineFault.{LineFault};
+ghost use Rattle.mqbench.specs.declared.workload.Request.TheVariants.{Usage, Measure};
+ghost use Rattle.mqbench.specs.declared.workload.Workload.{Workload};
+ghost use Rattle.mqbench.specs.declared.workload.Conditions.{Conditions};
 
-use bench_line::fault::BenchFault;
-use bench_line::line::{MOST_BYTES, read_request, write_usage};
-use bench_line::workload::Request;
-use bench_workloads::{line_of, measure, title_of};
+use crate::fault::BenchFault;
+use crate::line::{MOST_BYTES, read_request, write_usage};
+use crate::measuring::measure;
+use crate::report::{line_of, title_of};
+use crate::workload::Request;
 use std::alloc::Global;
 use std::io::{Read, Write};
 use std::sync::Wait;

@@ -1,7 +1,7 @@
 //! Each workload with small sizes, and lines that are rejected.
+use crate::fault::{BenchFault, LineFault, WorkFault};
 use crate::run::run_line;
-use bench_line::fault::{BenchFault, LineFault, WorkFault};
-use bench_line::size::Size;
+use crate::size::Size;
 use mq_model::faults::Fault;
 use std::alloc::Global;
 use std::sync::Wait;

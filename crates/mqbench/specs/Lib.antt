@@ -1,0 +1,5 @@
+pub mod Faults
+pub mod Grammar
+pub mod Sizes
+pub mod Usage
+pub mod Ready
