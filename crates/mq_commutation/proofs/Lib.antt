@@ -8,3 +8,4 @@ pub mod Apart
 pub mod Pass
 pub mod Independent
 pub mod Symmetry
+pub mod ExploredSteps

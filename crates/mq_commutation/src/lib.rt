@@ -4,6 +4,8 @@
 //! `mq_open`, `mq_unlink` and the withdrawal of a wait.
 #![tactic(auto)]
 
+pub mod explored;
+
 ghost use Rattle.std.specs.Prelude.{◌≡◌, ◌∷◌, List, [], true};
 ghost use Rattle.mq_model.specs.Record.{Past};
 ghost use Rattle.mq_model.specs.Legality.{IsLegalNext, Legal};

@@ -16,7 +16,7 @@ use Rattle.exploration.specs.Dependence as steps
 use Rattle.exploration.specs.Dependence.{commute, commute_on, is_apart, is_receive, is_send, is_wait}
 use Rattle.exploration.specs.declared.deed.Deed.{Deed}
 use Rattle.exploration.specs.declared.deed.Effect.{Effect}
-use Rattle.exploration_laws.specs.Calls.{IsCall, IsReceive, IsSend, OwnThreads}
+use Rattle.mq_commutation.specs.ExploredCalls.{IsCall, IsReceive, IsSend, OwnThreads}
 
 -- what holds of each element holds of one
 among : {X : Type 0} (p : X → Bool) (xs : List X) (x : X) → list_all p xs ≡ true → Contains xs x → p x ≡ true

@@ -1,7 +1,4 @@
-//! The test of independence in an exploration is sound for the definitions of the queues. The law
-//! is a function that does nothing: its contract is the law.
-#![tactic(auto)]
-
+//! The test of independence in an exploration is sound for the definitions of the queues.
 ghost use Rattle.std.specs.Prelude.{◌≡◌, ℕ, true};
 ghost use Rattle.mq_model.specs.Record.{Past, Queue};
 ghost use Rattle.mq_model.specs.Legality.{IsLegalNext, Legal};
@@ -10,7 +7,7 @@ ghost use Rattle.mq_commutation.specs.Commuting.{Commute, is_covered, record_for
 ghost use Rattle.mq_commutation.specs.Independence.{differ, whose_notices};
 ghost use Rattle.exploration.specs.Dependence.{are_independent};
 ghost use Rattle.exploration.specs.declared.deed.Deed.{Deed};
-ghost use Rattle.exploration_laws.specs.Calls.{IsCall, OwnThreads};
+ghost use Rattle.mq_commutation.specs.ExploredCalls.{IsCall, OwnThreads};
 
 /// Two steps that make calls of the queues, and that an exploration treats as independent, commute.
 /// After a legal journal in which each call may be made, each may be made after the other and has
