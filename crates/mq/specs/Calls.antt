@@ -156,13 +156,21 @@ pub record WaitedReceive (old new : Ticket Record) (call : Call) (before after :
   pub is : result ≡ Ok (received_at new.left by)
   pub buffer : after ≡ with_front (message_at new.left by) before
 
+-- this call, which sends: without a wait, or with one that was answered
+abbrev pub Sends : Ticket Record → Ticket Record → Call → List ℕ → Result (Unit {0}) Fault → Type 0
+Sends old new call bytes result = OneCall send_says old new call bytes result ⊎ WaitedSend old new call bytes result
+
 -- a send, without a wait or with one
 abbrev pub SendCall : Ticket Record → Ticket Record → ℕ → List ℕ → ℕ → Result (Unit {0}) Fault → Type 0
-SendCall old new d bytes prio result = OneCall send_says old new (MqSend d prio (length bytes)) bytes result ⊎ WaitedSend old new (MqSend d prio (length bytes)) bytes result
+SendCall old new d bytes prio result = Sends old new (MqSend d prio (length bytes)) bytes result
+
+-- This call, which receives, in the same way. The buffer held `before`, and now holds `after`.
+abbrev pub Receives : Ticket Record → Ticket Record → Call → List ℕ → List ℕ → Result Received Fault → Type 0
+Receives old new call before after result = ReceiveCall receive_says old new call before after result ⊎ WaitedReceive old new call before after result
 
 -- a receive, without a wait or with one
 abbrev pub WholeReceive : Ticket Record → Ticket Record → ℕ → List ℕ → List ℕ → Result Received Fault → Type 0
-WholeReceive old new d before after result = ReceiveCall receive_says old new (MqReceive d (length before)) before after result ⊎ WaitedReceive old new (MqReceive d (length before)) before after result
+WholeReceive old new d before after result = Receives old new (MqReceive d (length before)) before after result
 
 -- The end of a wait that no entry answered. It left one record, the withdrawal of that wait at the
 -- time `now`.

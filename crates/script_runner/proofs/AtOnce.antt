@@ -6,10 +6,10 @@ use Rattle.mq_model.specs.Record.{Record}
 use Rattle.mq_model.specs.declared.entries.Call.{Call}
 use Rattle.mq_model.specs.declared.entries.Received.{Received}
 use Rattle.mq_model.specs.declared.faults.Fault.{Fault}
-use Rattle.mq.specs.Calls.{OneCall, ReceiveCall}
+use Rattle.mq.specs.Calls.{OneCall, ReceiveCall, Receives, Sends}
 use Rattle.mq.specs.Kinds.{IsCall, receive_kind, send_kind}
 use Rattle.mq.specs.Says.{start_receive_says, start_send_says}
-use Rattle.script_runner.specs.Runs.{Receives, Sends, Shows}
+use Rattle.script_runner.specs.Runs.{Shows}
 use Rattle.script_text.specs.declared.reply.Outcome.{Outcome}
 use Rattle.script_text.specs.declared.reply.Outcome.TheVariants as outcomes
 

@@ -1,18 +1,17 @@
 -- The effect of the calls of a script. A process shows its ticket: its lock, its number, and the
 -- journal that it last left.
-use Rattle.std.specs.Prelude.{◌≡◌, ◌≤◌, ◌==◌, ◌++◌, ℕ, List, [], ◌∷◌, codes, filter, length, IsFalse, IsSome, IsTrue, Option, None, Result, Ok, Err, ◌⊎◌}
+use Rattle.std.specs.Prelude.{◌≡◌, ◌≤◌, ◌==◌, ◌++◌, ℕ, List, [], ◌∷◌, codes, filter, length, IsFalse, IsSome, IsTrue, Option, None, Result, Ok, Err}
 use Rattle.std.specs.List.{All, AllZip}
 use Rattle.std.specs.Io.KnownBytes as known
 use Rattle.fast_mutex.specs.Items.{LockId, Ticket, Grows, tickets_from, tickets_with}
-use Rattle.mq.specs.Calls.{Calls, IsFree, Exits, OneCall, ReceiveCall, SendCall, TimedReceive, TimedSend, WaitedReceive, WaitedSend, WholeReceive, author, bounds_in, recorded}
-use Rattle.mq.specs.Says.{attributes_says, done_says, notice_says, open_says, receive_says, send_says}
+use Rattle.mq.specs.Calls.{Calls, IsFree, Exits, OneCall, SendCall, TimedReceive, TimedSend, WholeReceive, author, bounds_in, recorded}
+use Rattle.mq.specs.Says.{attributes_says, done_says, notice_says, open_says}
 use Rattle.mq_model.specs.Legality.{Legal}
 use Rattle.mq_model.specs.Name.{has_name_form, is_name, is_short}
 use Rattle.mq_model.specs.Record.{Past, Record}
 use Rattle.mq_model.specs.declared.entries.Call.{Call}
 use Rattle.mq_model.specs.declared.entries.Call.TheVariants.{MqOpen, MqClose, MqUnlink, MqSend, MqReceive, MqTimedSend, MqTimedReceive, MqGetattr, MqSetattr, MqNotify, NextNotice}
 use Rattle.mq_model.specs.declared.entries.Deadline.{Deadline}
-use Rattle.mq_model.specs.declared.entries.Received.{Received}
 use Rattle.mq_model.specs.declared.entries.Reply.{Reply}
 use Rattle.mq_model.specs.declared.entries.Reply.TheVariants.{Waits}
 use Rattle.mq_model.specs.declared.faults.Fault.{Fault}
@@ -55,14 +54,6 @@ pub record MakesNamed {A : Type 0} (says : Reply → Option (Result A Fault)) (s
   pub made : IsTrue (is_name name) → Shows shows (OneCall says old new call name) came
   pub too_long : IsTrue (has_name_form name) → IsFalse (is_short name) → (new ≡ old) × (came ≡ outcomes.Refused NameTooLong)
   pub invalid : IsFalse (has_name_form name) → (new ≡ old) × (came ≡ outcomes.Refused Invalid)
-
--- a send, with or without a deadline, and without a wait or after a wait that was answered
-abbrev pub Sends : Ticket Record → Ticket Record → Call → List ℕ → Result (Unit {0}) Fault → Type 0
-Sends old new call bytes result = OneCall send_says old new call bytes result ⊎ WaitedSend old new call bytes result
-
--- A receive in the same way. The buffer held `before`, and now holds `after`.
-abbrev pub Receives : Ticket Record → Ticket Record → Call → List ℕ → List ℕ → Result Received Fault → Type 0
-Receives old new call before after result = ReceiveCall receive_says old new call before after result ⊎ WaitedReceive old new call before after result
 
 -- The process carried out the command in a phase with this time, and this is printed for it. The
 -- buffer held `before`, and now holds `after`.

@@ -1,15 +1,15 @@
 //! Running a script on the queues that a journal leaves.
 ghost use Rattle.std.specs.Prelude.{◌≡◌, ◌≤◌, [], true, IfErr, IfOk, IsErrOf, None};
 ghost use Rattle.mq_model.specs.Legality.{Legal};
-ghost use Rattle.script_runner.specs.Notes.{RunsServedAfter, lines_of, some_refused};
+ghost use Rattle.script_runner.specs.Notes.{RunsServedAfter, some_refused};
 ghost use Rattle.script_runner.specs.RunFault.{IsUnwritten};
-ghost use Rattle.script_runner.specs.Runs.{NoneWaits, RunsAfter};
+ghost use Rattle.script_runner.specs.Runs.{NoneWaits};
 ghost use Rattle.script_runner.specs.declared.fault.RunFault.TheVariants.{NoMemory};
 ghost use Rattle.script_text.specs.Script.{said_script};
 
 use crate::fault::RunFault;
 use crate::gate::Gate;
-use crate::noted::{Noted, some_refused};
+use crate::noted::Noted;
 use crate::noting::make_on;
 use fast_mutex::Look;
 use mq::{Guarded, Mq};
@@ -49,40 +49,6 @@ where
     ensures done { IfOk result (λ journal. RunsServedAfter books.records
         (said_script script.now) noted.new.items journal.records) }
     ensures refused { some_refused noted.new.items ≡ true → IsErrOf result NoMemory }
-{
-    let ran = make_after::<L, S, G>(rt, alloc, books, script, gate, noted);
-    if some_refused(noted.as_slice()) {
-        return Err(RunFault::NoMemory);
-    }
-    let journal = ran?;
-    Ok(journal)
-}
-
-// The same, whether or not a call fails with `NoMemory`.
-fn make_after<L, S, G>(
-    rt: &S,
-    alloc: Global,
-    books: Books,
-    script: &Script<'_>,
-    gate: &G,
-    noted: &mut Vec<Noted>,
-) -> Result<Journal, RunFault>
-where
-    L: Look<Guarded> + Sync,
-    L::Seat: Send,
-    L::Walk: Send,
-    S: Threads + Wait + Clock + Sync,
-    G: Gate + Sync,
-    requires processes { (1 ≤ script.now.processes) × (script.now.processes ≤ 32) }
-    requires count { books.n ≡ script.now.processes }
-    requires stored { (books.bounds ≡ None) × (books.stored ≡ true) }
-    requires free { NoneWaits books.records script.now.processes }
-    requires nothing { noted.old.items ≡ [] }
-    ensures fault { IfErr result IsUnwritten }
-    ensures legal { IfOk result (λ journal. Legal journal.records) }
-    // `noted` has the replies.
-    ensures done { IfOk result (λ journal. RunsAfter books.records (said_script script.now)
-        (lines_of noted.new.items) journal.records) }
 {
     let Ok((mq, processes)) = Mq::<L>::resume(alloc, books) else {
         return Err(RunFault::NoMemory);

@@ -1,12 +1,12 @@
 //! Running a script and noting what its calls return.
-ghost use Rattle.std.specs.Prelude.{◌≡◌, ◌≤◌, ◌++◌, [], ℕ, List, true, IfErr, IfOk, IsErrOf, vec_len};
+ghost use Rattle.std.specs.Prelude.{◌≡◌, ◌≤◌, ◌++◌, [], ℕ, List, true, false, IfErr, IfOk, IsErrOf, vec_len};
 ghost use Rattle.std.specs.List.{All};
 ghost use Rattle.mq_model.specs.Legality.{Legal};
 ghost use Rattle.script_runner.specs.Meeting.{RunsAndMeets};
 ghost use Rattle.script_runner.specs.Notes.{RunsServed, lines_of, some_refused};
 ghost use Rattle.script_runner.specs.RunFault.{IsUnwritten};
 ghost use Rattle.mq.specs.Calls.{stored_in};
-ghost use Rattle.script_runner.specs.Runs.{IsReady, RunsOn, RunsPhases, RunsWhole};
+ghost use Rattle.script_runner.specs.Runs.{IsReady, RunsOn, RunsPhases};
 ghost use Rattle.script_runner.specs.declared.fault.RunFault.TheVariants.{NoMemory};
 ghost use Rattle.script_text.specs.Script.{said_calls, said_phases, said_script};
 
@@ -16,6 +16,7 @@ use crate::gate::Gate;
 use crate::meeting::meet;
 use crate::noted::{Noted, note_all, some_refused};
 use crate::phase::make_calls;
+use crate::run::journal_of;
 use crate::settling::settled;
 use fast_mutex::Look;
 use mq::{Guarded, Mq, Process};
@@ -54,43 +55,14 @@ where
         RunsServed (said_script script.now) noted.new.items journal.records) }
     ensures refused { some_refused noted.new.items ≡ true → IsErrOf result NoMemory }
 {
-    let ran = make_all::<L, S, G>(rt, alloc, script, gate, noted);
-    if some_refused(noted.as_slice()) {
-        return Err(RunFault::NoMemory);
-    }
-    let journal = ran?;
-    Ok(journal)
-}
-
-// The same, whether or not a call fails with `NoMemory`.
-fn make_all<L, S, G>(
-    rt: &S,
-    alloc: Global,
-    script: &Script<'_>,
-    gate: &G,
-    noted: &mut Vec<Noted>,
-) -> Result<Journal, RunFault>
-where
-    L: Look<Guarded> + Sync,
-    L::Seat: Send,
-    L::Walk: Send,
-    S: Threads + Wait + Clock + Sync,
-    G: Gate + Sync,
-    requires processes { (1 ≤ script.now.processes) × (script.now.processes ≤ 32) }
-    requires nothing { noted.old.items ≡ [] }
-    ensures fault { IfErr result IsUnwritten }
-    ensures legal { IfOk result (λ journal. Legal journal.records) }
-    // `noted` has the replies.
-    ensures done { IfOk result (λ journal.
-        RunsWhole (said_script script.now) (lines_of noted.new.items) journal.records) }
-{
     let Ok((mq, processes)) = Mq::<L>::new(alloc, script.processes) else {
         return Err(RunFault::NoMemory);
     };
     make_on(rt, alloc, mq, processes, script, gate, noted)
 }
 
-/// Makes the calls of a script on a system with these processes, and ends the system.
+/// Makes the calls of a script on a system with these processes as `run_noted` does, and ends the
+/// system.
 pub(crate) fn make_on<L, S, G>(
     rt: &S,
     alloc: Global,
@@ -112,16 +84,19 @@ where
     requires nothing { noted.old.items ≡ [] }
     ensures fault { IfErr result IsUnwritten }
     ensures legal { IfOk result (λ journal. Legal journal.records) }
-    // `noted` has the replies.
+    // `noted` has the replies, and no call failed with `NoMemory`.
     ensures done { IfOk result (λ journal. RunsOn mq processes.items
-        (said_script script.now).phases (lines_of noted.new.items) journal.records) }
+        (said_script script.now).phases (lines_of noted.new.items) journal.records ×
+        (some_refused noted.new.items ≡ false)) }
+    ensures refused { some_refused noted.new.items ≡ true → IsErrOf result NoMemory }
 {
     let phases = script.phases.as_slice();
-    let processes = run_noted_phases(rt, alloc, &mq, gate, noted, processes, phases)?;
-    let Ok(journal) = mq.finish(processes) else {
-        unreachable!()
-    };
-    Ok(journal)
+    let ran = run_noted_phases(rt, alloc, &mq, gate, noted, processes, phases);
+    if some_refused(noted.as_slice()) {
+        return Err(RunFault::NoMemory);
+    }
+    let processes = ran?;
+    Ok(journal_of(mq, processes))
 }
 
 // Runs phases one after the other.

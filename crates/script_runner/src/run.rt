@@ -170,8 +170,8 @@ where
     }
 }
 
-// The journal of the system with these processes, which are all that it has.
-fn journal_of<L: Look<Guarded>>(mq: Mq<L>, processes: Vec<Process<L>>) -> Journal
+/// The journal of the system with these processes, which are all that it has.
+pub(crate) fn journal_of<L: Look<Guarded>>(mq: Mq<L>, processes: Vec<Process<L>>) -> Journal
     requires made { All (λ process. process.lock ≡ mq) processes.items }
     requires stored { stored_in mq.fixed ≡ true }
     requires all { vec_len processes ≡ mq.count }

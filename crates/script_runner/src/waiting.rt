@@ -1,12 +1,12 @@
 //! Calls that may wait, and that stop waiting when no process can answer them any more.
 ghost use Rattle.std.specs.Prelude.{◌≡◌, ◌≤◌, true, IsSome, IsTrue, IfSome, IfNone, [], length};
-ghost use Rattle.mq.specs.Calls.{Calls, Collects, IsFree};
+ghost use Rattle.mq.specs.Calls.{Calls, Collects, IsFree, Receives, Sends};
 ghost use Rattle.mq.specs.Says.{FitsIn};
 ghost use Rattle.mq_model.specs.Legality.{Legal};
 ghost use Rattle.mq_model.specs.Messages.{is_receive, is_send};
 ghost use Rattle.mq_state.specs.Buffers.{waiting_room};
 ghost use Rattle.mq_state.specs.Requests.{Brings};
-ghost use Rattle.script_runner.specs.Runs.{IsSameProcess, Receives, Sends, Shows, WaitsFor};
+ghost use Rattle.script_runner.specs.Runs.{IsSameProcess, Shows, WaitsFor};
 ghost use Rattle.script_text.specs.Replies.{HasMessage, message_len};
 ghost use Rattle.script_text.specs.declared.reply.Outcome.TheVariants as outcomes;
 

@@ -3,26 +3,27 @@ use Rattle.std.proofs.lemmas.Grind.{common_steps}
 use Rattle.script_runner.specs.Notes.{lines_of}
 use Rattle.script_runner.specs.Runs.{RunsPhases}
 use Rattle.script_text.specs.Script.{said_phases}
-use Rattle.script_runner.proofs.Authors.{authors-within}
 use Rattle.script_runner.proofs.noting.make_on.Goals as goal
 
-pub finish-requires : goal.finish-requires
-finish-requires g c = grind arith
+pub journal_of-requires-clause-made : goal.journal_of-requires-clause-made
+journal_of-requires-clause-made g c = grind arith
 
-pub unreachable-requires : goal.unreachable-requires
-unreachable-requires g c = grind (arith, common_steps)
+pub journal_of-requires-clause-all : goal.journal_of-requires-clause-all
+journal_of-requires-clause-all g c = grind (arith, common_steps)
 
 pub returns-clause-done : goal.returns-clause-done
 returns-clause-done g c =
-    let mq = c.args.mq in let after = c.in_ok-processes.processes.items in
-    let ran = c.in_ok-processes.ensures.ran in let journal = c.in-Ok.journal in
+    let after = c.in_ok-processes.processes.items in
+    let ran = c.in_ok-processes.ensures.ran in
     let none : lines_of c.args.noted.now.items ≡ [] = ap lines_of c.requires.nothing in
-    let replies : lines_of c.run_noted_phases.new.noted.items ≡ ran.0 = ran.2 ∙ ap (λ lines. lines ++ ran.0) none in
-    let phases : RunsPhases (said_phases c.args.script.now.phases.items) c.args.processes.items after ran.0 = rw c.as_slice-phases.ensures.value at ran.1 in
-    record {
-      processes = after;
-      ran = rw replies phases;
-      legal = c.in-Ok.ensures.legal;
-      authors = authors-within mq.count journal.records c.in-Ok.ensures.legal c.in-Ok.ensures.processes;
-      grows = c.in-Ok.ensures.grows;
-    }
+    let replies : lines_of c.run_noted_phases-ran.new.noted.items ≡ ran.0 = ran.2 ∙ ap (λ lines. lines ++ ran.0) none in
+    let phases : RunsPhases (said_phases c.args.script.now.phases.items) c.args.processes.items after ran.0 = rw c.as_slice-phases.ensures.value at ran.1 in (
+      record {
+        processes = after;
+        ran = rw replies phases;
+        legal = c.journal_of.ensures.legal;
+        authors = c.journal_of.ensures.authors;
+        grows = c.journal_of.ensures.grows;
+      },
+      cc,
+    )

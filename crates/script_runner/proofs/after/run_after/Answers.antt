@@ -1,12 +1,12 @@
-use Rattle.std.proofs.Common.{arith, ◌≡◌, ◌∙◌, length}
+use Rattle.std.proofs.Common.{arith, ◌≡◌, ◌∙◌, false, length}
 use Rattle.std.proofs.lemmas.Grind.{common_steps}
 use Rattle.std.proofs.lemmas.Result.{IfOk-weaker}
 use Rattle.fast_mutex.specs.Items.{tickets_with}
-use Rattle.script_runner.specs.Notes.{lines_of}
-use Rattle.script_runner.specs.Runs.{RunsAfter, RunsOn}
+use Rattle.script_runner.specs.Notes.{RunsServedAfter, lines_of, some_refused}
+use Rattle.script_runner.specs.Runs.{RunsOn}
 use Rattle.script_text.specs.Script.{said_script}
 use Rattle.script_runner.proofs.Whole.{after-of, begin-after, many-after, ready-after}
-use Rattle.script_runner.proofs.after.make_after.Goals as goal
+use Rattle.script_runner.proofs.after.run_after.Goals as goal
 
 pub make_on-requires-clause-ready : goal.make_on-requires-clause-ready
 make_on-requires-clause-ready g c κs within =
@@ -22,8 +22,12 @@ make_on-requires-clause-all g c =
 pub returns-clause-done : goal.returns-clause-done
 returns-clause-done g c =
     let mq = c.in-Ok.mq in let script = said_script c.args.script.now in let before = c.in-Ok.processes.items in let past = c.args.books.records in
-    let replies = lines_of c.make_on.new.noted.items in
+    let noted = c.make_on.new.noted.items in let replies = lines_of noted in
     let are : before ≡ tickets_with mq past 1 script.processes = begin-after mq past c.args.books.n script.processes before c.in-Ok.ensures.processes c.requires.count in
-    IfOk-weaker c.make_on.result (λ journal. RunsOn mq before script.phases replies journal.records) (λ journal. RunsAfter past script replies journal.records)
-    (λ journal runs. after-of past script mq before replies journal.records (c.in-Ok.ensures.count ∙ c.requires.count) (c.in-Ok.ensures.bounds ∙ c.requires.stored.0) c.requires.free are runs)
+    IfOk-weaker c.make_on.result
+    (λ journal. RunsOn mq before script.phases replies journal.records × (some_refused noted ≡ false)) (λ journal. RunsServedAfter past script noted journal.records)
+    (λ journal runs. record {
+      ran = after-of past script mq before replies journal.records (c.in-Ok.ensures.count ∙ c.requires.count) (c.in-Ok.ensures.bounds ∙ c.requires.stored.0) c.requires.free are runs.0;
+      served = runs.1;
+    })
     c.make_on.ensures.done
