@@ -337,12 +337,10 @@ static inline __attribute__((always_inline)) int make(const char *call, bool is_
                                                       yak_message *message,
                                                       const struct timespec *until)
 {
-    const bool is_reply = !is_send && program_has_sent;
     yak_moment moment = {0};
     outcome end;
     uint32_t answer, d;
     int error;
-    program_has_sent = is_send;
     /* A pointer that is no good is met outside the lock. */
     if (until != 0) {
         moment.sec = (int64_t)until->tv_sec;
@@ -357,23 +355,24 @@ static inline __attribute__((always_inline)) int make(const char *call, bool is_
             program_sweep();
         d = program_number(mqdes);
         answer = program_try(is_send, d, bytes, len, prio, message);
-        if (__builtin_expect(the_program.is_logged, false) && answer == YAK_DONE)
-            log_message(is_send, d, bytes, len, prio);
         if (__builtin_expect(answer == YAK_DONE && the_program.until_large >= 0 &&
-                                 (the_program.tables.registered | the_program.overflow |
-                                  the_program.polls |
+                                 (the_program.is_logged | the_program.tables.registered |
+                                  the_program.overflow | the_program.polls |
                                   the_program.processes[program_dispatcher_of(d)].answered) == 0,
                              1)) {
             program_leave();
+            program_thread.has_sent = is_send;
             explored_moved(is_send, d, 0, bytes, is_send ? len : message->len);
             return 0;
         } else {
+            if (the_program.is_logged && answer == YAK_DONE)
+                log_message(is_send, d, bytes, len, prio);
             const request asked = {
                 .call = call,
                 .number = mqdes,
                 .is_send = is_send,
                 .is_timed = until != 0,
-                .is_reply = is_reply,
+                .is_reply = !is_send && program_thread.has_sent,
                 .until = until != 0 ? moment : program_never,
                 .bytes = bytes,
                 .len = len,
@@ -382,6 +381,7 @@ static inline __attribute__((always_inline)) int make(const char *call, bool is_
             end = go_on(d, &asked, message, answer);
         }
     } while (end.fate == ANEW);
+    program_thread.has_sent = is_send;
     error = error_of(end);
     explored_moved(is_send, d, error, bytes, is_send ? len : message->len);
     return error != 0 ? fails(error) : 0;

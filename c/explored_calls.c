@@ -26,7 +26,7 @@ static uint32_t names_object(void)
  * interrupted another call. */
 static bool is_step(void)
 {
-    return machine_decides() && program_place == OUTSIDE && program_here->me != 0;
+    return machine_decides() && program_thread.place == OUTSIDE && program_here->me != 0;
 }
 
 static const machine_queue *queue_of(uint32_t d)
@@ -93,7 +93,7 @@ void explored_transfer(bool is_send, int mqdes, size_t len, unsigned prio,
 
 void explored_gave(int error, uint32_t value)
 {
-    if (program_place == OUTSIDE)
+    if (program_thread.place == OUTSIDE)
         machine_gave(error, value);
 }
 

@@ -230,7 +230,7 @@ bool program_is_alone(void)
 bool program_keeps_journal(void)
 {
     bool is_last;
-    if (is_first || program_place == INSIDE || program_come_in() != 0)
+    if (is_first || program_thread.place == INSIDE || program_come_in() != 0)
         return is_first;
     program_sweep();
     is_last = program_is_alone();
@@ -509,7 +509,7 @@ static void leave_for(int place)
 {
     program_unlock(place);
     if (place == INSIDE)
-        *program_pending = PROGRAM_NODE;
+        *program_thread.pending = PROGRAM_NODE;
 }
 
 /* ThreadSanitizer does not forget in a child that another thread held the lock, so nobody is to
@@ -519,7 +519,7 @@ static _Thread_local int place_before;
 
 static void make_place_outside(void)
 {
-    place_before = program_place;
+    place_before = program_thread.place;
     if (program_lock() != 0)
         return;
     arena_follow();
@@ -535,8 +535,8 @@ static void before_fork(void)
     coming = 0;
     again = 0;
     is_inside =
-        program_here->me != 0 && program_place == INSIDE &&
-        (__atomic_load_n(PROGRAM_WORD, __ATOMIC_RELAXED) & FUTEX_TID_MASK) == program_thread;
+        program_here->me != 0 && program_thread.place == INSIDE &&
+        (__atomic_load_n(PROGRAM_WORD, __ATOMIC_RELAXED) & FUTEX_TID_MASK) == program_thread.number;
     if (program_here->me == 0)
         return;
     if (is_inside) {
@@ -618,14 +618,14 @@ static void in_child(void)
     forget();
     if (is_held_for_fork) {
         /* It is the parent's. */
-        program_place = place_before;
+        program_thread.place = place_before;
         is_held_for_fork = false;
     }
     /* A handler may have interrupted it on its way into the lock, which is taken by this number. */
     program_meet_thread();
-    *program_pending = program_place == INSIDE ? PROGRAM_NODE : 0;
-    if (program_place == WAITING)
-        program_place = OUTSIDE;
+    *program_thread.pending = program_thread.place == INSIDE ? PROGRAM_NODE : 0;
+    if (program_thread.place == WAITING)
+        program_thread.place = OUTSIDE;
     if (coming != 0) {
         take_part_in_family();
     } else if (is_fork_word("new")) {

@@ -23,8 +23,6 @@ enum {
 };
 
 bool program_is_watched;
-_Thread_local volatile int program_thread;
-_Thread_local void *volatile *program_pending;
 
 /* ---- ThreadSanitizer, which is there if its functions are ---- */
 
@@ -50,7 +48,7 @@ void program_tell_locked(void)
     __tsan_mutex_post_lock(&addresses[address], 1, 0);
 }
 
-void program_tell_unlocked(bool is_before)
+static void tell_unlocked(bool is_before)
 {
     if (is_before)
         __tsan_mutex_pre_unlock(&addresses[address], 1);
@@ -72,8 +70,8 @@ void program_meet_thread(void)
     struct robust_list_head *head = 0;
     size_t size;
     syscall(SYS_get_robust_list, 0, &head, &size);
-    program_pending = (void *volatile *)&head->list_op_pending;
-    program_thread = (int)syscall(SYS_gettid);
+    program_thread.pending = (void *volatile *)&head->list_op_pending;
+    program_thread.number = (int)syscall(SYS_gettid);
 }
 
 static yak_word_ lock_word(void)
@@ -87,6 +85,14 @@ void program_wake_next(void)
         program_come_to_family();
     else
         yak_wake_on_(lock_word(), 1);
+}
+
+void program_unlock_watched(void)
+{
+    tell_unlocked(true);
+    if (__atomic_exchange_n(PROGRAM_WORD, 0, __ATOMIC_RELEASE) < 0)
+        program_wake_next();
+    tell_unlocked(false);
 }
 
 /* A wake is lost if the thread that was woken is killed before it takes the lock, and a death is if
@@ -111,8 +117,8 @@ static bool take(void)
         int seen = __atomic_load_n(word, __ATOMIC_RELAXED);
         const int sleepers = seen & (int)FUTEX_WAITERS;
         if ((seen & FUTEX_TID_MASK) == 0) {
-            if (__atomic_compare_exchange_n(word, &seen, program_thread | waiters | sleepers, false,
-                                            __ATOMIC_ACQUIRE, __ATOMIC_RELAXED))
+            if (__atomic_compare_exchange_n(word, &seen, program_thread.number | waiters | sleepers,
+                                            false, __ATOMIC_ACQUIRE, __ATOMIC_RELAXED))
                 return (seen & FUTEX_OWNER_DIED) != 0;
         } else if (tries < TRIES) {
             ++tries;
@@ -229,7 +235,7 @@ void program_leave_waking(uint32_t answered)
     last = (unsigned)__builtin_ctz(answered);
     program_wake_them(answered & (answered - 1));
     if (program_is_watched)
-        program_tell_unlocked(true);
+        tell_unlocked(true);
     /* One call of the kernel sets the lock free, wakes the waiter, and one that sleeps for the
        lock. */
     if (syscall(SYS_futex, &the_program.news[last], FUTEX_WAKE_OP,
@@ -240,9 +246,9 @@ void program_leave_waking(uint32_t answered)
             program_wake_next();
     }
     if (program_is_watched)
-        program_tell_unlocked(false);
+        tell_unlocked(false);
     if (program_is_apart)
         program_come_to_family();
-    *program_pending = 0;
-    program_place = OUTSIDE;
+    *program_thread.pending = 0;
+    program_thread.place = OUTSIDE;
 }

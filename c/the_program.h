@@ -239,14 +239,22 @@ typedef struct here {
 /* Where a thread is, for a handler that interrupts it. */
 enum { OUTSIDE, INSIDE, WAITING };
 
+/* What a thread knows of itself. */
+typedef struct own_thread {
+    volatile int place;
+    /* Its number, 0 before its first call; and the place where the kernel finds, if the thread
+       dies, which lock it held or was acquiring. */
+    volatile int number;
+    void *volatile *pending;
+    bool has_sent; /* its last send or receive was a send */
+} own_thread;
+
 extern program *program_at;
 #define the_program (*program_at)
 extern here *program_here;
 /* Whether to tell ThreadSanitizer about the lock. */
 extern bool program_is_watched;
-extern _Thread_local volatile int program_place;
-/* Whether the last send or receive of this thread was a send. */
-extern _Thread_local bool program_has_sent;
+extern _Thread_local own_thread program_thread;
 /* The wait of this thread, and those of this process. */
 extern _Thread_local waiting program_own_wait;
 extern waiting *program_waits;
@@ -292,10 +300,7 @@ typedef struct notices {
 
 /* ---- the lock (lock.c) ---- */
 
-/* The number of this thread, 0 before its first call; and the place where the kernel finds, if the
- * thread dies, which lock it held or was acquiring. */
-extern _Thread_local volatile int program_thread;
-extern _Thread_local void *volatile *program_pending;
+/* Finds the thread's number, and the place for the kernel. */
 void program_meet_thread(void);
 /* Acquires the lock after the first attempt failed: 0, or ENOTRECOVERABLE or ENOMEM without the
  * lock. */
@@ -306,7 +311,8 @@ void program_wake_next(void);
  * this, it has woken them, or is known to have died inside the lock. */
 void program_leave_waking(uint32_t answered);
 void program_tell_locked(void);
-void program_tell_unlocked(bool is_before);
+/* Sets the lock's word free, and wakes a thread that sleeps for it. ThreadSanitizer is told. */
+void program_unlock_watched(void);
 void program_tell_forked(bool is_inside);
 /* Makes the system, at the first call: 0, or ENOMEM with the lock released. */
 int program_first(void);
@@ -317,12 +323,12 @@ int program_first(void);
 static inline int program_lock(void)
 {
     int nobody = 0;
-    program_place = INSIDE;
-    if (__builtin_expect(program_thread == 0, 0))
+    program_thread.place = INSIDE;
+    if (__builtin_expect(program_thread.number == 0, 0))
         program_meet_thread();
-    *program_pending = PROGRAM_NODE;
-    if (__builtin_expect(!__atomic_compare_exchange_n(PROGRAM_WORD, &nobody, program_thread, false,
-                                                      __ATOMIC_ACQUIRE, __ATOMIC_RELAXED),
+    *program_thread.pending = PROGRAM_NODE;
+    if (__builtin_expect(!__atomic_compare_exchange_n(PROGRAM_WORD, &nobody, program_thread.number,
+                                                      false, __ATOMIC_ACQUIRE, __ATOMIC_RELAXED),
                          0))
         return program_lock_slowly();
     if (__builtin_expect(program_is_watched, 0))
@@ -333,13 +339,11 @@ static inline int program_lock(void)
 static inline void program_unlock(int place)
 {
     if (__builtin_expect(program_is_watched, 0))
-        program_tell_unlocked(true);
-    if (__builtin_expect(__atomic_exchange_n(PROGRAM_WORD, 0, __ATOMIC_RELEASE) < 0, 0))
+        program_unlock_watched();
+    else if (__builtin_expect(__atomic_exchange_n(PROGRAM_WORD, 0, __ATOMIC_RELEASE) < 0, 0))
         program_wake_next();
-    if (__builtin_expect(program_is_watched, 0))
-        program_tell_unlocked(false);
-    *program_pending = 0;
-    program_place = place;
+    *program_thread.pending = 0;
+    program_thread.place = place;
 }
 
 static inline void program_leave(void)
@@ -373,7 +377,7 @@ static inline int program_come_in(void)
  * cancellation point, or cancellation is disabled. */
 static inline int program_enter(void)
 {
-    if (program_place != OUTSIDE || program_here->me == 0)
+    if (program_thread.place != OUTSIDE || program_here->me == 0)
         return program_enter_apart();
     return program_come_in();
 }
