@@ -7,7 +7,7 @@ use Rattle.mq_model.specs.Legality.{Legal, IsFirstIllegal}
 use Rattle.mq_model.specs.Record.{Past, first}
 use Rattle.journal_format.specs.Fitting.{AllFit}
 use Rattle.journal_format.specs.Text.{journal_text}
-use Rattle.journal_state.specs.State.{state}
+use Rattle.journal_views.specs.State.{state}
 use Rattle.journal_tasks.specs.declared.state.NoState.{NoState}
 use Rattle.journal_tasks.specs.declared.state.NoState.TheVariants.{Beyond, Illegal}
 use Rattle.journal_tasks.specs.declared.state.Wanted.{Wanted}

@@ -5,7 +5,7 @@ use Rattle.text_io.specs.Output.{AppendsTooLittle}
 use Rattle.mq_model.specs.Record.{Past}
 use Rattle.journal_format.specs.Fitting.{AllFit}
 use Rattle.journal_format.specs.Text.{journal_text}
-use Rattle.journal_picture.specs.Picture.{picture_text}
+use Rattle.journal_views.specs.Picture.{picture_text}
 use Rattle.journal_tasks.specs.declared.window.Window.{Window}
 
 -- the place after the last one that may be shown, in a journal of this length

@@ -9,7 +9,7 @@ use crate::fault::LogFault;
 use crate::window::{Window, shown};
 use journal_format::input::read_input;
 use journal_format::lines::MOST_BYTES;
-use journal_picture::picture_of;
+use journal_views::picture_of;
 use std::alloc::Global;
 use std::io::{Read, Write};
 use text_io::output::write_all;

@@ -8,7 +8,7 @@ ghost use Rattle.journal_tasks.specs.declared.fault.LogFault.TheVariants.{BadLin
 use crate::fault::LogFault;
 use journal_format::input::read_input;
 use journal_format::lines::MOST_BYTES;
-use journal_state::{Form, first_entries, state_of};
+use journal_views::{Form, first_entries, state_of};
 use mq_model::journals::Journal;
 use mq_state::replay::replay;
 use std::alloc::{AllocError, Global};

@@ -2,7 +2,7 @@
 ghost use Rattle.std.specs.Prelude.{◌≡◌, ◌≤◌, ◌+◌, length};
 ghost use Rattle.journal_tasks.specs.Window.{count_shown, first_shown};
 
-use journal_picture::MOST_ENTRIES;
+use journal_views::MOST_ENTRIES;
 use mq_model::journals::Journal;
 
 /// The entries from `from` to `to`, both included.

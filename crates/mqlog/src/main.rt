@@ -12,12 +12,12 @@ mod tests;
 use command::{Asked, Source, asked_by, command};
 use fast_mutex::FastMutex;
 use journal_format::input::read_input;
-use journal_page::{TAIL, Unviewed, Viewed, view_journal};
 use journal_tasks::{
     Ending, LogFault, Question, Trial, Wanted, Window, check_journal, compact_journal,
     draw_journal, judge_history, record_history, record_script, resume_script, state_journal,
     try_orders, try_orders_after,
 };
+use journal_views::{TAIL, Unviewed, Viewed, view_journal};
 use mq::Guarded;
 use mq_model::journals::Journal;
 use pages::{head_of, judge_to_page};

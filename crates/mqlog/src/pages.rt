@@ -3,8 +3,8 @@
 
 use crate::progress::with_progress;
 use crate::{failed, not_opened};
-use journal_page::{FRONT, HEAD, TAIL, page_of_text};
 use journal_tasks::{LogFault, Question, judge_history};
+use journal_views::{FRONT, HEAD, TAIL, page_of_text};
 use std::alloc::AllocGlobal;
 use std::io::{Eprint, ErrorKind, Print, Read, Write};
 use std::process::ExitCode;

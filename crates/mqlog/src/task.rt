@@ -2,8 +2,8 @@
 ghost use Rattle.std.specs.Prelude.{◌≡◌};
 ghost use Rattle.mqlog.specs.Task.{task_named, trial_of, question_of, wanted_of, window_of};
 
-use journal_state::Form;
 use journal_tasks::{LAST, PLAIN, Question, REPORT, Trial, WHOLE, Wanted, Window};
+use journal_views::Form;
 
 /// What the program is asked to do.
 #[derive(Clone, Copy, Debug, PartialEq, Eq)]

@@ -2,8 +2,8 @@
 use crate::command::{Asked, Source, asked_by, command};
 use crate::task::Task;
 use clap::error::ErrorKind;
-use journal_state::Form;
 use journal_tasks::{LAST, PLAIN, Question, REPORT, Trial, WHOLE, Wanted, Window};
+use journal_views::Form;
 use std::alloc::{AllocError, Global};
 use std::test::Fail;
 

@@ -1,7 +1,7 @@
 //! States after journals: in both forms, and journals without the wanted state.
 use super::{Fail, RUN};
-use journal_state::Form;
 use journal_tasks::{LAST, LogFault, NoState, Wanted, state_journal};
+use journal_views::Form;
 use std::alloc::{AllocError, Global};
 use std::process::Abort;
 use std::rt::HostRuntime;

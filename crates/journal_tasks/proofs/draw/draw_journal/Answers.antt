@@ -1,7 +1,7 @@
 use Rattle.std.proofs.Common.{◌≡◌, ◌∙◌, Err, Result, ap, length}
 use Rattle.journal_format.specs.declared.fault.JournalFault.{JournalFault}
 use Rattle.journal_format.specs.declared.fault.JournalFault.TheVariants as journal
-use Rattle.journal_picture.specs.Picture.{picture_text}
+use Rattle.journal_views.specs.Picture.{picture_text}
 use Rattle.journal_tasks.specs.LogFault.{of_journal_fault}
 use Rattle.journal_tasks.specs.Window.{count_shown, first_shown}
 use Rattle.journal_tasks.specs.declared.fault.LogFault.TheVariants.{NoMemory, Output}

@@ -2,7 +2,7 @@ use Rattle.std.proofs.Common.{◌≡◌, ◌∙◌, ◌≤◌, length, ap, arith
 use Rattle.std.specs.Option.{unwrap_or}
 use Rattle.mq_model.specs.Legality.{Legal}
 use Rattle.mq_model.specs.Record.{Past, first}
-use Rattle.journal_state.specs.State.{state}
+use Rattle.journal_views.specs.State.{state}
 use Rattle.journal_tasks.specs.State.{count_wanted, entries_wanted}
 use Rattle.journal_tasks.proofs.state.text_of.Goals as goal
 

@@ -1,4 +1,0 @@
-pub mod Follows
-pub mod Lists
-pub mod Standing
-pub mod Told

@@ -1,5 +1,0 @@
-use Rattle.journal_state.specs.Followed.{Follows}
-use Rattle.journal_state.proofs.followed.follow.Given as goal
-
-abbrev pub invariant-loop-k : goal.invariant-loop-k
-invariant-loop-k l = Follows l.journal.records l.k l.f

@@ -1,4 +1,0 @@
-pub mod Followed
-pub mod State
-pub mod Places
-pub mod Parts

@@ -1,0 +1,53 @@
+-- Lists that are written or filtered item by item.
+use Rattle.std.proofs.Common.{◌≡◌, ℕ, zero, suc, ◌+◌, ◌-◌, ◌<◌, ◌≤◌, Bool, true, false, List, [], ◌∷◌, ◌++◌, length, get_or, drop, map, take, if◌then◌else◌, refl, sym, ◌∙◌, ap, arith, append_assoc, add-one}
+use Rattle.std.proofs.Math.Seq.{drop-cons}
+use Rattle.std.proofs.lemmas.List.{append-nil, drop_all, length-map, length-take-le, map-append, take_all, take_more}
+use Rattle.std.specs.List.{filter}
+use Rattle.mq_model.specs.Descriptors.{numbers_from}
+use Rattle.journal_views.specs.State.{between, joined}
+use Rattle.journal_views.specs.declared.form.Form.{Form}
+use Rattle.journal_views.specs.declared.form.Form.TheVariants.{Text, Json}
+
+pub filter-drop : (t : ℕ → Bool) (xs : List ℕ) (i : ℕ) → i < length xs →
+    filter t (drop i xs) ≡ (if t (get_or xs i 0) then get_or xs i 0 ∷ filter t (drop (i + 1) xs) else filter t (drop (i + 1) xs))
+filter-drop t xs i lt = ap (filter t) (drop-cons xs i 0 lt) ∙ ap (λ (j : ℕ). if t (get_or xs i 0) then get_or xs i 0 ∷ filter t (drop j xs) else filter t (drop j xs)) (sym (add-one i))
+
+pub filter-numbers : (t : ℕ → Bool) (d n : ℕ) → d < n →
+    filter t (numbers_from d (n - d)) ≡ (if t d then d ∷ filter t (numbers_from (d + 1) (n - (d + 1))) else filter t (numbers_from (d + 1) (n - (d + 1))))
+filter-numbers t d n lt = let less : n - d ≡ suc (n - (d + 1)) = omega arith in rw less refl
+
+pub ruleset lists = (append_assoc, append-nil, drop_all, filter-drop, filter-numbers)
+
+-- what is appended to what was written
+pub behind : (old a rest now new : List ℕ) → now ≡ old ++ a → new ≡ now ++ rest → new ≡ old ++ (a ++ rest)
+behind old a rest now new first last = last ∙ ap (λ t. t ++ rest) first ∙ append_assoc old a rest
+
+between-text : (n : ℕ) → between Text n ≡ []
+between-text zero = refl
+between-text (suc n) = refl
+
+-- the parts of a list, as they are written one after the other
+joined-more : (form : Form) (parts : List (List ℕ)) (part : List ℕ) → joined form (parts ++ part ∷ []) ≡ joined form parts ++ (between form (length parts) ++ part)
+joined-more Text [] part = append-nil part
+joined-more Json [] part = refl
+joined-more Text (x ∷ parts) part =
+    ap (λ t. x ++ t) (joined-more Text parts part ∙ ap (λ b. joined Text parts ++ (b ++ part)) (between-text (length parts))) ∙ sym (append_assoc x (joined Text parts) part)
+joined-more Json (x ∷ []) part = refl
+joined-more Json (x ∷ y ∷ parts) part =
+    ap (λ t. x ++ (44 ∷ t)) (joined-more Json (y ∷ parts) part) ∙ sym (append_assoc x (44 ∷ joined Json (y ∷ parts)) (44 ∷ part))
+
+pub list-more : (form : Form) (f : ℕ → List ℕ) (xs old now next new : List ℕ) (i : ℕ) → i < length xs → now ≡ old ++ joined form (map f (take i xs)) → next ≡ now ++ between form i → new ≡ next ++ f (get_or xs i 0) →
+    new ≡ old ++ joined form (map f (take (i + 1) xs))
+list-more form f xs old now next new i lt before next_is new_is =
+    let x = get_or xs i 0 in
+    let long : length (map f (take i xs)) ≡ i = length-map (take i xs) f ∙ length-take-le i xs (omega arith) in
+    let items : map f (take (i + 1) xs) ≡ map f (take i xs) ++ f x ∷ [] = ap (map f) (take_more xs i 0 lt) ∙ map-append f (take i xs) (x ∷ []) in
+    let more : joined form (map f (take (i + 1) xs)) ≡ joined form (map f (take i xs)) ++ (between form i ++ f x) =
+    ap (joined form) items ∙ joined-more form (map f (take i xs)) (f x) ∙ ap (λ n. joined form (map f (take i xs)) ++ (between form n ++ f x)) long in
+    new_is ∙ ap (λ t. t ++ f x) (next_is ∙ ap (λ t. t ++ between form i) before)
+    ∙ append_assoc (old ++ joined form (map f (take i xs))) (between form i) (f x)
+    ∙ append_assoc old (joined form (map f (take i xs))) (between form i ++ f x)
+    ∙ ap (λ t. old ++ t) (sym more)
+
+pub list-all : (form : Form) (f : ℕ → List ℕ) (xs old now : List ℕ) (i : ℕ) → now ≡ old ++ joined form (map f (take i xs)) → length xs ≤ i → now ≡ old ++ joined form (map f xs)
+list-all form f xs old now i before all = before ∙ ap (λ ys. old ++ joined form (map f ys)) (take_all i xs all)

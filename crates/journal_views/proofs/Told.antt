@@ -1,0 +1,59 @@
+-- What entries add to the facts about queues and processes.
+use Rattle.std.proofs.Common.{◌≡◌, ◌≢◌, ◌≤◌, ◌<◌, ◌+◌, ◌-◌, ◌==◌, ◌++◌, ◌∙◌, ℕ, suc, Bool, true, false, List, [], ◌∷◌, length, Option, Some, None, if◌then◌else◌, refl, sym, ap, arith, append_assoc, eq-eqb, ne_eqb}
+use Rattle.std.specs.List.{filter}
+use Rattle.std.proofs.lemmas.List.{append-nil}
+use Rattle.mq_model.specs.Record.{Record, Past, first}
+use Rattle.mq_model.specs.Descriptors.{numbers_from}
+use Rattle.mq_model.specs.Notices.{value_notified, value_of_notify}
+use Rattle.mq_model.proofs.Places.{split}
+use Rattle.mq_model.proofs.Prefixes.{length-first, record_at-of_first}
+use Rattle.mq_model.proofs.Records.{record_at-past}
+use Rattle.journal_views.specs.State.{at}
+use Rattle.journal_views.proofs.Follows.{record-here}
+
+-- the values of notices -----------------------------------------------------------------------------------------------------------
+
+pub value-none : (past : Past) (k p m : ℕ) (place : Option ℕ) → place ≡ Some m → k ≤ m → k ≤ length past → None ≡ value_notified (first k past) p place
+value-none past k p m place is le within =
+    let long : length (first k past) ≡ k = length-first k past within in
+    let none = record_at-past (first k past) m (omega (arith, long, le)) in
+    rw (is, none) refl
+
+pub value-mine : (past : Past) (k p m : ℕ) (r : Record) (place : Option ℕ) (v : Option ℕ) → place ≡ Some m → first (m + 1) past ≡ r ∷ first m past → m < k → k ≤ length past → r.entry.process ≡ p →
+    v ≡ value_of_notify r.entry.call → v ≡ value_notified (first k past) p place
+value-mine past k p m r place v is here lt le mine value =
+    let found = record_at-of_first past k m r here lt le in
+    let same : (r.entry.process == p) ≡ true = eq-eqb r.entry.process p mine in
+    value ∙ (rw (is, found, same) refl)
+
+pub value-other : (past : Past) (k p m : ℕ) (r : Record) (place : Option ℕ) → place ≡ Some m → first (m + 1) past ≡ r ∷ first m past → m < k → k ≤ length past → r.entry.process ≢ p →
+    None ≡ value_notified (first k past) p place
+value-other past k p m r place is here lt le other =
+    let found = record_at-of_first past k m r here lt le in
+    let differs : (r.entry.process == p) ≡ false = ne_eqb r.entry.process p other in
+    rw (is, found, differs) refl
+
+-- numbers that pass a test ----------------------------------------------------------------------------------------------------------
+
+pub filter-more : (t : ℕ → Bool) (p n : ℕ) (old new all : List ℕ) (b : Bool) → p < n → old ++ filter t (numbers_from p (n - p)) ≡ all → b ≡ t p → new ≡ old ++ (if b then p ∷ [] else []) →
+    new ++ filter t (numbers_from (p + 1) (n - (p + 1))) ≡ all
+filter-more t p n old new all b lt before is more =
+    let less : n - p ≡ suc (n - (p + 1)) = omega arith in
+    let rest = filter t (numbers_from (p + 1) (n - (p + 1))) in
+    let step : filter t (numbers_from p (n - p)) ≡ (if b then p ∷ [] else []) ++ rest = split (t p)
+    (λ y. let b_is : b ≡ true = is ∙ y in rw (less, b_is, y) refl)
+    (λ z. let b_is : b ≡ false = is ∙ z in rw (less, b_is, z) refl) in
+    ap (λ (xs : List ℕ). xs ++ rest) more ∙ append_assoc old (if b then p ∷ [] else []) rest ∙ ap (λ (xs : List ℕ). old ++ xs) (sym step) ∙ before
+
+pub filter-done : (t : ℕ → Bool) (p n : ℕ) (found all : List ℕ) → found ++ filter t (numbers_from p (n - p)) ≡ all → n ≤ p → found ≡ all
+filter-done t p n found all before le =
+    let none : n - p ≡ 0 = omega arith in
+    sym (append-nil found) ∙ (let goal : found ++ [] ≡ found ++ filter t (numbers_from p (n - p)) = rw none refl in goal) ∙ before
+
+-- what is written of the record at a place --------------------------------------------------------------------------------------------
+
+pub at-beyond : (written : ℕ → Record → List ℕ) (past : Past) (place : ℕ) → length past ≤ place → at written past place ≡ []
+at-beyond written past place le = let none = record_at-past past place le in rw none refl
+
+pub at-here : (written : ℕ → Record → List ℕ) (past : Past) (place : ℕ) (r : Record) → first (place + 1) past ≡ r ∷ first place past → place < length past → at written past place ≡ written place r
+at-here written past place r is lt = let found = record-here past place r is lt in rw found refl

@@ -1,0 +1,11 @@
+pub mod Label
+pub mod Found
+pub mod Shapes
+pub mod Style
+pub mod Picture
+pub mod Followed
+pub mod State
+pub mod Places
+pub mod Parts
+pub mod Page
+pub mod View
