@@ -11,7 +11,7 @@ use Rattle.mqbench.specs.declared.fault.BenchFault.TheVariants.{BadLine, Input, 
 use Rattle.mqbench.specs.declared.fault.LineFault.{LineFault}
 use Rattle.mqbench.specs.declared.fault.LineFault.TheVariants.{NoWorkload, OutOfRange, DeepMessages, CrowdMessages, OddCrowd, NoJournal}
 use Rattle.mqbench.specs.declared.fault.WorkFault.{WorkFault}
-use Rattle.mqbench.specs.declared.fault.WorkFault.TheVariants.{NoMemory, NoThread, NoClock, Refused}
+use Rattle.mqbench.specs.declared.fault.WorkFault.TheVariants.{NoMemory, NoThread, NoClock, NoReport, Refused, Grew, Lost, Misordered}
 use Rattle.mqbench.specs.declared.workload.Request.{Request}
 use Rattle.mqbench.specs.Sizes.{letter_of, least_of, most_of}
 
@@ -19,7 +19,12 @@ abbrev pub work_fault_text : WorkFault → List ℕ
 work_fault_text NoMemory = codes "no memory"
 work_fault_text NoThread = codes "no thread"
 work_fault_text NoClock = codes "no clock"
+work_fault_text NoReport = codes "no report of the memory"
 work_fault_text (Refused fault) = codes "a call was refused: " ++ text_of fault
+work_fault_text (Grew kilobytes) = codes "memory grew by " ++ (decimal kilobytes ++ codes " KB")
+work_fault_text (Lost sent received) =
+    codes "messages were lost or came twice: " ++ (decimal sent ++ (codes " sent, " ++ (decimal received ++ codes " received")))
+work_fault_text Misordered = codes "a message came before an earlier one of its sender and priority"
 
 -- what is wrong with a line
 abbrev pub line_fault_text : LineFault → List ℕ
@@ -44,6 +49,9 @@ abbrev pub exit_status : BenchFault → ℕ
 exit_status (BadLine fault) = 2
 exit_status Input = 3
 exit_status Output = 3
+exit_status (Failed (Grew kilobytes)) = 1
+exit_status (Failed (Lost sent received)) = 1
+exit_status (Failed Misordered) = 1
 exit_status (Failed fault) = 4
 
 -- why a workload ends if a call failed

@@ -79,9 +79,11 @@ name_text name.Replay = codes "replay"
 name_text name.Crowd = codes "crowd"
 name_text name.Idle = codes "idle"
 name_text name.Storm = codes "storm"
+name_text name.Memory = codes "memory"
+name_text name.Soak = codes "soak"
 
 abbrev pub names : List Name
-names = name.Pair ∷ name.Deep ∷ name.Wide ∷ name.PingPong ∷ name.Stream ∷ name.Check ∷ name.Replay ∷ name.Crowd ∷ name.Idle ∷ name.Storm ∷ []
+names = name.Pair ∷ name.Deep ∷ name.Wide ∷ name.PingPong ∷ name.Stream ∷ name.Check ∷ name.Replay ∷ name.Crowd ∷ name.Idle ∷ name.Storm ∷ name.Memory ∷ name.Soak ∷ []
 
 -- the name with this word
 abbrev pub named : Word → Option Name
@@ -113,6 +115,12 @@ workload_written name.Replay words = replay_written words
 workload_written name.Crowd words = crowd_written words
 workload_written name.Idle words = idle_written words
 workload_written name.Storm words = storm_written words
+workload_written name.Memory words = do
+  calls ← size_alone sizes.Calls words
+  Ok (workload.Memory calls)
+workload_written name.Soak words = do
+  seconds ← size_alone sizes.Seconds words
+  Ok (workload.Soak seconds)
 
 -- a workload in a system with bounds: the numbers of entries and of payload bytes, and the workload
 abbrev pub bounded_written : ℕ → List Word → Result Request LineFault
@@ -141,19 +149,24 @@ unstored_written busy (word ∷ arguments) = do
   workload ← workload_written name arguments
   if reads_journal workload then Err NoJournal else Ok (request.Measure workload (record { storage = storage.Unstored; busy = busy }))
 
--- a workload in a system that stores its journal without bounds
-abbrev pub unbounded_written : ℕ → Word → List Word → Result Request LineFault
-unbounded_written busy word arguments = do
+-- what is stored of the journal if the line does not say it: nothing of a soak
+abbrev pub usual_storage : Workload → Storage
+usual_storage (workload.Soak seconds) = storage.Unstored
+usual_storage _ = storage.Whole
+
+-- a workload without words on what is stored
+abbrev pub usual_written : ℕ → Word → List Word → Result Request LineFault
+usual_written busy word arguments = do
   name ← name_written word
   workload ← workload_written name arguments
-  Ok (request.Measure workload (record { storage = storage.Whole; busy = busy }))
+  Ok (request.Measure workload (record { storage = usual_storage workload; busy = busy }))
 
 -- a workload beside `busy` threads that count
 abbrev pub measured_written : ℕ → List Word → Result Request LineFault
 measured_written busy [] = Err NoWorkload
 measured_written busy (word ∷ arguments) =
     if bytes_eq word (codes "bounded") then bounded_written busy arguments
-    else (if bytes_eq word (codes "unstored") then unstored_written busy arguments else unbounded_written busy word arguments)
+    else (if bytes_eq word (codes "unstored") then unstored_written busy arguments else usual_written busy word arguments)
 
 -- the number of threads that count, at most 32, and a workload beside them
 abbrev pub busy_written : List Word → Result Request LineFault

@@ -4,7 +4,7 @@ use Rattle.text_io.specs.Words.{Word, count_written}
 use Rattle.mqbench.specs.declared.fault.LineFault.{LineFault}
 use Rattle.mqbench.specs.declared.fault.LineFault.TheVariants.{OutOfRange}
 use Rattle.mqbench.specs.declared.size.Size.{Size}
-use Rattle.mqbench.specs.declared.size.Size.TheVariants.{Rounds, Entries, Depth, Processes, Sharers, Milliseconds, Seed, MostEntries, MostBytes, Busy}
+use Rattle.mqbench.specs.declared.size.Size.TheVariants.{Rounds, Entries, Depth, Processes, Sharers, Milliseconds, Seconds, Seed, Calls, MostEntries, MostBytes, Busy}
 
 -- the letter of a size in the usage
 abbrev pub letter_of : Size → List ℕ
@@ -14,7 +14,9 @@ letter_of Depth = codes "D"
 letter_of Processes = codes "P"
 letter_of Sharers = codes "P"
 letter_of Milliseconds = codes "T"
+letter_of Seconds = codes "T"
 letter_of Seed = codes "S"
+letter_of Calls = codes "M"
 letter_of MostEntries = codes "E"
 letter_of MostBytes = codes "B"
 letter_of Busy = codes "C"
@@ -31,7 +33,9 @@ most_of Depth = 4096
 most_of Processes = 32
 most_of Sharers = 32
 most_of Milliseconds = 60000
+most_of Seconds = 60000
 most_of Seed = 10000000
+most_of Calls = 1000000000
 most_of MostEntries = 1000000000
 most_of MostBytes = 1000000000
 most_of Busy = 32

@@ -99,7 +99,8 @@ pub fn pairs<L: Look<Guarded>, R: Wait + Clock>(
     Ok(())
 }
 
-fn calls<L: Look<Guarded>, R: Wait + Clock>(
+/// Sends and receives in turn, this number of calls in all.
+pub fn calls<L: Look<Guarded>, R: Wait + Clock>(
     rt: &R,
     mq: &Mq<L>,
     process: &mut Process<L>,

@@ -21,8 +21,16 @@ pub enum WorkFault {
     NoThread,
     /// The clock could not be read.
     NoClock,
+    /// The system does not report the memory of the program.
+    NoReport,
     /// A call failed, for another reason than memory.
     Refused(Fault),
+    /// The memory of the program grew by this number of kilobytes.
+    Grew { kilobytes: u64 },
+    /// A message was lost or came twice. This many were sent and received.
+    Lost { sent: u64, received: u64 },
+    /// A message came before an earlier one of its sender and priority.
+    Misordered,
 }
 
 /// What is wrong with a line.
@@ -64,6 +72,9 @@ impl BenchFault {
         match self {
             BenchFault::BadLine(_) => 2,
             BenchFault::Input | BenchFault::Output => 3,
+            BenchFault::Failed(
+                WorkFault::Grew { .. } | WorkFault::Lost { .. } | WorkFault::Misordered,
+            ) => 1,
             BenchFault::Failed(_) => 4,
         }
     }
@@ -77,9 +88,18 @@ impl fmt::Display for WorkFault {
             WorkFault::NoMemory => f.write_str("no memory"),
             WorkFault::NoThread => f.write_str("no thread"),
             WorkFault::NoClock => f.write_str("no clock"),
+            WorkFault::NoReport => f.write_str("no report of the memory"),
             WorkFault::Refused(refusal) => {
                 let name = refusal.name();
                 write!(f, "a call was refused: {name}")
+            }
+            WorkFault::Grew { kilobytes } => write!(f, "memory grew by {kilobytes} KB"),
+            WorkFault::Lost { sent, received } => write!(
+                f,
+                "messages were lost or came twice: {sent} sent, {received} received"
+            ),
+            WorkFault::Misordered => {
+                f.write_str("a message came before an earlier one of its sender and priority")
             }
         }
     }

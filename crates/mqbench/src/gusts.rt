@@ -274,8 +274,8 @@ fn start<L: Look<Guarded>, R: Wait + Clock>(
     }
 }
 
-// Polls until the open wait is answered, at most `MOST_LOOKS` times, and collects it.
-fn wait_a_while<L: Look<Guarded>, R: Wait + Clock>(rt: &R, mq: &Mq<L>, process: &mut Process<L>)
+/// Polls until the open wait is answered, at most `MOST_LOOKS` times, and collects it.
+pub fn wait_a_while<L: Look<Guarded>, R: Wait + Clock>(rt: &R, mq: &Mq<L>, process: &mut Process<L>)
     requires made { process.old.lock ≡ mq.now }
     ensures made { process.new.lock ≡ mq.now }
 {

@@ -30,10 +30,12 @@ usage: one line on the standard input, of a workload and its sizes
   crowd P N   P processes in P threads on one queue: half of them send N messages each, half receive N each
   idle P T    P processes in P threads: one works alone for T milliseconds, on a queue of its own, while the others are blocked in a receive
   storm S N   32 processes in 32 threads: N calls of every kind at random from the seed S, and their journal is replayed
+  memory M    one process: M calls, a send and a receive in turn, with the memory and the page faults after 10000, 1000000, 100000000 and all of them
+  soak T      8 processes in 8 threads: calls at random for T seconds; fails if memory grows by a megabyte after 100000 calls, or if a message is lost, comes twice, or too early
   bounded E B and one of these lines: the same in a system whose journal has at most E entries and B payload bytes, E and B up to 1000000000
   unstored and one of these lines, but for check and replay: the same in a system that stores no journal
   busy C and one of these lines: the same beside C threads that do nothing but count until it ends, C up to 32
-N, K and S from 1 to 10000000, D from 1 to 4096, D times N at most 10000000
+N, K and S from 1 to 10000000, M to 1000000000, D from 1 to 4096, D times N at most 10000000
 P from 2 to 32, from 1 for a replay, even for a crowd, P times N at most 10000000 there, T from 1 to 60000
 ";
 

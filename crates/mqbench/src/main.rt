@@ -5,20 +5,24 @@
 mod alone;
 mod busy;
 mod calls;
+mod carried;
 mod course;
 mod crowd;
 mod dice;
 mod fault;
+mod footprint;
 mod gusts;
 mod idle;
 mod line;
 mod made;
 mod measuring;
 mod members;
+mod memory;
 mod replays;
 mod report;
 mod run;
 mod size;
+mod soak;
 mod storm;
 mod tally;
 #[cfg(test)]
@@ -32,7 +36,7 @@ use run::run_line;
 use std::alloc::AllocError;
 use std::io::{ErrorKind, Input, Print, Write};
 use std::process::ExitCode;
-use std::rt::Env;
+use std::rt::{Env, Files};
 use std::sync::Wait;
 use std::thread::Threads;
 use std::time::{Clock, CpuClock};
@@ -55,7 +59,16 @@ fn main(rt: HostRuntime) -> ExitCode {
 // Measures the workload that the arguments name, or without arguments the one that a line on
 // standard input names.
 fn asked(
-    rt: &(impl Env + AllocGlobal + Input + Print + Threads + Wait + Clock + CpuClock + Sync),
+    rt: &(impl Env
+        + AllocGlobal
+        + Input
+        + Print
+        + Files
+        + Threads
+        + Wait
+        + Clock
+        + CpuClock
+        + Sync),
 ) -> Result<(), BenchFault> {
     let words: Vec<String> = match env::args(rt) {
         Ok(words) => words.collect(rt.alloc())?,

@@ -6,8 +6,10 @@ use crate::crowd::crowd;
 use crate::fault::WorkFault;
 use crate::idle::idle;
 use crate::members::Part;
+use crate::memory::memory;
 use crate::replays::{is_legal, journal_of};
 use crate::report::{Besides, Measured, replayed, result_of, stormed, timed};
+use crate::soak::soak;
 use crate::storm::{calls_in, storm};
 use crate::wide::wide;
 use crate::workload::{Conditions, Storage, Workload};
@@ -16,6 +18,7 @@ use mq::Guarded;
 use mq_checker::checker::check_history;
 use mq_model::faults::Fault;
 use std::alloc::Global;
+use std::rt::Files;
 use std::sync::Wait;
 use std::thread;
 use std::thread::Threads;
@@ -27,7 +30,7 @@ type Lamport = FastMutex<Guarded>;
 /// Carries out a workload over Lamport's lock under these conditions. If it has several processes,
 /// each runs in a thread of its own. Fails if memory, a thread or the clock was refused, or if a
 /// call failed.
-pub fn measure<S: Wait + Threads + Clock + CpuClock + Sync>(
+pub fn measure<S: Files + Wait + Threads + Clock + CpuClock + Sync>(
     rt: &S,
     alloc: Global,
     workload: Workload,
@@ -39,7 +42,7 @@ pub fn measure<S: Wait + Threads + Clock + CpuClock + Sync>(
 }
 
 // Carries out a workload beside threads that count. They have all ended when it returns.
-fn beside_busy<S: Wait + Threads + Clock + CpuClock + Sync>(
+fn beside_busy<S: Files + Wait + Threads + Clock + CpuClock + Sync>(
     rt: &S,
     alloc: Global,
     course: &Course,
@@ -62,7 +65,7 @@ fn beside_busy<S: Wait + Threads + Clock + CpuClock + Sync>(
 }
 
 // Carries out a workload in a system that stores this much of its journal.
-fn carry_out<S: Wait + Threads + Clock + CpuClock + Sync>(
+fn carry_out<S: Files + Wait + Threads + Clock + CpuClock + Sync>(
     rt: &S,
     alloc: Global,
     workload: Workload,
@@ -100,6 +103,8 @@ fn carry_out<S: Wait + Threads + Clock + CpuClock + Sync>(
             processes,
             milliseconds,
         } => of_idle(rt, alloc, storage, processes, milliseconds),
+        Workload::Memory { calls } => of_memory(rt, alloc, storage, calls),
+        Workload::Soak { seconds } => of_soak(rt, alloc, storage, seconds),
     }
 }
 
@@ -205,6 +210,39 @@ fn of_idle<S: Wait + Threads + Clock + CpuClock + Sync>(
         nanoseconds: worked.time.as_nanos(),
         besides: Besides::Processor {
             nanoseconds: worked.processor.as_nanos(),
+        },
+    })
+}
+
+fn of_memory<S: Files + Wait + Clock>(
+    rt: &S,
+    alloc: Global,
+    storage: Storage,
+    calls: u32,
+) -> Result<Measured, WorkFault> {
+    let (time, rows) = memory::<Lamport, S>(rt, alloc, storage, calls)?;
+    Ok(Measured {
+        operations: u64::from(calls),
+        nanoseconds: time.as_nanos(),
+        besides: Besides::Memory { rows },
+    })
+}
+
+fn of_soak<S: Files + Wait + Threads + Clock + Sync>(
+    rt: &S,
+    alloc: Global,
+    storage: Storage,
+    seconds: u32,
+) -> Result<Measured, WorkFault> {
+    let time = Duration::from_secs(u64::from(seconds));
+    let soaked = soak::<Lamport, S>(rt, alloc, storage, time)?;
+    Ok(Measured {
+        operations: soaked.calls,
+        nanoseconds: soaked.time.as_nanos(),
+        besides: Besides::Soak {
+            received: soaked.received,
+            settled: soaked.settled,
+            resident: soaked.resident,
         },
     })
 }

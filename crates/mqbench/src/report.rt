@@ -1,9 +1,12 @@
 //! The line with the result.
+use crate::footprint::Footprint;
+use crate::memory::{Row, Rows};
 use crate::tally::{Tally, tally_of, text_of};
 use crate::workload::Workload;
 use mq_model::entries::Call;
 use mq_model::journals::Journal;
 use std::alloc::{AllocError, Global};
+use std::fmt::Write;
 use std::time::Duration;
 
 /// The result of a run.
@@ -32,6 +35,17 @@ pub enum Besides {
     /// Whether the journal is legal.
     History {
         legal: bool,
+    },
+    /// What the program had taken of the memory after some of the calls.
+    Memory {
+        rows: Rows,
+    },
+    /// The messages that were received as they were sent, and the kilobytes of memory early and at
+    /// the end.
+    Soak {
+        received: u64,
+        settled: u64,
+        resident: u64,
     },
     /// The seed, the calls and errors in the journal, and whether it is legal.
     Storm {
@@ -140,12 +154,39 @@ fn besides_of(alloc: Global, m: Measured) -> Result<String, AllocError> {
             let history = history_of(legal);
             format!(in alloc; "; seed {seed}{counts}; {history}")
         }
+        Besides::Memory { rows } => rows_text(alloc, rows),
+        Besides::Soak {
+            received,
+            settled,
+            resident,
+        } => {
+            format!(in alloc;
+                "; {received} messages received once and in order; {settled} KB, at the end {resident} KB"
+            )
+        }
         Besides::Processor { nanoseconds } => {
             let processor = nanoseconds / MILLISECOND;
             let time = m.nanoseconds / MILLISECOND;
             format!(in alloc; "; {processor} ms of processor time in {time} ms")
         }
     }
+}
+
+// The rows with different numbers of calls.
+fn rows_text(alloc: Global, rows: Rows) -> Result<String, AllocError> {
+    let mut text = String::new(alloc);
+    let mut made = 0;
+    for Row { calls, footprint } in rows.0 {
+        let Footprint { resident, faults } = footprint;
+        if calls != made {
+            write!(
+                text,
+                "; {resident} KB and {faults} page faults after {calls}"
+            )?;
+            made = calls;
+        }
+    }
+    Ok(text)
 }
 
 // The words for whether a journal is legal.
@@ -180,5 +221,7 @@ pub fn title_of(workload: Workload) -> &'static str {
         Workload::Crowd { .. } => "crowd",
         Workload::Idle { .. } => "idle",
         Workload::Storm { .. } => "storm",
+        Workload::Memory { calls: _ } => "memory",
+        Workload::Soak { seconds: _ } => "soak",
     }
 }

@@ -16,6 +16,7 @@ use crate::report::{line_of, title_of};
 use crate::workload::Request;
 use std::alloc::Global;
 use std::io::{Read, Write};
+use std::rt::Files;
 use std::sync::Wait;
 use std::thread::Threads;
 use std::time::{Clock, CpuClock};
@@ -25,7 +26,7 @@ use text_io::output::write_all;
 /// result, or the usage if the input is empty. Fails with `BenchFault::BadLine` if the line is
 /// wrong, with `BenchFault::Input` or `BenchFault::Output` if a read or a write failed, and with
 /// other errors if the workload could not be carried out.
-pub fn run_line<S: Wait + Threads + Clock + CpuClock + Sync, R: Read, W: Write>(
+pub fn run_line<S: Files + Wait + Threads + Clock + CpuClock + Sync, R: Read, W: Write>(
     rt: &S,
     alloc: Global,
     input: &mut R,

@@ -21,8 +21,12 @@ pub enum Size {
     Sharers,
     /// The time of a workload.
     Milliseconds,
+    /// The time of a soak.
+    Seconds,
     /// The seed of a storm's pseudorandom calls.
     Seed,
+    /// The calls of a workload.
+    Calls,
     /// The entries of a bounded journal.
     MostEntries,
     /// The payload bytes of a bounded journal.
@@ -41,8 +45,9 @@ impl Size {
             Size::Entries => "K",
             Size::Depth => "D",
             Size::Processes | Size::Sharers => "P",
-            Size::Milliseconds => "T",
+            Size::Milliseconds | Size::Seconds => "T",
             Size::Seed => "S",
+            Size::Calls => "M",
             Size::MostEntries => "E",
             Size::MostBytes => "B",
             Size::Busy => "C",
@@ -67,8 +72,8 @@ impl Size {
             Size::Rounds | Size::Entries | Size::Seed => 10_000_000,
             Size::Depth => limits::MESSAGES as u32,
             Size::Processes | Size::Sharers => limits::PROCESSES,
-            Size::Milliseconds => 60_000,
-            Size::MostEntries | Size::MostBytes => 1_000_000_000,
+            Size::Milliseconds | Size::Seconds => 60_000,
+            Size::Calls | Size::MostEntries | Size::MostBytes => 1_000_000_000,
             Size::Busy => 32,
         }
     }

@@ -4,11 +4,12 @@ use crate::run::run_line;
 use crate::size::Size;
 use mq_model::faults::Fault;
 use std::alloc::Global;
+use std::rt::Files;
 use std::sync::Wait;
 use std::thread::Threads;
 use std::time::{Clock, CpuClock};
 
-fn output_of<S: Wait + Threads + Clock + CpuClock + Sync>(
+fn output_of<S: Files + Wait + Threads + Clock + CpuClock + Sync>(
     rt: &S,
     alloc: Global,
     line: &str,
@@ -20,7 +21,7 @@ fn output_of<S: Wait + Threads + Clock + CpuClock + Sync>(
 }
 
 // Lines, and the start of their results.
-static RESULTS: [(&str, &str); 20] = [
+static RESULTS: [(&str, &str); 22] = [
     ("pair 3\n", "pair: 6 operations, "),
     (" deep  4 2 \n", "deep: 16 operations, "),
     ("deep 1 002", "deep: 4 operations, "),
@@ -41,6 +42,8 @@ static RESULTS: [(&str, &str); 20] = [
     ("busy 1 unstored crowd 4 20\n", "crowd: 80 operations, "),
     ("unstored pingpong 20\n", "pingpong: 80 operations, "),
     ("unstored storm 7 640\n", "storm: 672 operations, "),
+    ("memory 3\n", "memory: 3 operations, "),
+    ("unstored memory 20000\n", "memory: 20000 operations, "),
 ];
 
 #[test]
@@ -87,6 +90,58 @@ fn a_storm_prints_its_seed_its_counts_and_its_history(rt: HostRuntime) {
 }
 
 #[test]
+fn memory_is_told_after_some_calls_and_after_all(rt: HostRuntime) {
+    let output = output_of(&rt, rt.alloc(), "unstored memory 20000\n").expect(&rt, "a result");
+    for part in [" page faults after 10000; ", " page faults after 20000\n"] {
+        let part = part.as_bytes();
+        assert!(rt; output.windows(part.len()).any(|found| found == part));
+    }
+}
+
+#[test]
+fn a_soak_says_that_all_messages_came_once_and_in_order(rt: HostRuntime) {
+    for line in ["soak 1\n", "busy 1 unstored soak 1\n"] {
+        let output = output_of(&rt, rt.alloc(), line).expect(&rt, "a result");
+        assert!(rt; output.as_slice().starts_with(b"soak: "), "{line}");
+        let part = b" messages received once and in order; ".as_slice();
+        assert!(rt;
+            output.windows(part.len()).any(|found| found == part),
+            "{line}"
+        );
+        assert!(rt; output.as_slice().ends_with(b" KB\n"), "{line}");
+    }
+}
+
+// What a soak finds, with the line and the status that the program ends with.
+static FINDINGS: [(WorkFault, &str); 3] = [
+    (
+        WorkFault::Grew { kilobytes: 1_025 },
+        "memory grew by 1025 KB",
+    ),
+    (
+        WorkFault::Lost {
+            sent: 3,
+            received: 2,
+        },
+        "messages were lost or came twice: 3 sent, 2 received",
+    ),
+    (
+        WorkFault::Misordered,
+        "a message came before an earlier one of its sender and priority",
+    ),
+];
+
+#[test]
+fn what_a_soak_finds_has_a_status_of_its_own(rt: HostRuntime) {
+    for (finding, message) in FINDINGS {
+        let fault = BenchFault::Failed(finding);
+        let text = format!(in rt.alloc(); "{fault}").expect(&rt, "memory");
+        assert_eq!(rt; text.as_str(), message);
+        assert_eq!(rt; fault.status(), 1);
+    }
+}
+
+#[test]
 fn a_replay_prints_its_history(rt: HostRuntime) {
     for line in ["replay 5\n", "replay 300 32\n"] {
         let output = output_of(&rt, rt.alloc(), line).expect(&rt, "a result");
@@ -127,7 +182,7 @@ static UNNAMED: [&str; 25] = [
 ];
 
 // Lines with a size that is not a number or is out of range.
-static OUT_OF_RANGE: [(&str, Size); 21] = [
+static OUT_OF_RANGE: [(&str, Size); 25] = [
     ("pair 0\n", Size::Rounds),
     ("pair 10000001\n", Size::Rounds),
     ("pair 1x\n", Size::Rounds),
@@ -145,6 +200,10 @@ static OUT_OF_RANGE: [(&str, Size); 21] = [
     ("idle 2 60001\n", Size::Milliseconds),
     ("storm 0 1\n", Size::Seed),
     ("storm 1 10000001\n", Size::Rounds),
+    ("soak 0\n", Size::Seconds),
+    ("soak 60001\n", Size::Seconds),
+    ("memory 0\n", Size::Calls),
+    ("memory 1000000001\n", Size::Calls),
     ("bounded 0 1 pair 1\n", Size::MostEntries),
     ("bounded 1 1000000001 pair 1\n", Size::MostBytes),
     ("busy 0 pair 1\n", Size::Busy),

@@ -1,6 +1,6 @@
 //! What a line asks for, and the words for it.
-ghost use Rattle.std.specs.Prelude.{◌≡◌, ◌≤◌, ◌*◌, map};
-ghost use Rattle.mqbench.specs.Grammar.{request_written, busy_written, measured_written, bounded_written, unstored_written, reads_journal, is_stored, workload_written, size_alone, deep_written, replay_written, crowd_written, idle_written, storm_written, name_written, named};
+ghost use Rattle.std.specs.Prelude.{◌≡◌, ◌≤◌, ◌*◌, ◌∷◌, [], map};
+ghost use Rattle.mqbench.specs.Grammar.{request_written, busy_written, measured_written, bounded_written, unstored_written, reads_journal, is_stored, usual_storage, workload_written, size_alone, deep_written, replay_written, crowd_written, idle_written, storm_written, name_written, named};
 
 use crate::fault::LineFault;
 use crate::size::Size;
@@ -33,6 +33,12 @@ pub enum Workload {
     /// 32 processes make about this number of calls of every kind, pseudorandom from a seed, with
     /// one thread for each process.
     Storm { seed: u32, calls: u32 },
+    /// One process makes this number of calls, a send and a receive in turn, while the memory of
+    /// the program is observed.
+    Memory { calls: u32 },
+    /// 8 processes make calls at random for this number of seconds, with one thread for each
+    /// process, while the memory of the program must not grow.
+    Soak { seconds: u32 },
 }
 
 impl Workload {
@@ -43,6 +49,16 @@ impl Workload {
         match self {
             Workload::Check { .. } | Workload::Replay { .. } => true,
             _ => false,
+        }
+    }
+
+    /// What is stored of the journal if the line does not say it.
+    pub fn usual_storage(self) -> Storage
+        ensures { result ≡ usual_storage self }
+    {
+        match self {
+            Workload::Soak { .. } => Storage::Unstored,
+            _ => Storage::Whole,
         }
     }
 }
@@ -99,12 +115,14 @@ pub enum Name {
     Crowd,
     Idle,
     Storm,
+    Memory,
+    Soak,
 }
 
 /// The maximum number of messages in all rounds.
 const MOST_MESSAGES: u64 = 10_000_000;
 
-const NAMES: [Name; 10] = [
+const NAMES: [Name; 12] = [
     Name::Pair,
     Name::Deep,
     Name::Wide,
@@ -115,6 +133,8 @@ const NAMES: [Name; 10] = [
     Name::Crowd,
     Name::Idle,
     Name::Storm,
+    Name::Memory,
+    Name::Soak,
 ];
 
 impl Name {
@@ -135,6 +155,8 @@ impl Name {
             Name::Crowd => b"crowd",
             Name::Idle => b"idle",
             Name::Storm => b"storm",
+            Name::Memory => b"memory",
+            Name::Soak => b"soak",
         }
     }
 }
@@ -177,7 +199,7 @@ fn measured_of(busy: u32, words: &[&[u8]]) -> Result<Request, LineFault>
                 return unstored_of(busy, arguments);
             }
             let workload = workload_of(name_of(word)?, arguments)?;
-            let storage = Storage::Whole;
+            let storage = workload.usual_storage();
             Ok(Request::Measure(workload, Conditions { storage, busy }))
         }
     }
@@ -250,6 +272,12 @@ fn workload_of(name: Name, arguments: &[&[u8]]) -> Result<Workload, LineFault>
         Name::Crowd => crowd_of(arguments),
         Name::Idle => idle_of(arguments),
         Name::Storm => storm_of(arguments),
+        Name::Memory => Ok(Workload::Memory {
+            calls: size_alone(Size::Calls, arguments)?,
+        }),
+        Name::Soak => Ok(Workload::Soak {
+            seconds: size_alone(Size::Seconds, arguments)?,
+        }),
     }
 }
 
@@ -287,48 +315,60 @@ fn replay_of(arguments: &[&[u8]]) -> Result<Workload, LineFault>
             entries: Size::Entries.read(entries)?,
             processes: 1,
         }),
-        [entries, processes] => {
-            let entries = Size::Entries.read(entries)?;
-            let processes = Size::Processes.read(processes)?;
-            Ok(Workload::Replay { entries, processes })
-        }
+        [entries, processes] => replay_by(entries, processes),
         _ => Err(LineFault::NoWorkload),
     }
+}
+
+fn replay_by(entries: &[u8], processes: &[u8]) -> Result<Workload, LineFault>
+    ensures { result ≡ replay_written (entries.now ∷ processes.now ∷ []) }
+{
+    let entries = Size::Entries.read(entries)?;
+    let processes = Size::Processes.read(processes)?;
+    Ok(Workload::Replay { entries, processes })
 }
 
 fn crowd_of(arguments: &[&[u8]]) -> Result<Workload, LineFault>
     ensures { result ≡ crowd_written (map (λ word. word.now) arguments.now) }
 {
     match arguments {
-        [processes, rounds] => {
-            let processes = Size::Sharers.read(processes)?;
-            let rounds = Size::Rounds.read(rounds)?;
-            if processes % 2 != 0 {
-                return Err(LineFault::OddCrowd);
-            }
-            if u64::from(processes) * u64::from(rounds) > MOST_MESSAGES {
-                return Err(LineFault::CrowdMessages);
-            }
-            Ok(Workload::Crowd { processes, rounds })
-        }
+        [processes, rounds] => crowd_by(processes, rounds),
         _ => Err(LineFault::NoWorkload),
     }
+}
+
+fn crowd_by(processes: &[u8], rounds: &[u8]) -> Result<Workload, LineFault>
+    ensures { result ≡ crowd_written (processes.now ∷ rounds.now ∷ []) }
+{
+    let processes = Size::Sharers.read(processes)?;
+    let rounds = Size::Rounds.read(rounds)?;
+    if processes % 2 != 0 {
+        return Err(LineFault::OddCrowd);
+    }
+    if u64::from(processes) * u64::from(rounds) > MOST_MESSAGES {
+        return Err(LineFault::CrowdMessages);
+    }
+    Ok(Workload::Crowd { processes, rounds })
 }
 
 fn idle_of(arguments: &[&[u8]]) -> Result<Workload, LineFault>
     ensures { result ≡ idle_written (map (λ word. word.now) arguments.now) }
 {
     match arguments {
-        [processes, milliseconds] => {
-            let processes = Size::Sharers.read(processes)?;
-            let milliseconds = Size::Milliseconds.read(milliseconds)?;
-            Ok(Workload::Idle {
-                processes,
-                milliseconds,
-            })
-        }
+        [processes, milliseconds] => idle_by(processes, milliseconds),
         _ => Err(LineFault::NoWorkload),
     }
+}
+
+fn idle_by(processes: &[u8], milliseconds: &[u8]) -> Result<Workload, LineFault>
+    ensures { result ≡ idle_written (processes.now ∷ milliseconds.now ∷ []) }
+{
+    let processes = Size::Sharers.read(processes)?;
+    let milliseconds = Size::Milliseconds.read(milliseconds)?;
+    Ok(Workload::Idle {
+        processes,
+        milliseconds,
+    })
 }
 
 fn storm_of(arguments: &[&[u8]]) -> Result<Workload, LineFault>
