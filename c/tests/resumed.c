@@ -329,14 +329,14 @@ static int64_t nanos_of(resumes *by, journal from)
 {
     struct timespec before, after;
     uint64_t line = 77;
-    clock_gettime(CLOCK_MONOTONIC, &before);
+    clock_gettime(CLOCK_THREAD_CPUTIME_ID, &before);
     WANT(resume(by, from, PROCESSES, &line) == YAK_DONE);
-    clock_gettime(CLOCK_MONOTONIC, &after);
+    clock_gettime(CLOCK_THREAD_CPUTIME_ID, &after);
     finish();
     return (after.tv_sec - before.tv_sec) * 1000000000 + after.tv_nsec - before.tv_nsec;
 }
 
-/* The minimum of some rounds, because the machine may be busy. */
+/* The minimum of some rounds, in time of the processor, because the machine may be busy. */
 static bool is_quick(resumes *by, journal from, bool tells)
 {
     int64_t least = INT64_MAX;
