@@ -12,8 +12,8 @@ use Rattle.mq_model.specs.declared.entries.Call.{Call}
 use Rattle.mq_model.specs.declared.entries.Call.TheVariants.{Collect, Withdraw}
 use Rattle.mq_model.specs.declared.entries.Deadline.{Deadline}
 use Rattle.mq_state.specs.Trails.{can_call, record_of_call, with_call}
-use Rattle.orders.specs.Programs.{ends_wait, made}
-use Rattle.orders.proofs.Ordering.{legal-of}
+use Rattle.histories.specs.OwnCalls.{ends_wait, made}
+use Rattle.mq_state.proofs.Trails.{legal-of}
 use Rattle.mq_equivalence.specs.Key.{key_of}
 use Rattle.mq_equivalence.proofs.Calls.{can-alike}
 use Rattle.mq_equivalence.specs.Equivalence.{Equivalent}

@@ -11,8 +11,8 @@ use Rattle.mq_model.specs.declared.entries.Call.{Call}
 use Rattle.mq_model.specs.declared.entries.Call.TheVariants.{Collect, Withdraw}
 use Rattle.mq_model.specs.declared.entries.Reply.{Reply}
 use Rattle.mq_model.proofs.Places.{split}
-use Rattle.orders.specs.Programs.{ends_wait, made}
-use Rattle.orders.proofs.Ordering.{turn-of-own, some-of-none}
+use Rattle.histories.specs.OwnCalls.{ends_wait, made}
+use Rattle.histories.proofs.OwnCalls.{turn-of-own, some-of-none}
 use Rattle.histories.specs.declared.operation.Operation.{Operation}
 use Rattle.histories.specs.Histories.{Histories, completed, current_of, ended_before, none_ended}
 use Rattle.histories.specs.Linearizations.{ComesFrom, IsLinearization}

@@ -3,7 +3,7 @@ use Rattle.std.specs.Prelude.{◌≡◌, ◌<◌, ℕ, zero, suc, ◌+◌, List,
 use Rattle.mq_model.specs.Record.{Past}
 use Rattle.mq_equivalence.specs.Key.{key_of}
 use Rattle.mq_equivalence.specs.Equivalence.{Equivalent}
-use Rattle.orders.specs.Programs.{made}
+use Rattle.histories.specs.OwnCalls.{made}
 use Rattle.histories.specs.Stage.{Stage, with_past}
 
 -- each of the first n processes has begun the same number of operations

@@ -23,3 +23,4 @@ pub mod Pooling
 pub mod Wholes
 pub mod Replaying
 pub mod Stopping
+pub mod Trails

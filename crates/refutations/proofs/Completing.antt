@@ -16,8 +16,8 @@ use Rattle.mq_model.specs.declared.entries.Call.TheVariants.{MqOpen, MqClose, Mq
 use Rattle.mq_model.specs.declared.entries.Reply.{Reply}
 use Rattle.mq_model.specs.declared.entries.Reply.TheVariants as reply
 use Rattle.mq_laws.proofs.SentMessages.{is_sent}
-use Rattle.orders.specs.Programs.{ends_wait, made}
-use Rattle.orders.proofs.Ordering.{turn-of-own, some-of-none}
+use Rattle.histories.specs.OwnCalls.{ends_wait, made}
+use Rattle.histories.proofs.OwnCalls.{turn-of-own, some-of-none}
 use Rattle.histories.specs.declared.operation.Operation.{Operation}
 use Rattle.histories.specs.declared.operation.Outcome.{Outcome}
 use Rattle.histories.specs.declared.operation.Outcome.TheVariants.{Pending, Done, Opened, Got, Attributes, Notice, Refused}

@@ -9,7 +9,7 @@ use Rattle.mq_model.specs.Legality.{Legal}
 use Rattle.mq_model.proofs.Places.{split}
 use Rattle.histories.specs.declared.operation.Operation.{Operation}
 use Rattle.histories.specs.Histories.{Histories, are_through, completed, current_of, is_complete, is_pending, is_through}
-use Rattle.orders.specs.Programs.{made}
+use Rattle.histories.specs.OwnCalls.{made}
 use Rattle.histories.specs.Linearizations.{IsLinearization}
 use Rattle.refutations.specs.Excess.{HasNoOrder, IsExcess, receives, returned, sends, times_received, times_sent}
 use Rattle.refutations.specs.declared.excess.Excess.{Excess}

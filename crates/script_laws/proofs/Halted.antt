@@ -7,6 +7,7 @@ use Rattle.std.proofs.lemmas.List.{length-map}
 use Rattle.std.proofs.lemmas.Option.{slice_get_within}
 use Rattle.fast_mutex.specs.Items.{Ticket}
 use Rattle.mq.specs.Blocked.{is_blocked}
+use Rattle.std.proofs.lemmas.Bool.{and_parts}
 use Rattle.mq_model.proofs.Places.{split}
 use Rattle.mq_model.specs.Legality.{is_payload, payload_of, reply_to}
 use Rattle.mq_model.specs.Limits.{most_processes}
@@ -14,7 +15,6 @@ use Rattle.mq_model.specs.Record.{Past, Record}
 use Rattle.mq_model.specs.Waits.{is_answered, open_wait}
 use Rattle.mq_model.specs.declared.entries.Call.TheVariants.{Collect}
 use Rattle.mq_state.specs.Trails.{with_call}
-use Rattle.orders.proofs.Ordering.{and-parts}
 use Rattle.schedules.specs.Observed.{Observed}
 use Rattle.script_orders.specs.Progress.{Progress}
 use Rattle.script_orders.specs.Said.{said}
@@ -51,7 +51,7 @@ third-false false b c d is = refl
 -- a blocked process waits and has no answer
 parts : (past : Past) (p : ℕ) → is_blocked past p ≡ true → (is_some (open_wait past p) ≡ true) × (is_answered past p ≡ false)
 parts past p blocked =
-    let both = and-parts (is_some (open_wait past p)) (not (is_answered past p)) blocked in (
+    let both = and_parts (is_some (open_wait past p)) (not (is_answered past p)) blocked in (
       both.0,
       split (is_answered past p)
           (λ yes. let bad : not true ≡ true = rw yes at both.1 in absurd (cc))

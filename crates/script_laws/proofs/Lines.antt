@@ -11,7 +11,7 @@ use Rattle.mq_model.specs.declared.entries.Call.{Call}
 use Rattle.mq_model.specs.declared.entries.Call.TheVariants.{Collect}
 use Rattle.mq_model.specs.declared.entries.Reply.{Reply}
 use Rattle.mq_state.specs.Trails.{with_call}
-use Rattle.orders.proofs.Ordering.{call-of-legal, reply-by-payload}
+use Rattle.mq_state.proofs.Trails.{call-of-legal, reply-by-payload}
 use Rattle.script_orders.specs.Plans.{Plan, given_by, plan, plan_of, step_by}
 use Rattle.script_orders.specs.Progress.{Progress}
 use Rattle.script_orders.specs.Said.{said}

@@ -6,8 +6,8 @@ use Rattle.std.proofs.lemmas.List.Elements.{All-head}
 use Rattle.std.proofs.lemmas.List.Folds.{list_all-append}
 use Rattle.fast_mutex.specs.Items.{Ticket, tickets_from}
 use Rattle.mq.specs.Blocked.{is_blocked}
+use Rattle.std.proofs.lemmas.Bool.{and_parts}
 use Rattle.mq_model.specs.Record.{Past, Record}
-use Rattle.orders.proofs.Ordering.{and-parts}
 use Rattle.schedules.specs.Outcomes.{AreAll, is_among}
 use Rattle.schedules.specs.Observed.{Observed}
 use Rattle.schedules.specs.declared.outcomes.Witnessed.{Witnessed}
@@ -64,7 +64,7 @@ one-rests None phase calls phases n p past to program seat old new process compl
     let one = one-runs phase calls phases n p past to program seat old new process completions sits ends same ample found before after in
     record { end = end_of p calls seat completions; moves = one.moves; rests = one.through }
 one-rests (Some line) phase calls phases n p past to program seat old new process completions sits ends ample same found before after blocked =
-    let here : is_blocked to p ≡ true = ap (λ (k : ℕ). is_blocked to k) (sym (same.number ∙ sits.number)) ∙ (and-parts (is_blocked to new.number) true blocked).0 in
+    let here : is_blocked to p ≡ true = ap (λ (k : ℕ). is_blocked to k) (sym (same.number ∙ sits.number)) ∙ (and_parts (is_blocked to new.number) true blocked).0 in
     let one = one-halts phase calls phases n p line past to program seat old new process sits ends ample found before after here in
     record { end = one.end; moves = one.moves; rests = one.halts }
 
@@ -102,7 +102,7 @@ all-rest phase calls phases n p past to programs seats (old ∷ before) (w ∷ w
     let program : Vec Planned Global = sit.0 in
     let seat : Progress = sit.2 in
     let mine : List ℕ = process_in w.blocked w.process.number in
-    let parts = and-parts (list_all (is_blocked to) mine) (list_all (is_blocked to) (blocked_processes worked)) (sym (list_all-append (is_blocked to) mine (blocked_processes worked)) ∙ blocked) in
+    let parts = and_parts (list_all (is_blocked to) mine) (list_all (is_blocked to) (blocked_processes worked)) (sym (list_all-append (is_blocked to) mine (blocked_processes worked)) ∙ blocked) in
     let one = one-rests w.blocked phase calls phases n p past to program seat old w.process t w.completions.items sit.6 each.0.ends ample.0 each.0.same met.0 left.0 now.0 parts.0 in
     let rest = all-rest phase calls phases n (suc p) past to sit.1 sit.3 before worked after each.1 ample.1 sit.7 met.1 left.1 now.1 parts.1 in
     let first : Runner = record { program = program; seat = seat; end = one.end; moves = one.moves } in

@@ -11,14 +11,14 @@ use Rattle.mq_model.specs.Record.{Past, Process}
 use Rattle.mq_model.specs.Waits.{is_wait, open_wait}
 use Rattle.mq_model.specs.Descriptors.{held}
 use Rattle.mq_model.specs.ErrorOrder.{close_reply}
-use Rattle.mq_model.specs.Legality.{IsLegalNext, Legal, may_call, payload_of, reply_to}
+use Rattle.mq_model.specs.Legality.{Legal, may_call, reply_to}
 use Rattle.mq_model.specs.declared.entries.Call.{Call}
-use Rattle.mq_model.specs.declared.entries.Call.TheVariants.{MqOpen, MqClose, MqUnlink, MqSend, MqReceive, MqTimedSend, MqTimedReceive, MqGetattr, MqSetattr, MqNotify, NextNotice, Collect, Withdraw}
+use Rattle.mq_model.specs.declared.entries.Call.TheVariants.{MqClose, Collect}
 use Rattle.mq_model.specs.declared.entries.Description.{Description}
-use Rattle.mq_model.specs.declared.entries.Reply.{Reply}
 use Rattle.script_text.specs.Replies.{reply_line}
 use Rattle.script_text.specs.declared.reply.Outcome.TheVariants as outcomes
 use Rattle.mq_state.specs.Trails.{with_call, can_call, record_of_call}
+use Rattle.mq_state.proofs.Trails.{can-of, legal-of}
 use Rattle.schedules.specs.Schedules.{after}
 use Rattle.script_orders.specs.Progress.{Progress}
 use Rattle.script_orders.specs.Said.{said}
@@ -31,45 +31,7 @@ use Rattle.script_orders.specs.declared.plan.Planned.{Planned}
 use Rattle.script_orders.specs.declared.plan.Step.{Step}
 use Rattle.script_orders.specs.declared.plan.Step.TheVariants as steps
 
-pub and-parts : (a b : Bool) → (a && b) ≡ true → (a ≡ true) × (b ≡ true)
-and-parts true true h = (refl, refl)
-and-parts true false h = cc
-and-parts false true h = cc
-and-parts false false h = cc
-
 -- a call ----------------------------------------------------------------------------------------------------------------
-
--- the value of with_call, if there is one
-can-of : (past new : Past) (p : Process) (call : Call) (given : List ℕ) → with_call past p call given ≡ Some new → (can_call past p call given ≡ true) × (new ≡ record_of_call past p call given ∷ past)
-can-of past new p call given step =
-    let goes : (b : Bool) → can_call past p call given ≡ b → (if b then Some (record_of_call past p call given ∷ past) else None) ≡ Some new → (can_call past p call given ≡ true) × (new ≡ record_of_call past p call given ∷ past) =
-    λ (b : Bool). elim b as (λ b. can_call past p call given ≡ b → (if b then Some (record_of_call past p call given ∷ past) else None) ≡ Some new → (can_call past p call given ≡ true) × (new ≡ record_of_call past p call given ∷ past))
-    [ true ↦ (λ e h. (e, cc)) | false ↦ (λ e h. cc) ]
-    in
-    goes (can_call past p call given) refl step
-
--- the name of an open or an unlink is the payload, and other calls have none
-reply-by-payload : (past : Past) (p : Process) (call : Call) (reply : Reply) (given : List ℕ) → reply_to past p call (payload_of call reply given) ≡ reply_to past p call given
-reply-by-payload past p (MqOpen flags attr) reply given = refl
-reply-by-payload past p MqUnlink reply given = refl
-reply-by-payload past p (MqClose d) reply given = refl
-reply-by-payload past p (MqSend d prio len) reply given = refl
-reply-by-payload past p (MqReceive d room) reply given = refl
-reply-by-payload past p (MqTimedSend d prio len until now) reply given = refl
-reply-by-payload past p (MqTimedReceive d room until now) reply given = refl
-reply-by-payload past p (MqGetattr d) reply given = refl
-reply-by-payload past p (MqSetattr d nonblock) reply given = refl
-reply-by-payload past p (MqNotify d value) reply given = refl
-reply-by-payload past p NextNotice reply given = refl
-reply-by-payload past p Collect reply given = refl
-reply-by-payload past p (Withdraw now) reply given = refl
-
--- a call that can be made leaves a legal record
-pub legal-of : (past : Past) (p : Process) (call : Call) (given : List ℕ) → can_call past p call given ≡ true → IsLegalNext past (record_of_call past p call given)
-legal-of past p call given can =
-    let one = and-parts _ _ can in
-    let two = and-parts _ _ one.0 in
-    record { process = two.0; turn = two.1; payload = one.1; reply = sym (reply-by-payload past p call (reply_to past p call given) given) }
 
 call-legal : (past new : Past) (p : Process) (call : Call) (given : List ℕ) → Legal past → with_call past p call given ≡ Some new → Legal new
 call-legal past new p call given legal step =

@@ -3,6 +3,7 @@ use Rattle.std.proofs.Common.{◌≡◌, ℕ, zero, suc, ◌+◌, ◌≤◌, ◌
 use Rattle.std.specs.Option.{option_and_then, option_map}
 use Rattle.std.specs.declared.alloc.Global.{Global}
 use Rattle.std.proofs.lemmas.Option.{slice_get_within}
+use Rattle.std.proofs.lemmas.Bool.{and_parts}
 use Rattle.mq_model.specs.Legality.{Legal}
 use Rattle.mq_model.specs.Record.{Past, Process}
 use Rattle.mq_model.specs.Waits.{open_wait}
@@ -23,6 +24,7 @@ use Rattle.schedules.specs.Likeness.{AreBothAlike}
 use Rattle.schedules.specs.Schedules.{IsReached, after}
 use Rattle.schedules.specs.Observed.{Observed}
 use Rattle.schedules.proofs.Covering.{reach-start}
+use Rattle.mq_state.proofs.Trails.{legal-of}
 use Rattle.script_orders.specs.Progress.{Progress}
 use Rattle.script_orders.specs.Said.{said}
 use Rattle.script_orders.specs.Scenes.{Scene, after_call, after_step, close_first, close_held, is_held}
@@ -33,7 +35,7 @@ use Rattle.script_orders.specs.Likeness.{AreStagesAlike, IsStageKey, seat_code, 
 use Rattle.script_orders.specs.declared.plan.Planned.{Planned}
 use Rattle.script_orders.specs.declared.plan.Step.{Step}
 use Rattle.script_orders.specs.declared.plan.Step.TheVariants as steps
-use Rattle.script_orders.proofs.Legality.{Free, all-free, and-parts, are-legal, close-can, legal-of, none-of}
+use Rattle.script_orders.proofs.Legality.{Free, all-free, are-legal, close-can, none-of}
 use Rattle.script_orders.proofs.Printing.{call-said, shape-same}
 
 -- a call ------------------------------------------------------------------------------------------------------------------
@@ -43,7 +45,7 @@ record ScenesAlike (a b : Scene) : Type 0 where
   past : Equivalent a.past b.past
 
 may-of : (past : Past) (p : Process) (call : Call) (given : List ℕ) → can_call past p call given ≡ true → may_call past p call ≡ true
-may-of past p call given can = let one = and-parts _ _ can in let two = and-parts _ _ one.0 in two.1
+may-of past p call given can = let one = and_parts _ _ can in let two = and_parts _ _ one.0 in two.1
 
 call-alike : (x y : Past) (text : List ℕ) (p : Process) (call : Call) (given : List ℕ) → Equivalent x y →
     AreBothAlike ScenesAlike (after_call (record { past = x; text = text }) p call given) (after_call (record { past = y; text = text }) p call given)

@@ -4,7 +4,7 @@ use Rattle.std.specs.Prelude.{filter, ◌||◌}
 use Rattle.std.specs.Option.{option_and_then, option_map}
 use Rattle.std.specs.declared.alloc.Global.{Global}
 use Rattle.std.specs.Cmp.Derive.{both_true}
-use Rattle.std.proofs.lemmas.Bool.{eq-eqb, eqb-true}
+use Rattle.std.proofs.lemmas.Bool.{and_parts, eq-eqb, eqb-true}
 use Rattle.std.proofs.lemmas.Bool.Decides.{nat_tests}
 use Rattle.std.proofs.lemmas.List.{length-map}
 use Rattle.std.proofs.lemmas.Option.{slice_get_within, slice_get-map}
@@ -33,7 +33,6 @@ use Rattle.script_orders.specs.declared.plan.Planned.{Planned}
 use Rattle.script_orders.specs.declared.plan.Step.{Step}
 use Rattle.script_orders.specs.declared.plan.Step.TheVariants as steps
 use Rattle.script_orders.proofs.Counting.{none_can_turn-false}
-use Rattle.script_orders.proofs.Legality.{and-parts}
 use Rattle.script_orders.proofs.Turning.{turn_of-is}
 
 -- the lines of a script can be made ---------------------------------------------------------------------------------------
@@ -338,8 +337,8 @@ not-true false h = refl
 
 after-phase-holds : (x y : Stage) (b : Bool) → (nat_lt (x.phase + 1) x.phases && (stands_still x && not (waits x))) ≡ b → Holds x → (if b then Some (in_next_phase x) else None) ≡ Some y → Holds y
 after-phase-holds x y true e holds h =
-    let both = and-parts (nat_lt (x.phase + 1) x.phases) (stands_still x && not (waits x)) e in
-    let parts = and-parts (stands_still x) (not (waits x)) both.1 in
+    let both = and_parts (nat_lt (x.phase + 1) x.phases) (stands_still x && not (waits x)) e in
+    let parts = and_parts (stands_still x) (not (waits x)) both.1 in
     let same : in_next_phase x ≡ y = cc in
     subst (λ (s : Stage). Holds s) same (phase-holds x holds parts.0 (not-true (waits x) parts.1))
 after-phase-holds x y false e holds h = cc

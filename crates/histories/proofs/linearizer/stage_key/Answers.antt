@@ -1,7 +1,7 @@
 use Rattle.std.proofs.Common.{◌≡◌, ◌≤◌, ◌<◌, ◌+◌, ℕ, zero, suc, List, [], ◌∷◌, ◌++◌, length, take, get_or, append_assoc, refl, ap, sym, ◌∙◌, arith}
 use Rattle.std.proofs.Math.Seq.{take-length, take-suc}
 use Rattle.mq_model.specs.Record.{Past}
-use Rattle.orders.specs.Programs.{made}
+use Rattle.histories.specs.OwnCalls.{made}
 use Rattle.mq_equivalence.specs.Key.{key_of}
 use Rattle.histories.specs.Likeness.{counts_then}
 use Rattle.histories.proofs.linearizer.stage_key.Goals as goal
