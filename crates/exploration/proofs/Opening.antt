@@ -42,16 +42,6 @@ power-step m s i n few within =
     let p : suc m ^ (s - i) * suc n ≤ suc m ^ (s - i) * suc m = mul-le-mul_left (suc m ^ (s - i)) h in
     grind (arith, p))
 
--- a node whose choices are possible, and which opens what a step showed
-pub opens-node : (could : List Choice → Choice → Bool) (prefix : List Choice) (step : Step) (steps : List Step) (node : Node) →
-    Possible could prefix → Shows could prefix (step ∷ steps) → node.prefix.items ≡ prefix →
-    All (λ choice. can_choose step.parked.items choice ≡ true) node.open.items → IsOpen could node
-opens-node could prefix step steps node leads shows at others = record {
-  leads = rw at leads;
-  goes_on = rw at (All-weaker (λ choice. can_choose step.parked.items choice ≡ true) (λ choice. could prefix choice ≡ true)
-      (λ choice h. shows.0 choice h) node.open.items others);
-}
-
 -- the runs that are left with one node more
 pub left-node : (m s : ℕ) (nodes : List Node) (node : Node) (prefix : List Choice) → node.prefix.items ≡ prefix →
     length node.open.items ≤ m → length prefix ≤ s →

@@ -14,7 +14,6 @@ use Rattle.journal_format.specs.Text.{can_go_on, has_feed, is_text_byte, journal
 use Rattle.journal_format.specs.declared.lines.TheConstants.{CHUNK, MOST_BYTES, MOST_LINE}
 use Rattle.journal_format.specs.declared.fault.JournalFault.{JournalFault}
 use Rattle.journal_format.specs.declared.fault.JournalFault.TheVariants.{BadLine, Input, NoMemory}
-use Rattle.text_io.proofs.KnownBytes.{Consumes-more}
 use Rattle.journal_format.proofs.Splitting.{all-append, feeds, feeds-append, feeds-unseen, left_short, no_line, one_journal, stops_none, text-line}
 
 -- ---- what was read, and what is left
@@ -56,31 +55,6 @@ all_at_end xs all new n k front count at =
 
 all_taken : (xs all : List ℕ) (new : Option (List ℕ)) (n : ℕ) → IsFront xs all new → length xs + 0 ≡ n → take n all ≡ xs
 all_taken xs all new n front count = front_taken xs all new n 0 front count ∙ append-nil xs
-
--- nothing was read yet
-consumes_none : (now : Option (List ℕ)) (bytes : List ℕ) → bytes ≡ [] → Consumes now now bytes
-consumes_none None bytes none = tt
-consumes_none (Some xs) bytes none = ap (λ t. t ++ xs) (sym none)
-
-pub read_none : (now : Option (List ℕ)) (bytes : List ℕ) (left : ℕ) → bytes ≡ [] → left ≡ MOST_BYTES + 1 → HasRead now now bytes left
-read_none now bytes left none most = record { bytes_are = consumes_none now bytes none; count = omega (arith, ap length none, most) }
-
--- a read that gave these bytes, after others
-pub read_more : (start old new : Option (List ℕ)) (front rest chunk more : List ℕ) (left count less : ℕ) → HasRead start old (front ++ rest) left →
-    Consumes old new chunk → length chunk ≡ count → count ≤ left → less ≡ left - count → more ≡ rest ++ chunk → HasRead start new (front ++ more) less
-read_more start old new front rest chunk more left count less was gave size most less_is more_is =
-    let text : (front ++ rest) ++ chunk ≡ front ++ more = append_assoc front rest chunk ∙ ap (λ t. front ++ t) (sym more_is) in
-    record {
-      bytes_are = subst (Consumes start new) text (Consumes-more start old new (front ++ rest) chunk was.bytes_are gave);
-      count = omega (arith, ap length text, length-append (front ++ rest) chunk, size, most, less_is, was.count);
-    }
-
--- a read that gave nothing
-pub read_nothing : (start old new : Option (List ℕ)) (bytes chunk : List ℕ) (left : ℕ) → HasRead start old bytes left → Consumes old new chunk → chunk ≡ [] → HasRead start new bytes left
-read_nothing start old new bytes chunk left was gave none =
-    let both : Consumes start new (bytes ++ chunk) = Consumes-more start old new bytes chunk was.bytes_are gave in
-    let whole : bytes ++ chunk ≡ bytes = ap (λ t. bytes ++ t) none ∙ append-nil bytes in
-    record { bytes_are = subst (Consumes start new) whole both; count = was.count }
 
 -- if nothing more is read, these are all bytes
 pub all_read : (start now : Option (List ℕ)) (all bytes : List ℕ) (left : ℕ) → HasRead start now bytes left → start ≡ Some all → (left ≡ 0) ⊎ IsAtEnd now → take (MOST_BYTES + 1) all ≡ bytes

@@ -201,10 +201,6 @@ feeds-journal (r ∷ past) fits small =
     let one : feeds (line ++ 10 ∷ []) ≡ 1 = feeds-one line (front-feedless (length past) r low fits.0) in
     omega (arith, feeds-append (journal_text past) (line ++ 10 ∷ []), one, feeds-journal past fits.1 low)
 
-pub line-first : (place : ℕ) (r : Record) (others : List ℕ) → place < 2 ^ 64 → Fits r → lines_of (line_text place r ++ others) ≡ line_text place r ∷ lines_of others
-unfolding line_text
-line-first place r others small fits = rw append_assoc (lines_of-front (join_with_byte 32 (record_words place r)) others (front-feedless place r small fits))
-
 pair_parts : (e f : Entry) (v w : Word) → ◌≡◌ {A = Option (Entry × Word)} (Some (e, v)) (Some (f, w)) → (e ≡ f) × (v ≡ w)
 pair_parts e f v w same =
     let pairs : ◌≡◌ {A = Entry × Word} (e, v) (f, w) = cc in
@@ -339,13 +335,6 @@ stops_none line text a stops small fits is =
     let on = goes_on a stops.past stops.rest fits stops.fits low (sym is ∙ stops.whole) in
     stopped a stops.past stops.rest on.later stops.some on.fits on.text stops.none
 
--- after a journal the line of a record comes first
-pub no_first : (place : ℕ) (rest line others : List ℕ) → place < 2 ^ 64 → lines_of rest ≡ line ∷ lines_of others → ((r : Record) → Fits r → line ≢ line_text place r) → (r : Record) (behind : List ℕ) → Fits r → rest ≢ line_text place r ++ behind
-no_first place rest line others small lines none r behind fits is =
-    let first : lines_of rest ≡ line_text place r ∷ lines_of behind = ap lines_of is ∙ line-first place r behind small fits in
-    let both : line ∷ lines_of others ≡ line_text place r ∷ lines_of behind = sym lines ∙ first in
-    none r fits (cc)
-
 -- a text that was read up to a line, read up to the next one
 pub next_line : (text rest line others : List ℕ) (past new : Past) (place : ℕ) (r : Record) → text ≡ journal_text past ++ rest → lines_of rest ≡ line ∷ lines_of others → line ≡ line_text place r → place ≡ length past → new ≡ r ∷ past → text ≡ journal_text new ++ others
 next_line text rest line others past new place r so_far lines is count pushed =
@@ -356,18 +345,6 @@ next_line text rest line others past new place r so_far lines is count pushed =
 
 pub allfit_next : (past new : Past) (r : Record) → AllFit past → Fits r → new ≡ r ∷ past → AllFit new
 allfit_next past new r all fits pushed = rw pushed (fits, all)
-
--- a text that stops at the next line
-pub stops_here : (line place : ℕ) (text rest first others : List ℕ) (past : Past) → text ≡ journal_text past ++ rest → AllFit past → place ≡ length past → place < 2 ^ 63 → line ≡ place + 1 → 0 < length rest → lines_of rest ≡ first ∷ lines_of others → IsNoLine place first → StopsAt line text
-stops_here line place text rest first others past so_far all count small number some lines none = record {
-  past = past;
-  rest = rest;
-  fits = all;
-  whole = so_far;
-  line_is = omega arith;
-  some = some;
-  none = λ r behind fits is. no_first place rest first others (omega arith) lines none r behind fits (is ∙ ap (λ n. line_text n r ++ behind) (sym count));
-}
 
 -- ---- a text with more after it
 

@@ -1,7 +1,7 @@
 -- Lists that are written or filtered item by item.
-use Rattle.std.proofs.Common.{◌≡◌, ℕ, zero, suc, ◌+◌, ◌-◌, ◌<◌, ◌≤◌, Bool, true, false, List, [], ◌∷◌, ◌++◌, length, get_or, drop, map, take, if◌then◌else◌, refl, sym, ◌∙◌, ap, arith, append_assoc, add-one}
+use Rattle.std.proofs.Common.{◌≡◌, ℕ, zero, suc, ◌+◌, ◌-◌, ◌<◌, Bool, List, [], ◌∷◌, ◌++◌, length, get_or, drop, map, take, if◌then◌else◌, refl, sym, ◌∙◌, ap, arith, append_assoc, add-one}
 use Rattle.std.proofs.Math.Seq.{drop-cons}
-use Rattle.std.proofs.lemmas.List.{append-nil, drop_all, length-map, length-take-le, map-append, take_all, take_more}
+use Rattle.std.proofs.lemmas.List.{append-nil, drop_all, length-map, length-take-le, map-append, take_more}
 use Rattle.std.specs.List.{filter}
 use Rattle.mq_model.specs.Descriptors.{numbers_from}
 use Rattle.journal_views.specs.State.{between, joined}
@@ -48,6 +48,3 @@ list-more form f xs old now next new i lt before next_is new_is =
     ∙ append_assoc (old ++ joined form (map f (take i xs))) (between form i) (f x)
     ∙ append_assoc old (joined form (map f (take i xs))) (between form i ++ f x)
     ∙ ap (λ t. old ++ t) (sym more)
-
-pub list-all : (form : Form) (f : ℕ → List ℕ) (xs old now : List ℕ) (i : ℕ) → now ≡ old ++ joined form (map f (take i xs)) → length xs ≤ i → now ≡ old ++ joined form (map f xs)
-list-all form f xs old now i before all = before ∙ ap (λ ys. old ++ joined form (map f ys)) (take_all i xs all)

@@ -80,10 +80,6 @@ stage_taken : (w : State) → w.y ≢ 0 → Stage w → Taken w
 stage_taken w ne (inl h) = absurd (ne h.0)
 stage_taken w ne (inr h) = h.1
 
-stage_free : (w : State) → w.y ≡ 0 → Stage w → Claimed w
-stage_free w z (inl h) = h.1
-stage_free w z (inr h) = absurd (h.0 z)
-
 settled_free : (w : State) → w.y ≡ 0 → Settled 0 w → AllSettled w
 settled_free w z (inl ne) = absurd (ne z)
 settled_free w z (inr h) = h

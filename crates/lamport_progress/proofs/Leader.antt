@@ -1,59 +1,21 @@
 -- The process that takes the next step on the way into a critical section: process 1 while y is 0,
 -- else the process that y names; or, if that one waits in its scan, the process whose flag it waits
 -- for.
-use Rattle.std.proofs.Common.{◌≡◌, ◌≢◌, ◌<◌, ◌≤◌, ◌+◌, ◌⊎◌, ℕ, true, List, [], ◌∷◌, ◌++◌, length, refl, sym, ap, ◌∙◌, subst, inl, inr, arith, length-append}
-use Rattle.lamport_core.specs.State.{State, IsProcess, IsSchedule, process_count, point_of, flag_of, next, run, start}
+use Rattle.std.proofs.Common.{◌≡◌, ◌≢◌, ◌<◌, ◌≤◌, ◌+◌, ◌⊎◌, ℕ, List, [], ◌∷◌, ◌++◌, length, refl, sym, ap, ◌∙◌, subst, inl, inr, arith, length-append}
+use Rattle.lamport_core.specs.State.{State, IsProcess, IsSchedule, process_count, point_of, next, run, start}
 use Rattle.lamport_core.specs.Safe.{IsSafe, IsPoint}
-use Rattle.lamport_progress.specs.Progress.{IsOccupied, IsEnabled, HasSetY, IsOwned, NeedsNoFreeY, IsLeader, IsWayInside, work_bound}
+use Rattle.lamport_progress.specs.Progress.{IsOccupied, IsEnabled, work_bound}
 use Rattle.lamport_progress.proofs.Measure.{measure}
-use Rattle.lamport_progress.proofs.Enabled.{IsBegunFree, start_enabled, free_enabled, up-ne-Rest}
 use Rattle.lamport_progress.proofs.Work.{IsSound, reach_sound, one_step, sound_next, sound-measure-le}
 use Rattle.lamport_core.specs.declared.At.{At}
-use Rattle.lamport_core.specs.declared.At.TheVariants.{Rest, AwaitY, Scan, SlowAwait}
-
-at_zero : (y : ℕ) (P : At) → y ≡ 0 → NeedsNoFreeY y P
-at_zero y AwaitY e = e
-at_zero y SlowAwait e = e
-at_zero y _ e = tt
-
-set_y_of : (y : ℕ) (P : At) → HasSetY P → NeedsNoFreeY y P
-set_y_of y AwaitY h = absurd h
-set_y_of y SlowAwait h = absurd h
-set_y_of y _ h = tt
-
-set_y-ne-Rest : (P : At) → HasSetY P → P ≢ Rest
-set_y-ne-Rest P h e = subst HasSetY e h
-
-pub first_leads : (w : State) → 0 < process_count w → w.y ≡ 0 → IsLeader w 1
-first_leads w some e = record { process = (omega arith, omega arith); free = at_zero w.y (point_of w 1) e }
-
-pub owner_leads : (w : State) → IsSafe w → IsOwned w → w.y ≢ 0 → IsLeader w w.y
-owner_leads w s o ne = let h = o ne in record {
-  process = s.safe.process w.y (set_y-ne-Rest (point_of w w.y) h);
-  free = set_y_of w.y (point_of w w.y) h;
-}
-
-begun_free : (y : ℕ) (P : At) → P ≢ Rest → NeedsNoFreeY y P → IsBegunFree y P
-begun_free y Rest ne h = absurd (ne refl)
-begun_free y AwaitY ne h = h
-begun_free y SlowAwait ne h = h
-begun_free y _ ne h = tt
+use Rattle.lamport_core.specs.declared.At.TheVariants.{Rest, Scan}
 
 rest_or_not : (P : At) → (P ≡ Rest) ⊎ (P ≢ Rest)
 rest_or_not Rest = inl refl
 rest_or_not _ = inr (λ e. cc)
 
-pub leader_enabled : (w : State) (i : ℕ) → IsSafe w → IsLeader w i → ((j : ℕ) → point_of w i ≢ Scan j) → IsEnabled w i
-leader_enabled w i s l f = elim (rest_or_not (point_of w i)) [
-  | inl e ↦ start_enabled w s i l.process e
-  | inr ne ↦ free_enabled w s i (point_of w i) refl (begun_free w.y (point_of w i) ne l.free) f
-]
-
 pub scan_process : (w : State) (i j : ℕ) → IsSafe w → point_of w i ≡ Scan j → IsProcess (process_count w) j
 scan_process w i j s at = subst (IsPoint (process_count w)) at (s.safe.point i)
-
-pub up_process : (w : State) (j : ℕ) → IsSafe w → flag_of w j ≡ true → IsProcess (process_count w) j
-up_process w j s up = s.safe.process j (up-ne-Rest w s j up)
 
 -- one more step at the end of a schedule
 pub run_push : (w : State) (is : List ℕ) (i : ℕ) → run w (is ++ i ∷ []) ≡ next (run w is) i
@@ -102,10 +64,3 @@ led_step n schedule w v steps more i l out p r e m =
       sound = sound_next n w i l.sound q;
       some = l.some;
     }))
-
-pub led_end : (n : ℕ) (schedule : List ℕ) (w : State) (steps : List ℕ) → Led n schedule w steps → IsOccupied w → IsWayInside n (run (start n) schedule) steps
-led_end n schedule w steps l h = let few = l.bounded in record {
-  processes = l.processes;
-  bounded = omega arith;
-  inside = subst IsOccupied l.reached h;
-}

@@ -17,9 +17,6 @@ front-fits message before after is same =
     let size : length after ≡ length message + length (drop (length message) before) = ap length is ∙ length-append message (drop (length message) before) in
     omega (arith, size, same)
 
-abbrev StartFits : ℕ → Result (Option Received) Fault → Type 0
-StartFits room result = IfOk result (λ got. IfSome got (λ received. received.len ≤ room))
-
 start-fits : (past : Past) (reply : Reply) (result : Result (Option Received) Fault) (before after : List ℕ) → start_receive_says past reply ≡ Some result → after ≡ filled past reply before → length after ≡ length before → IfOk result (λ got. IfSome got (λ received. received.len ≤ length before))
 start-fits past reply result before after says fill same = grind (arith, front-fits)
 

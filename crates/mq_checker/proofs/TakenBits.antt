@@ -1,18 +1,13 @@
 -- The table of messages that were taken remains that of the journal.
-use Rattle.std.proofs.Common.{◌≡◌, ℕ, zero, suc, ◌<◌, ◌≤◌, ◌==◌, Bool, true, false, not, List, [], ◌∷◌, length, Option, Some, None, if◌then◌else◌, refl, sym, ◌∙◌, ap, arith, ne_eqb, get_or, ◌⊎◌, inl, inr}
+use Rattle.std.proofs.Common.{◌≡◌, ℕ, zero, suc, ◌<◌, ◌≤◌, ◌==◌, Bool, true, false, not, List, [], ◌∷◌, length, Option, Some, None, if◌then◌else◌, refl, sym, ◌∙◌, ap, arith, ne_eqb}
 use Rattle.std.specs.Prelude.{slice_get, set, replicate}
 use Rattle.std.specs.List.{filter}
 use Rattle.std.specs.Option.{option_map}
 use Rattle.std.proofs.lemmas.Bool.Decides.{nat_tests}
-use Rattle.std.proofs.lemmas.Option.{get_or_from_slice_get}
 use Rattle.mq_model.specs.Record.{Record, Past, record_at, first}
-use Rattle.mq_model.specs.Descriptors.{is_on}
-use Rattle.mq_model.specs.Messages.{is_in, with_place, queues, admits, blocked_sends, entered, taken, taken_by}
+use Rattle.mq_model.specs.Messages.{is_in, with_place, entered, taken, taken_by}
 use Rattle.mq_model.specs.OnePass.{best_of}
 use Rattle.mq_checker.specs.TakenTable.{TakenMirror, marked, enters, unless_in, with_best}
-use Rattle.mq_model.specs.declared.entries.Entry.{Entry}
-use Rattle.mq_model.specs.declared.entries.Reply.{Reply}
-use Rattle.mq_model.specs.declared.entries.Reply.TheVariants.{Opened, Queued, Handed, Waits, Got, Collected, Attrs, Notice, Done, Refused, Withdrawn}
 use Rattle.mq_model.proofs.Places.{split}
 use Rattle.mq_model.proofs.Prefixes.{record_at-first}
 use Rattle.mq_model.proofs.Records.{record_at-past}
@@ -62,52 +57,7 @@ length-replicate_false (suc n) = ap suc (length-replicate_false n)
 pub taken-start : (n : ℕ) → TakenMirror [] (replicate n false)
 taken-start n = record { bits = λ m lt. none-taken_yet n m (omega (arith, lt, length-replicate_false n)) }
 
--- a bit that is read
-pub taken-read : (past : Past) (table : List Bool) → TakenMirror past table → (m : ℕ) (b : Bool) → m < length table → b ≡ get_or table m b → b ≡ is_in (taken past) m
-taken-read past table mirror m b lt e = e ∙ get_or_from_slice_get table m (is_in (taken past) m) b (mirror.bits m lt)
-
 -- what enters a queue ----------------------------------------------------------------------------------------------------
-
-pub entered-none : (past : Past) (e : Entry) (q : ℕ) → enters (length past) e ≡ None → entered past e q ≡ None
-entered-none past e q n = split (queues e.call e.reply)
-    (λ t. let bad : Some (length past) ≡ None = rw t at n in absurd (cc))
-    (λ f. let none : admits e.reply ≡ None = rw f at n in rw (f, none) refl)
-
-entered-some : (past : Past) (e : Entry) (q m : ℕ) → enters (length past) e ≡ Some m → (entered past e q ≡ None) ⊎ (entered past e q ≡ Some m)
-entered-some past e q m s = split (queues e.call e.reply)
-    (λ t. let here : Some (length past) ≡ Some m = rw t at s in split (is_on past e q) (λ y. inr (rw (t, y) here)) (λ n. quiet t n here))
-    (λ f. let some : admits e.reply ≡ Some m = rw f at s in split (is_in (blocked_sends past q) m) (λ y. inr (rw (f, some, y) refl)) (λ n. inl (rw (f, some, n) refl)))
-  where
-    -- a reply that queues admits none
-    queued-admits : (reply : Reply) → queues e.call reply ≡ true → admits reply ≡ None
-    queued-admits (Queued n) t = refl
-    queued-admits (Opened d created) t = refl
-    queued-admits (Handed w) t = refl
-    queued-admits Waits t = refl
-    queued-admits (Got k a n) t = absurd (let bad : false ≡ true = t in cc)
-    queued-admits (Collected b) t = refl
-    queued-admits (Withdrawn w) t = refl
-    queued-admits (Attrs v) t = refl
-    queued-admits (Notice v) t = refl
-    queued-admits Done t = refl
-    queued-admits (Refused f) t = refl
-
-    quiet : queues e.call e.reply ≡ true → is_on past e q ≡ false → Some (length past) ≡ Some m → (entered past e q ≡ None) ⊎ (entered past e q ≡ Some m)
-    quiet t n here = inl (rw (t, n, queued-admits e.reply t) refl)
-
-pub unless-taken : (past : Past) (e : Entry) (q m : ℕ) (xs : List ℕ) → enters (length past) e ≡ Some m → is_in xs m ≡ true → unless_in xs (entered past e q) ≡ None
-unless-taken past e q m xs s t = by (entered-some past e q m s)
-  where
-    by : (entered past e q ≡ None) ⊎ (entered past e q ≡ Some m) → unless_in xs (entered past e q) ≡ None
-    by (inl n) = rw n refl
-    by (inr y) = rw (y, t) refl
-
-pub unless-free : (past : Past) (e : Entry) (q m : ℕ) (xs : List ℕ) → enters (length past) e ≡ Some m → is_in xs m ≡ false → unless_in xs (entered past e q) ≡ entered past e q
-unless-free past e q m xs s t = by (entered-some past e q m s)
-  where
-    by : (entered past e q ≡ None) ⊎ (entered past e q ≡ Some m) → unless_in xs (entered past e q) ≡ entered past e q
-    by (inl n) = rw n refl
-    by (inr y) = rw (y, t) refl
 
 -- one more message that may have entered
 pub filter-with : (xs : List ℕ) (o : Option ℕ) (ys : List ℕ) → filter (λ m. not (is_in xs m)) (with_place o ys) ≡ with_place (unless_in xs o) (filter (λ m. not (is_in xs m)) ys)
@@ -117,16 +67,6 @@ filter-with xs (Some m) ys = split (is_in xs m) (λ t. rw t refl) (λ f. rw f re
 pub best-with : (goes_first : ℕ → ℕ → Bool) (o : Option ℕ) (ys : List ℕ) → best_of goes_first (with_place o ys) ≡ with_best goes_first o (best_of goes_first ys)
 best-with goes_first None ys = refl
 best-with goes_first (Some m) ys = refl
-
--- a message that is not better than the best one so far changes nothing
-pub not-better : (goes_first : ℕ → ℕ → Bool) (past : Past) (e : Entry) (q m n : ℕ) (xs : List ℕ) → enters (length past) e ≡ Some m → goes_first m n ≡ false → with_best goes_first (unless_in xs (entered past e q)) (Some n) ≡ Some n
-not-better goes_first past e q m n xs s f = split (is_in xs m)
-    (λ t. rw (unless-taken past e q m xs s t) refl)
-    (λ g. rw (unless-free past e q m xs s g) (by (entered-some past e q m s)))
-  where
-    by : (entered past e q ≡ None) ⊎ (entered past e q ≡ Some m) → with_best goes_first (entered past e q) (Some n) ≡ Some n
-    by (inl none) = rw none refl
-    by (inr some) = rw (some, f) refl
 
 -- the record at a place below the first k records
 pub entry-before : (past : Past) (k m : ℕ) → m < k → k ≤ length past → option_map (λ (r : Record). r.entry) (record_at past m) ≡ option_map (λ (r : Record). r.entry) (record_at (first k past) m)

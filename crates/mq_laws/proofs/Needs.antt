@@ -7,22 +7,16 @@ use Rattle.mq_model.specs.Descriptors.{alive, created, called_queue}
 use Rattle.mq_model.specs.Messages.{is_in, with_place, present, admitted, taken, taken_by, waiting_sends, ended_sends, ends_send, blocked_sends}
 use Rattle.mq_model.specs.Waits.{answered_by, named_wait, ended_wait}
 use Rattle.mq_model.specs.Legality.{Legal}
-use Rattle.mq_model.specs.declared.entries.Call.{Call}
 use Rattle.mq_model.specs.declared.entries.Reply.{Reply}
 use Rattle.mq_model.specs.declared.entries.Reply.TheVariants.{Opened, Queued, Handed, Waits, Got, Collected, Attrs, Notice, Done, Refused, Withdrawn}
-use Rattle.mq_model.proofs.Places.{split, clash, is_in-filter, find-in}
+use Rattle.mq_model.proofs.Places.{split, clash, is_in-filter}
 use Rattle.mq_model.proofs.Frames.{created-below}
 use Rattle.mq_model.proofs.Presence.{sent_to, admitted-to, present-admitted, blocked-on, waiting-not_taken, with-more, taken-cases}
 use Rattle.mq_laws.specs.Laws.{reply_at, message_given, withdrawn_wait, cause, Has}
 use Rattle.mq_laws.proofs.LegalPlaces.{has-here, has-cases, record-of}
 use Rattle.mq_laws.proofs.EndedWaits.{has-older, withdrawn-not_accepted, ended-blocked, has-also, admitted-not_handed}
 use Rattle.mq_laws.proofs.SentMessages.{IsSentTo, is_sent, admitted-sent, blocked-sent}
-use Rattle.mq_model.specs.Names.{unlinks, creates}
-use Rattle.mq_model.proofs.Cases.{Says}
-use Rattle.mq_model.proofs.LegalReplies.{legal_says, got_says}
-use Rattle.mq_model.proofs.HeldQueues.{held-alive}
-use Rattle.mq_model.proofs.Alive.{alive-same_queues}
-use Rattle.mq_model.proofs.Steps.{admitted-below}
+use Rattle.mq_model.specs.Names.{creates}
 use Rattle.mq_laws.proofs.GivenOnce.{gives-once, collected, answered-named, closed}
 use Rattle.mq_laws.specs.Needed.{is_kept, is_kept_at, ended_by, ended, home_of, home, IsThere, IsNeeded}
 use Rattle.mq_laws.proofs.Needing.{not-before, alive-created}
@@ -253,32 +247,6 @@ handed-needed past legal p b w answers at =
     by (j, inl e) = (gives-once past legal).not_handed j b w e at
     by (j, inr (inl e)) = let x = answered-named past p b answers in closed past legal j b x.w p e x.named x.opened
     by (j, inr (inr e)) = let bad : Some Waits ≡ Some (Handed w) = sym (ended-blocked past legal j b (withdrawn-has past j b e)) ∙ at in cc
-
--- the queues that exist do not change in a receive
-got-alive : (past : Past) (r : Record) (m : ℕ) (a n : Option ℕ) → r.entry.reply ≡ Got m a n → alive (r ∷ past) ≡ alive past
-got-alive past r m a n is = alive-same_queues past r (rw is refl) (rw is (no-unlink r.entry.call)) (λ e. rw is refl)
-  where
-    no-unlink : (call : Call) → unlinks call (Got m a n) ≡ false
-    no-unlink call = refl
-
--- the message of the latest entry may still be read
-pub given-needed : (past : Past) (r : Record) → Legal (r ∷ past) → (m : ℕ) (a n : Option ℕ) → r.entry.reply ≡ Got m a n → IsNeeded (r ∷ past) m
-given-needed past r legal m a n is =
-    let says : Says past r.entry.process r.entry.call (Got m a n) = rw is at (legal_says past r legal.1) in
-    let got = got_says past r.entry.process r.entry.call m a n says in
-    let q = got.2.queue in
-    let there : is_in (present past q) m ≡ true = (find-in _ (present past q) m got.6).0 in
-    let inside = present-admitted past q m there in
-    let y = entered-reply past legal.0 q m inside in
-    let at = home-sent past m q y.0 (admitted-to past q m inside).to y.1 y.2 in
-    let lt = admitted-below past q m inside in
-    let old : (m == length past) ≡ false = ne_eqb m (length past) (λ e. omega (arith, e, lt)) in
-    let exists : is_in (alive (r ∷ past)) q ≡ true = ap (λ qs. is_in qs q) (got-alive past r m a n is) ∙ held-alive past legal.0 r.entry.process got.0 got.2 got.4 in
-    record {
-      kept = rw old (kept-sent past q m (admitted-sent past q m inside) y.0 y.1 y.2);
-      going = present-going past legal.0 q m there;
-      there = rw (old, at) exists;
-    }
 
 -- the open that created a queue
 record IsMadeAt (past : Past) (q : ℕ) : Type 0 where

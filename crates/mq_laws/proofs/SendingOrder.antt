@@ -278,9 +278,6 @@ sent-back past k q m x lt le = record {
   reply = x.reply;
 }
 
-or-left : (b : Bool) → (true || b) ≡ true
-or-left b = refl
-
 -- before a message is taken, each earlier one of its queue and priority was taken
 taken-first : (past : Past) → Legal past → (r : Record) → IsLegalNext past r → (q m n : ℕ) → IsSentTo past q m → IsKept past m → m < n → (n < length past → priority past m ≡ priority past n) →
     (message_given r.entry.reply ≡ Some n) × (is_accepted past q n ≡ true) ⊎ (length past ≡ n) × ((v : ℕ) × (is_in (waiting_receives past q) v ≡ true)) → is_in (taken past) m ≡ true

@@ -137,9 +137,6 @@ more-vacant slots vacant count = record {
 pub none-added : (slots : List (Option Kept)) (vacant : ℕ) → vacant ≡ vacant_in slots → HasMoreVacant slots slots vacant vacant
 none-added slots vacant count = record { count = count; more = omega arith; are_true = λ past t. t; keeps = λ k has. has }
 
-pub none-forgotten : (queue : ℕ) (slots : List (Option Kept)) (vacant : ℕ) → vacant ≡ vacant_in slots → Forgets queue slots slots vacant vacant
-none-forgotten queue slots vacant count = record { same_length = refl; count = count; more = omega arith; are_true = λ past t. t; keeps = λ past k t apart has. has }
-
 -- one that keeps what is lost with a queue is vacated
 pub one-forgotten : (queue : ℕ) (slots : List (Option Kept)) (key : ℕ) (x : Kept) (vacant : ℕ) → vacant ≡ vacant_in slots → slice_index_or slots key None ≡ Some x → x.home ≡ Some queue → Forgets queue slots (slice_set slots key None) vacant (vacant + 1)
 one-forgotten queue slots key x vacant count there lost = record {

@@ -131,18 +131,6 @@ held_in-number owners p d h slots e = by (slice_get owners p) refl e
     by None is g = absurd (cc)
     by (Some o) is g = at o (slots p o is) (below-or 16) g
 
--- a process that holds something has a line
-pub held_in-process : (owners : List Owner) (p d : ℕ) (h : Description) → held_in owners p d ≡ Some h → p < length owners
-unfolding held_in
-held_in-process owners p d h e = by (below-or p (length owners))
-  where
-    below-or : (k i : ℕ) → (k < i) ⊎ (i ≤ k)
-    below-or k i = grind arith
-
-    by : ((p < length owners) ⊎ (length owners ≤ p)) → p < length owners
-    by (inl lt) = lt
-    by (inr ge) = absurd (let none : slice_get owners p ≡ None = slice_get_past owners p ge in let bad : None ≡ Some h = rw none at e in cc)
-
 length-set : {X : Type 0} (xs : List X) (d : ℕ) (v : X) → length (set xs d v) ≡ length xs
 length-set xs d v = grind (arith, common_steps)
 

@@ -1,5 +1,5 @@
 -- The waits in a table of processes are those that the definitions give.
-use Rattle.std.proofs.Common.{◌≡◌, ℕ, ◌<◌, ◌≤◌, ◌==◌, Bool, true, false, ◌&&◌, not, List, length, Option, Some, None, refl, sym, ◌∙◌, ap, arith, eqb-true, eq-eqb, ◌⊎◌, inl, inr}
+use Rattle.std.proofs.Common.{◌≡◌, ℕ, ◌==◌, true, false, ◌&&◌, not, List, Option, Some, None, refl, sym, ◌∙◌, ap, eqb-true, eq-eqb}
 use Rattle.std.specs.List.{filter}
 use Rattle.std.specs.Option.{option_map}
 use Rattle.std.proofs.lemmas.Bool.{and_parts}
@@ -11,7 +11,6 @@ use Rattle.mq_model.specs.Owners.{wait_in, answer_in, pending, pending_in, is_ki
 use Rattle.mq_model.specs.declared.owners.OpenWait.{OpenWait}
 use Rattle.mq_model.specs.declared.owners.Owner.{Owner}
 use Rattle.mq_model.proofs.Places.{split, is_in-filter}
-use Rattle.mq_model.proofs.OwnerLines.{pending_in-past}
 use Rattle.mq_model.proofs.NamedWaits.{blocked-once}
 use Rattle.mq_model.proofs.Waiters.{ended_waits, waiting-filter, in-filter, waiter, unnamed, least-none, least-some}
 use Rattle.mq_model.specs.declared.owners.WaitKind.{WaitKind}
@@ -52,16 +51,6 @@ pending-is : (owners : List Owner) (p q : ℕ) (kind : WaitKind) (w : ℕ) (y : 
 unfolding pending_in
 pending-is owners p q kind w y is none place queue of_kind = rw (is, none, queue, of_kind, eq-eqb q q refl, is_kind-self kind) (ap Some place)
 
-pub pending-inside : (owners : List Owner) (p q : ℕ) (kind : WaitKind) (w : ℕ) → pending_in owners p q kind ≡ Some w → p < length owners
-pending-inside owners p q kind w e = by (cases p)
-  where
-    cases : (p : ℕ) → (p < length owners) ⊎ (length owners ≤ p)
-    cases p = grind arith
-
-    by : ((p < length owners) ⊎ (length owners ≤ p)) → p < length owners
-    by (inl lt) = lt
-    by (inr ge) = absurd (let none : pending_in owners p q kind ≡ None = pending_in-past owners p q kind ge in cc)
-
 pub pending-waits : (past : Past) (owners : List Owner) → OwnersMirror past owners → Legal past → (p q : ℕ) (kind : WaitKind) (w : ℕ) → pending_in owners p q kind ≡ Some w → is_in (waiting past kind q) w ≡ true
 pending-waits past owners m legal p q kind w e =
     let x = is_pending owners p q kind w e in
@@ -98,9 +87,3 @@ least-pending past owners m legal q kind p w first =
 pub no-pending : (past : Past) (owners : List Owner) → OwnersMirror past owners → Legal past → (q : ℕ) (kind : WaitKind) → ((p : ℕ) → pending_in owners p q kind ≡ None) → least (waiting past kind q) ≡ None
 no-pending past owners m legal q kind none =
     least-none (waiting past kind q) (λ k h. let x = waits-pending past owners m legal q kind k h in let a : Some k ≡ None = sym x.1 ∙ none x.0 in cc)
-
--- the process of a pending wait, and its open wait
-pub pending-open : (past : Past) (owners : List Owner) → OwnersMirror past owners → (p q : ℕ) (kind : WaitKind) (w : ℕ) → pending_in owners p q kind ≡ Some w → open_wait past p ≡ Some w
-pending-open past owners m p q kind w e =
-    let x = is_pending owners p q kind w e in
-    sym (m.waits p) ∙ ap (option_map (λ (y : OpenWait). y.place)) x.is ∙ ap Some x.place

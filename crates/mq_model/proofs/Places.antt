@@ -18,9 +18,6 @@ other_place i j h e = grind (arith, nat_tests)
 pub clash : {C : Type 0} (b : Bool) → b ≡ true → b ≡ false → C
 clash b t f = absurd (cc)
 
-pub is_in-cons : (k : ℕ) (xs : List ℕ) (m : ℕ) → is_in (k ∷ xs) m ≡ (k == m || is_in xs m)
-is_in-cons k xs m = refl
-
 pub is_in-filter : (t : ℕ → Bool) (xs : List ℕ) (m : ℕ) → is_in (filter t xs) m ≡ true → (is_in xs m ≡ true) × (t m ≡ true)
 is_in-filter t [] m h = absurd (cc)
 is_in-filter t (x ∷ xs) m h =

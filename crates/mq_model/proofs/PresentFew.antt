@@ -6,10 +6,10 @@ use Rattle.std.proofs.lemmas.Bool.{eqb-false}
 use Rattle.std.proofs.lemmas.Bool.Decides.{nat_tests}
 use Rattle.mq_model.specs.Record.{Record, Past}
 use Rattle.mq_model.specs.Names.{creates, bound_queue, attributes, attributes_given, are_within_limits}
-use Rattle.mq_model.specs.Descriptors.{held, called_queue, created, lowest_free, alive, is_place, is_named, is_held}
+use Rattle.mq_model.specs.Descriptors.{held, called_queue, created, lowest_free, alive, is_place}
 use Rattle.mq_model.specs.Messages.{is_in, is_send, with_place, present, is_full}
 use Rattle.mq_model.specs.Legality.{Legal, IsLegalNext, reply_to_open}
-use Rattle.mq_model.proofs.Places.{split, is_in-filter, find-in}
+use Rattle.mq_model.proofs.Places.{split, find-in}
 use Rattle.mq_model.proofs.Cases.{Says, BestReply, either}
 use Rattle.mq_model.proofs.LegalReplies.{legal_says}
 use Rattle.mq_model.proofs.Frames.{created-below, attributes-older}
@@ -308,7 +308,3 @@ at-most (negsuc j) n k h g = absurd (let bad : false ≡ true = h in cc)
 
 pub created-bound : (past : Past) → Legal past → (q : ℕ) → is_in (created past) q ≡ true → length (present past q) ≤ 4096
 created-bound past legal q h = at-most (attributes past q).maxmsg (length (present past q)) 4096 (present-few past legal q h) (within-most (attributes past q) (attributes-within past legal q h))
-
--- a queue that exists holds at most 4096 messages
-pub present-bound : (past : Past) → Legal past → (q : ℕ) → is_in (alive past) q ≡ true → length (present past q) ≤ 4096
-present-bound past legal q h = created-bound past legal q (is_in-filter (λ q. is_named past q || is_held past q) (created past) q h).0

@@ -75,13 +75,6 @@ messages-relinked (d ∷ cells) (suc i) next =
     let rest = messages-relinked cells i next in
     elim (cases_Bool (nat_lt d.prio 32768)) [ inl e ↦ rw e (ap (placed (d.prio, d.place)) rest) | inr e ↦ rw e rest ]
 
--- without a message there is no used slot, and with none used there is no message
-pub none-used : (cells : List Cell) → messages cells ≡ [] → (i : ℕ) → i < length cells → 32768 ≤ prio_at cells i
-none-used cells none i within = elim (cases_lt (prio_at cells i) 32768) [
-  | inl used ↦ absurd (let there = cell-present cells i within used in let few : there.0 < length (messages cells) = there.1 in let empty : length (messages cells) ≡ 0 = ap length none in omega arith)
-  | inr spare ↦ spare
-]
-
 -- if there are messages, some slot has one
 pub some-used : (cells : List Cell) → 0 < length (messages cells) → (i : ℕ) × (i < length cells) × (prio_at cells i < 32768)
 some-used [] some = absurd (omega arith)

@@ -39,11 +39,6 @@ first-before n p t nx first old best j jl jp other =
       | inr h ↦ absurd (other (old.distinct j first jl best.within jp best.used (omega arith)))
     ]
 
--- a slot that leads on to another than the first one
-record LeadsOn (n : ℕ) (p t p' t' : ℕ → ℕ) (k first : ℕ) : Type 0 where
-  pub same_p : p' k ≡ p k
-  pub same_t : t' k ≡ t k
-
 pub unlinked-chained : (n : ℕ) (p t nx p' t' nx' : ℕ → ℕ) (first free count : ℕ) → IsChained n p t nx → IsFirst n p t first → Unlinked p t nx p' t' nx' first free count → count < 4096 → IsChained n p' t' nx'
 unlinked-chained n p t nx p' t' nx' first free count old best step few =
     let gone_p = step.gone_p in
