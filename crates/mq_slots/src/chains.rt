@@ -147,6 +147,21 @@ impl Slots {
         Ok(places)
     }
 
+    /// A copy with the same room. Fails if memory was refused.
+    pub fn copy(&self, alloc: Global) -> Result<Slots, AllocError>
+        ensures { IfOk result (λ slots. slots ≡ self.now) }
+    {
+        let cells = Vec::from_slice(alloc, &self.cells)?;
+        let mut levels = Vec::with_capacity(alloc, self.cells.len())?;
+        levels.extend_from_slice(&self.levels)?;
+        Ok(Slots {
+            cells,
+            levels,
+            free: self.free,
+            spare: self.spare,
+        })
+    }
+
     /// Whether there is no room for another message.
     pub fn is_full(&self) -> bool
         ensures { IsTrue result ↔ (length self.now.messages ≡ self.now.cap) }

@@ -1,5 +1,5 @@
 //! The messages of one queue as linked slots. The message that is received next is found at once,
-//! and only `new` takes memory.
+//! and pushes and pops take no memory.
 #![tactic(auto)]
 
 mod cells;
