@@ -24,3 +24,4 @@ pub mod Wholes
 pub mod Replaying
 pub mod Stopping
 pub mod Trails
+pub mod Copies

@@ -72,6 +72,18 @@ impl Inbox {
         self.values.get(index).copied()
     }
 
+    /// A copy, with at least as much room.
+    pub fn copy(&self, alloc: Global) -> Result<Inbox, AllocError>
+        ensures values { IfOk result (λ copy. copy.values ≡ self.now.values) }
+        ensures room { IfOk result (λ copy. self.now.room ≤ copy.room) }
+    {
+        let mut copy = Inbox::new(alloc, self.values.capacity())?;
+        for index in 0..self.values.len() {
+            copy.push(self.values[index]);
+        }
+        Ok(copy)
+    }
+
     /// The number of notices.
     pub fn len(&self) -> usize
         ensures { result ≡ length self.now.values }

@@ -145,6 +145,20 @@ impl Queue {
         slots
     }
 
+    /// A copy of the row.
+    pub fn copy(&self, alloc: Global) -> Result<Queue, AllocError>
+        ensures { IfOk result (λ queue. queue ≡ self.now) }
+    {
+        Ok(Queue {
+            place: self.place,
+            named: self.named,
+            registration: self.registration,
+            attributes: self.attributes,
+            slots: self.slots.copy(alloc)?,
+            waiting: self.waiting,
+        })
+    }
+
     /// Updates the row for an entry on this queue: which message leaves, which enters, and whether
     /// the queue still has its name.
     #[inline(always)]

@@ -12,6 +12,7 @@ ghost use Rattle.mq_state.specs.Kept.{Mirrors, notice_room};
 ghost use Rattle.mq_state.specs.Pool.{order_count};
 
 pub(crate) mod calls;
+mod copies;
 mod facts;
 mod room;
 mod waiting;

@@ -96,6 +96,17 @@ impl Trail {
         Ok(true)
     }
 
+    /// A copy. Fails if memory was refused.
+    #[tactic(auto, using(crate::proofs::Copies::same_are_those))]
+    pub fn copy(&self, alloc: Global) -> Result<Trail, AllocError>
+        ensures { IfOk result (λ trail. trail ≡ self.now) }
+    {
+        Ok(Trail {
+            journal: copy_journal(alloc, &self.journal)?,
+            tables: self.tables.copy()?,
+        })
+    }
+
     /// Process p has an open wait.
     pub fn waits(&self, p: u32) -> bool
         ensures { result ≡ is_some (open_wait self.now p) }
@@ -117,4 +128,18 @@ impl Trail {
     {
         &self.journal
     }
+}
+
+// A journal with the same records.
+fn copy_journal(alloc: Global, journal: &Journal) -> Result<Journal, AllocError>
+    ensures { IfOk result (λ copy. copy.records ≡ journal.now.records) }
+{
+    let mut copy = Journal::new(alloc);
+    copy.reserve(journal.len() as usize, journal.payload_bytes() as usize)?;
+    for place in 0..journal.len() {
+        let (entry, payload) = journal.record(place);
+        copy.reserve(1, payload.len())?;
+        copy.push(entry, payload);
+    }
+    Ok(copy)
 }
