@@ -1,5 +1,5 @@
 -- How many operations are completed at each record of a linearization.
-use Rattle.std.proofs.Common.{◌≡◌, ◌≢◌, ℕ, ◌+◌, ◌≤◌, ◌==◌, zero, suc, Bool, true, false, ◌&&◌, List, [], ◌∷◌, length, take, Option, Some, None, is_some, is_none, Vec, ◌⊎◌, inl, inr, refl, sym, ◌∙◌, ap, subst, arith, if◌then◌else◌, slice_get, count_by, eq-eqb, ne_eqb}
+use Rattle.std.proofs.Common.{◌≡◌, ◌≢◌, ℕ, ◌+◌, ◌≤◌, ◌==◌, zero, suc, Bool, true, false, ◌&&◌, List, [], ◌∷◌, length, take, Option, Some, None, is_some, is_none, Vec, ◌⊎◌, inl, inr, refl, sym, ◌∙◌, ap, subst, arith, if◌then◌else◌, slice_get, count_by, eq-eqb, ne_eqb, le-leb}
 use Rattle.std.specs.Option.{option_and_then}
 use Rattle.std.specs.Str.{bytes_eq}
 use Rattle.std.specs.declared.alloc.Global.{Global}
@@ -24,7 +24,8 @@ use Rattle.histories.specs.declared.operation.Outcome.TheVariants.{Pending, Done
 use Rattle.histories.specs.Outcomes.{brings, fits}
 use Rattle.histories.specs.Histories.{Histories, completed, current, current_of}
 use Rattle.histories.specs.Linearizations.{ComesFrom, IsCallOf, IsLinearization, IsWithdrawalOf}
-use Rattle.refutations.specs.Excess.{has_got, may_have_sent, receives, sends}
+use Rattle.refutations.specs.Excess.{has_got, may_have_sent, receives, sends, sends_by}
+use Rattle.refutations.proofs.Cutting.{AreBegun}
 use Rattle.refutations.proofs.Giving.{given_by, given_of, is_sending, sent_of}
 use Rattle.refutations.proofs.Totals.{count-fewer, count-more, of_process, total, total-grows, total-le, total-more}
 
@@ -33,32 +34,32 @@ use Rattle.refutations.proofs.Totals.{count-fewer, count-more, of_process, total
 other-process : (p q : ℕ) → p ≢ q → (p == q) ≡ false
 other-process p q apart = ne_eqb p q apart
 
-made-other : (past : Past) (r : Record) (p : Process) → r.entry.process ≢ p → made (r ∷ past) p ≡ made past p
+pub made-other : (past : Past) (r : Record) (p : Process) → r.entry.process ≢ p → made (r ∷ past) p ≡ made past p
 made-other past r p apart = rw (other-process r.entry.process p apart) refl
 
-completed-other : (past : Past) (r : Record) (p : Process) → r.entry.process ≢ p → completed (r ∷ past) p ≡ completed past p
+pub completed-other : (past : Past) (r : Record) (p : Process) → r.entry.process ≢ p → completed (r ∷ past) p ≡ completed past p
 completed-other past r p apart = rw (other-process r.entry.process p apart) refl
 
-made-same : (past : Past) (r : Record) (p : Process) → ends_wait r.entry.call ≡ true → made (r ∷ past) p ≡ made past p
+pub made-same : (past : Past) (r : Record) (p : Process) → ends_wait r.entry.call ≡ true → made (r ∷ past) p ≡ made past p
 made-same past r p ends = split (r.entry.process == p) (λ t. rw (t, ends) refl) (λ f. rw f refl)
 
 -- a process that does not wait has completed all that it has made
-free : (past : Past) (r : Record) (p : Process) → r.entry.process ≡ p → IsLegalNext past r → ends_wait r.entry.call ≡ false → is_some (open_wait past p) ≡ false
+pub free : (past : Past) (r : Record) (p : Process) → r.entry.process ≡ p → IsLegalNext past r → ends_wait r.entry.call ≡ false → is_some (open_wait past p) ≡ false
 free past r p mine legal own =
     let none : is_none (open_wait past r.entry.process) ≡ true = sym (turn-of-own past r.entry.process r.entry.call own) ∙ legal.turn in
     subst (λ (q : ℕ). is_some (open_wait past q) ≡ false) mine (some-of-none (open_wait past r.entry.process) none)
 
-completed-free : (past : Past) (p : Process) → is_some (open_wait past p) ≡ false → completed past p ≡ made past p
+pub completed-free : (past : Past) (p : Process) → is_some (open_wait past p) ≡ false → completed past p ≡ made past p
 completed-free past p none = rw none refl
 
-made-own : (past : Past) (r : Record) (p : Process) → r.entry.process ≡ p → ends_wait r.entry.call ≡ false → made (r ∷ past) p ≡ made past p + 1
+pub made-own : (past : Past) (r : Record) (p : Process) → r.entry.process ≡ p → ends_wait r.entry.call ≡ false → made (r ∷ past) p ≡ made past p + 1
 made-own past r p mine own = rw (eq-eqb r.entry.process p mine, own) refl
 
 -- what a record adds to the completed operations of its process
-abbrev added : Reply → ℕ
+abbrev pub added : Reply → ℕ
 added y = if is_wait y then 0 else 1
 
-completed-own : (past : Past) (r : Record) (p : Process) → r.entry.process ≡ p → IsLegalNext past r → completed (r ∷ past) p ≤ completed past p + added r.entry.reply
+pub completed-own : (past : Past) (r : Record) (p : Process) → r.entry.process ≡ p → IsLegalNext past r → completed (r ∷ past) p ≤ completed past p + added r.entry.reply
 completed-own past r p mine legal =
     let here = eq-eqb r.entry.process p mine in
     split (ends_wait r.entry.call)
@@ -74,9 +75,9 @@ completed-own past r p mine legal =
 -- sends ------------------------------------------------------------------------------------------------------------------
 
 -- how many of the operations that a process has begun send the message
-abbrev pub begun_sends : ℕ → List ℕ → Histories → Past → ℕ → ℕ
-begun_sends prio message histories past index =
-    of_process (λ (v : Vec Operation Global). count_by (sends prio message) (take (made past (index + 1)) v.items)) (slice_get histories index)
+abbrev pub begun_sends : ℕ → ℕ → List ℕ → Histories → Past → ℕ → ℕ
+begun_sends time prio message histories past index =
+    of_process (λ (v : Vec Operation Global). count_by (sends_by time prio message) (take (made past (index + 1)) v.items)) (slice_get histories index)
 
 ending-sends-not : (call : Call) → ends_wait call ≡ true → is_send call ≡ false
 ending-sends-not Collect e = refl
@@ -93,7 +94,7 @@ ending-sends-not (MqSetattr d nonblock) e = refl
 ending-sends-not (MqNotify d value) e = refl
 ending-sends-not NextNotice e = refl
 
-sent-may : (past : Past) (y : Reply) (outcome : Outcome) → is_sent y ≡ true → fits past y outcome ≡ true → may_have_sent outcome ≡ true
+pub sent-may : (past : Past) (y : Reply) (outcome : Outcome) → is_sent y ≡ true → fits past y outcome ≡ true → may_have_sent outcome ≡ true
 sent-may past y Pending sent fit = refl
 sent-may past y Done sent fit = refl
 sent-may past y (Opened d) sent fit = refl
@@ -126,7 +127,7 @@ sent-refuses-not reply.Done sent = absurd (let bad : false ≡ true = sent in cc
 sent-refuses-not (reply.Refused f) sent = absurd (let bad : false ≡ true = sent in cc)
 
 -- the payload of a send that did not fail is the message that it was given
-sent-payload : (call : Call) (y : Reply) (given : List ℕ) → is_send call ≡ true → is_sent y ≡ true → payload_of call y given ≡ given
+pub sent-payload : (call : Call) (y : Reply) (given : List ℕ) → is_send call ≡ true → is_sent y ≡ true → payload_of call y given ≡ given
 sent-payload (MqSend d prio len) y given send sent = rw (sent-refuses-not y sent) refl
 sent-payload (MqTimedSend d prio len until now) y given send sent = rw (sent-refuses-not y sent) refl
 sent-payload (MqOpen flags attr) y given send sent = absurd (let bad : false ≡ true = send in cc)
@@ -161,7 +162,7 @@ pub record HasOperations (histories : Histories) (index n : ℕ) (operation : Op
   pub has : slice_get histories index ≡ Some v
   pub at_n : slice_get v.items n ≡ Some operation
 
-operations-of : (histories : Histories) (past : Past) (index : ℕ) (operation : Operation) → current_of histories past index ≡ Some operation → HasOperations histories index (completed past (index + 1)) operation
+pub operations-of : (histories : Histories) (past : Past) (index : ℕ) (operation : Operation) → current_of histories past index ≡ Some operation → HasOperations histories index (completed past (index + 1)) operation
 operations-of histories past index operation is = by (slice_get histories index) refl is
   where
     by : (o : Option (Vec Operation Global)) → slice_get histories index ≡ o → option_and_then (current past index) o ≡ Some operation → HasOperations histories index (completed past (index + 1)) operation
@@ -178,18 +179,18 @@ one-le : (a b : Bool) → (a ≡ true → b ≡ true) → one_if a ≤ one_if b
 one-le true b e = rw (e refl) (omega arith)
 one-le false b e = omega arith
 
-pub sent-begun : (prio : ℕ) (message : List ℕ) (histories : Histories) (past : Past) → IsLinearization histories past →
-    length (sent_of prio message past) ≤ total (begun_sends prio message histories past) (length histories)
-sent-begun prio message histories [] linear = omega arith
-sent-begun prio message histories (r ∷ past) linear =
-    let before = sent-begun prio message histories past linear.0 in
+pub sent-begun : (time prio : ℕ) (message : List ℕ) (histories : Histories) (past : Past) (linear : IsLinearization histories past) → AreBegun time histories past linear →
+    length (sent_of prio message past) ≤ total (begun_sends time prio message histories past) (length histories)
+sent-begun time prio message histories [] linear begun = omega arith
+sent-begun time prio message histories (r ∷ past) linear begun =
+    let before = sent-begun time prio message histories past linear.0 begun.0 in
     let longer = length-sent prio message past r in
     let from : ComesFrom histories past r = linear.2 in
     split (ends_wait r.entry.call)
     (λ ends.
     let quiet : is_sending prio message r ≡ false = rw (ending-sends-not r.entry.call ends) refl in
     let none : one_if (is_sending prio message r) ≡ 0 = ap one_if quiet in
-    let same = total-le (begun_sends prio message histories past) (begun_sends prio message histories (r ∷ past)) (length histories)
+    let same = total-le (begun_sends time prio message histories past) (begun_sends time prio message histories (r ∷ past)) (length histories)
     (λ i lt. let e = made-same past r (i + 1) ends in rw e (omega arith)) in
     omega (arith, before, longer, none, same))
     (λ own.
@@ -197,16 +198,17 @@ sent-begun prio message histories (r ∷ past) linear =
     let number : completed past (from.index + 1) ≡ made past (from.index + 1) = completed-free past (from.index + 1) free_now in
     let ops = operations-of histories past from.index from.operation from.is in
     let at_made : slice_get ops.v.items (made past (from.index + 1)) ≡ Some from.operation = subst (λ n. slice_get ops.v.items n ≡ Some from.operation) number ops.at_n in
-    let w : ℕ = one_if (sends prio message from.operation) in
-    let here : begun_sends prio message histories past from.index + w ≤ begun_sends prio message histories (r ∷ past) from.index =
-    let step = count-more (sends prio message) ops.v.items (made past (from.index + 1)) from.operation at_made in
+    let w : ℕ = one_if (sends_by time prio message from.operation) in
+    let here : begun_sends time prio message histories past from.index + w ≤ begun_sends time prio message histories (r ∷ past) from.index =
+    let step = count-more (sends_by time prio message) ops.v.items (made past (from.index + 1)) from.operation at_made in
     rw (ops.has, made-own past r (from.index + 1) from.process own, step) (omega arith) in
-    let grows = total-grows (begun_sends prio message histories past) (begun_sends prio message histories (r ∷ past)) (length histories) from.index w
+    let grows = total-grows (begun_sends time prio message histories past) (begun_sends time prio message histories (r ∷ past)) (length histories) from.index w
     (slice_get_within histories from.index ops.v ops.has)
     (λ i apart. let e = made-other past r (i + 1) (λ same. apart (let p = from.process in omega (arith, same, p))) in rw e (omega arith))
     here in
     let is_call : IsCallOf r from.operation = by_call own from.call in
-    let le = one-le (is_sending prio message r) (sends prio message from.operation) (sending-operation past r from.operation prio message is_call from.fits) in
+    let le = one-le (is_sending prio message r) (sends_by time prio message from.operation)
+    (λ yes. let sends_it = sending-operation past r from.operation prio message is_call from.fits yes in let by_then = le-leb from.operation.begin time begun.1 in rw (by_then, sends_it) refl) in
     omega (arith, before, longer, grows, le))
   where
     by_call : ends_wait r.entry.call ≡ false → (r.entry.call ≡ Collect) ⊎ (IsWithdrawalOf r linear.2.operation ⊎ IsCallOf r linear.2.operation) → IsCallOf r linear.2.operation

@@ -1,5 +1,5 @@
--- Messages of a history that were received more often than they were sent.
-use Rattle.std.specs.Prelude.{◌≡◌, ◌<◌, ℕ, Bool, false, true, ◌&&◌, ◌==◌, List, length, position, take, unwrap_or, Vec}
+-- Messages of a history that were received more often than they were sent, up to a time.
+use Rattle.std.specs.Prelude.{◌≡◌, ◌<◌, ℕ, Bool, false, true, ◌&&◌, ◌||◌, ◌==◌, nat_le, nat_lt, List, length, position, take, unwrap_or, Vec}
 use Rattle.std.specs.List.{count_by, sum_by}
 use Rattle.std.specs.Str.{bytes_eq}
 use Rattle.std.specs.declared.alloc.Global.{Global}
@@ -32,24 +32,33 @@ has_got prio message _ = false
 abbrev pub receives : ℕ → List ℕ → Operation → Bool
 receives prio message o = has_got prio message o.outcome
 
--- the operations of a process before the first that had not returned
-abbrev pub returned : List Operation → List Operation
-returned operations =
-    take (unwrap_or (position (λ o. is_pending o.outcome) operations) (length operations)) operations
+-- the operation returned later than this time, or not at all
+abbrev pub returns_after : ℕ → Operation → Bool
+returns_after time o = is_pending o.outcome || nat_lt time o.end
 
--- how often a message was sent, and how often it was received, by all processes
-abbrev pub times_sent : ℕ → List ℕ → Histories → ℕ
-times_sent prio message histories =
-    sum_by (λ (v : Vec Operation Global). count_by (sends prio message) v.items) histories
+-- the operations of a process before the first that had not returned by this time
+abbrev pub returned_by : ℕ → List Operation → List Operation
+returned_by time operations =
+    take (unwrap_or (position (returns_after time) operations) (length operations)) operations
 
-abbrev pub times_received : ℕ → List ℕ → Histories → ℕ
-times_received prio message histories =
-    sum_by (λ (v : Vec Operation Global). count_by (receives prio message) (returned v.items)) histories
+-- a send of this message that may have succeeded, and began by this time
+abbrev pub sends_by : ℕ → ℕ → List ℕ → Operation → Bool
+sends_by time prio message o = nat_le o.begin time && sends prio message o
 
--- the counts are right, and the message was received more often than it was sent
+-- how often a message was sent by this time, and how often it was received, by all processes
+abbrev pub times_sent : ℕ → ℕ → List ℕ → Histories → ℕ
+times_sent time prio message histories =
+    sum_by (λ (v : Vec Operation Global). count_by (sends_by time prio message) v.items) histories
+
+abbrev pub times_received : ℕ → ℕ → List ℕ → Histories → ℕ
+times_received time prio message histories =
+    sum_by (λ (v : Vec Operation Global). count_by (receives prio message) (returned_by time v.items)) histories
+
+-- The counts are right, and by a certain time more receives had returned the message than sends of
+-- it had begun.
 pub record IsExcess (histories : Histories) (e : Excess) : Type 0 where
-  pub received : e.received ≡ times_received e.prio e.message.items histories
-  pub sent : e.sent ≡ times_sent e.prio e.message.items histories
+  pub received : e.received ≡ times_received e.time e.prio e.message.items histories
+  pub sent : e.sent ≡ times_sent e.time e.prio e.message.items histories
   pub more : e.sent < e.received
 
 -- no linearization of the history has each operation that returned

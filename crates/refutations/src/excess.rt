@@ -1,26 +1,28 @@
-//! Messages that were received more often than they were sent.
+//! Messages that were received more often than they were sent, up to a time.
 ghost use Rattle.std.specs.Prelude.{◌≡◌, ◌≤◌, IfOk, IfSome, IsSome, length, position};
 ghost use Rattle.std.specs.List.{count_by};
 ghost use Rattle.histories.specs.Histories.{is_pending};
-ghost use Rattle.refutations.specs.Excess.{HasNoOrder, IsExcess, has_got, may_have_sent, receives, returned, sends, times_received, times_sent};
+ghost use Rattle.refutations.specs.Excess.{HasNoOrder, IsExcess, has_got, may_have_sent, receives, returned_by, returns_after, sends, sends_by, times_received, times_sent};
 
 use histories::operation::{Operation, Outcome, is_timeout};
 use std::alloc::{AllocError, Global};
 
-/// A message that was received more often than it was sent.
+/// A message that was received more often than it was sent, up to a time: so often receives had
+/// returned it before so many sends of it began.
 #[derive(Debug, Drop)]
 pub struct Excess {
     pub prio: u32,
     pub message: Vec<u8>,
-    /// How many receives returned it. A receive after a call of its process that had not returned
-    /// does not count.
+    pub time: u64,
+    /// How many receives had returned it by the time. A receive after a call of its process that had
+    /// not returned by then does not count.
     pub received: u128,
-    /// How many calls may have sent it: sends that did not fail, and those whose deadline passed,
-    /// since they may have waited.
+    /// How many calls that began by the time may have sent it: sends that did not fail, and those
+    /// whose deadline passed, since they may have waited.
     pub sent: u128,
 }
 
-fn is_pending(outcome: &Outcome) -> bool
+pub fn is_pending(outcome: &Outcome) -> bool
     ensures { result ≡ is_pending outcome.now }
 {
     match outcome {
@@ -49,7 +51,7 @@ fn sends(prio: u32, message: &[u8], operation: &Operation) -> bool
         && operation.given.as_slice() == message
 }
 
-fn has_got(prio: u32, message: &[u8], outcome: &Outcome) -> bool
+pub fn has_got(prio: u32, message: &[u8], outcome: &Outcome) -> bool
     ensures { result ≡ has_got prio message.now outcome.now }
 {
     match outcome {
@@ -61,32 +63,39 @@ fn has_got(prio: u32, message: &[u8], outcome: &Outcome) -> bool
     }
 }
 
-// The first operation that had not returned.
-fn first_pending(operations: &[Operation]) -> Option<usize>
-    ensures first { result ≡ position (λ o. is_pending o.outcome) operations.now }
+// Whether an operation returned later than this time, or not at all.
+fn returns_after(time: u64, operation: &Operation) -> bool
+    ensures { result ≡ returns_after time operation.now }
+{
+    is_pending(&operation.outcome) || time < operation.end
+}
+
+// The first operation that had not returned by this time.
+fn first_after(time: u64, operations: &[Operation]) -> Option<usize>
+    ensures first { result ≡ position (returns_after time) operations.now }
     ensures room { IfSome result (λ place. place ≤ length operations.now) }
 {
     operations
         .iter()
-        .position(|operation| is_pending(&operation.outcome))
+        .position(|operation| returns_after(time, operation))
 }
 
-// The operations of a process before the first that had not returned.
-fn returned(operations: &[Operation]) -> &[Operation]
-    ensures { result.now ≡ returned operations.now }
+// The operations of a process before the first that had not returned by this time.
+pub fn returned_by(time: u64, operations: &[Operation]) -> &[Operation]
+    ensures { result.now ≡ returned_by time operations.now }
 {
-    match first_pending(operations) {
+    match first_after(time, operations) {
         None => operations,
         Some(place) => &operations[..place],
     }
 }
 
-fn sends_in(prio: u32, message: &[u8], operations: &[Operation]) -> u64
-    ensures count { result ≡ count_by (sends prio message.now) operations.now }
+fn sends_in(time: u64, prio: u32, message: &[u8], operations: &[Operation]) -> u64
+    ensures count { result ≡ count_by (sends_by time prio message.now) operations.now }
 {
     let mut count: u64 = 0;
     for operation in operations {
-        if sends(prio, message, operation) {
+        if operation.begin <= time && sends(prio, message, operation) {
             count += 1;
         }
     }
@@ -105,42 +114,42 @@ fn receives_in(prio: u32, message: &[u8], operations: &[Operation]) -> u64
     count
 }
 
-fn times_sent(prio: u32, message: &[u8], histories: &Vec<Vec<Operation>>) -> u128
-    ensures { result ≡ times_sent prio message.now histories.now.items }
+fn times_sent(time: u64, prio: u32, message: &[u8], histories: &Vec<Vec<Operation>>) -> u128
+    ensures { result ≡ times_sent time prio message.now histories.now.items }
 {
     let mut count: u128 = 0;
     for operations in histories {
-        count += u128::from(sends_in(prio, message, operations));
+        count += u128::from(sends_in(time, prio, message, operations));
     }
     count
 }
 
-fn times_received(prio: u32, message: &[u8], histories: &Vec<Vec<Operation>>) -> u128
-    ensures { result ≡ times_received prio message.now histories.now.items }
+fn times_received(time: u64, prio: u32, message: &[u8], histories: &Vec<Vec<Operation>>) -> u128
+    ensures { result ≡ times_received time prio message.now histories.now.items }
 {
     let mut count: u128 = 0;
     for operations in histories {
-        count += u128::from(receives_in(prio, message, returned(operations)));
+        count += u128::from(receives_in(prio, message, returned_by(time, operations)));
     }
     count
 }
 
-// A message that was sent or received, with its priority, and whether it was received.
-type Use<'h> = (u32, &'h [u8], bool);
+// The begin of a send or the return of a receive: the priority and the message, the time, and
+// whether the message was received.
+type Use<'h> = (u32, &'h [u8], u64, bool);
 
-// The sends and the receives that count, sorted by message, with the sends of each message first.
+// The sends and the receives that count, sorted by message and then by time. At one time the sends
+// come first.
 fn uses_of(alloc: Global, histories: &Vec<Vec<Operation>>) -> Result<Vec<Use>, AllocError> {
     let mut uses: Vec<Use> = Vec::new(alloc);
     for operations in histories {
         for operation in operations {
             if operation.call.is_send() && may_have_sent(&operation.outcome) {
                 let prio = operation.call.priority();
-                uses.push((prio, operation.given.as_slice(), false))?;
+                uses.push((prio, operation.given.as_slice(), operation.begin, false))?;
             }
-        }
-        for operation in returned(operations) {
             if let Outcome::Got { prio, message } = &operation.outcome {
-                uses.push((*prio, message.as_slice(), true))?;
+                uses.push((*prio, message.as_slice(), operation.end, true))?;
             }
         }
     }
@@ -148,12 +157,12 @@ fn uses_of(alloc: Global, histories: &Vec<Vec<Operation>>) -> Result<Vec<Use>, A
     Ok(uses)
 }
 
-// The first of these receives for which there is no send.
+// The first of these receives for which no send had begun.
 fn suspect<'u, 'h>(uses: &'u Vec<Use<'h>>) -> Option<&'u Use<'h>> {
     let mut left: u64 = 0;
     let mut last: (u32, &[u8]) = (0, &[]);
     for one in uses {
-        let (prio, message, is_received) = *one;
+        let (prio, message, _, is_received) = *one;
         if last.0 != prio || last.1 != message {
             left = 0;
             last = (prio, message);
@@ -169,17 +178,18 @@ fn suspect<'u, 'h>(uses: &'u Vec<Use<'h>>) -> Option<&'u Use<'h>> {
     None
 }
 
-// The message with its counts, if it was received more often than it was sent.
+// The message with its counts, if it was received more often than it was sent up to this time.
 fn excess_of(
     alloc: Global,
+    time: u64,
     prio: u32,
     message: &[u8],
     histories: &Vec<Vec<Operation>>,
 ) -> Result<Option<Excess>, AllocError>
     ensures { IfOk result (λ found. IfSome found (IsExcess histories.now.items)) }
 {
-    let received = times_received(prio, message, histories);
-    let sent = times_sent(prio, message, histories);
+    let received = times_received(time, prio, message, histories);
+    let sent = times_sent(time, prio, message, histories);
     if sent >= received {
         return Ok(None);
     }
@@ -187,13 +197,14 @@ fn excess_of(
     Ok(Some(Excess {
         prio,
         message,
+        time,
         received,
         sent,
     }))
 }
 
-/// A message that was received more often than it was sent, if one is found. Such a history has no
-/// linearization.
+/// A message that was received more often than it was sent up to a time, if one is found. Such a
+/// history has no linearization.
 pub fn find_excess(
     alloc: Global,
     histories: &Vec<Vec<Operation>>,
@@ -204,6 +215,6 @@ pub fn find_excess(
     let uses = uses_of(alloc, histories)?;
     match suspect(&uses) {
         None => Ok(None),
-        Some((prio, message, _)) => excess_of(alloc, *prio, message, histories),
+        Some((prio, message, time, _)) => excess_of(alloc, *time, *prio, message, histories),
     }
 }
