@@ -3,4 +3,8 @@ pub mod Totals
 pub mod Cutting
 pub mod Completing
 pub mod Tracing
+pub mod Accepting
+pub mod Taking
+pub mod OneQueue
 pub mod Refuting
+pub mod Passing

@@ -1,1 +1,3 @@
 pub mod Excess
+pub mod Passed
+pub mod Contradiction
