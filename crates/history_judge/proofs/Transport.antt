@@ -18,11 +18,11 @@ use Rattle.histories.specs.Histories.{Histories, are_through, completed, current
 use Rattle.histories.specs.Linearizations.{ComesFrom, IsCallOf, IsLinearization, IsWithdrawalOf}
 use Rattle.journal_format.specs.Text.{journal_text}
 use Rattle.histories.proofs.RealTime.{linearization-agrees}
-use Rattle.refutations.specs.Excess.{IsExcess}
-use Rattle.refutations.specs.declared.excess.Excess.{Excess}
+use Rattle.refutations.specs.Contradiction.{IsContradiction}
+use Rattle.refutations.specs.declared.contradiction.Contradiction.{Contradiction}
 use Rattle.history_judge.specs.Text.{message_of, written_reply}
 use Rattle.history_judge.specs.Seen.{AreSameCalls, AreSameOperations, Seen, seen}
-use Rattle.history_judge.specs.Verdicts.{AreHistoriesOf, Explains, HasExcess, IsAnswer, IsExplainedBy, IsImpossible, UsesUp}
+use Rattle.history_judge.specs.Verdicts.{AreHistoriesOf, Explains, HasContradiction, IsAnswer, IsExplainedBy, IsImpossible, UsesUp}
 use Rattle.history_judge.specs.declared.line.Called.{Called}
 use Rattle.history_judge.specs.declared.judgement.Answer.{Answer}
 use Rattle.history_judge.specs.declared.judgement.Answer.TheVariants as answer
@@ -234,9 +234,9 @@ explained-alike xs ys text same by = record {
 pub uses-up-alike : (budget : ℕ) (xs ys : List Called) → AreSameCalls xs ys → UsesUp budget xs → UsesUp budget ys
 uses-up-alike budget xs ys same u = record { histories = u.histories; are = histories-alike xs ys same u.histories u.are; takes = u.takes }
 
-pub excess-alike : (xs ys : List Called) → AreSameCalls xs ys → (histories : Histories) → AreHistoriesOf xs histories → (found : Option Excess) → IfSome found (IsExcess histories) → IfSome found (HasExcess ys)
-excess-alike xs ys same histories are None is = is
-excess-alike xs ys same histories are (Some e) is = record { histories = histories; are = histories-alike xs ys same histories are; excess = is }
+pub contradiction-alike : (xs ys : List Called) → AreSameCalls xs ys → (histories : Histories) → AreHistoriesOf xs histories → (found : Option Contradiction) → IfSome found (IsContradiction histories) → IfSome found (HasContradiction ys)
+contradiction-alike xs ys same histories are None is = is
+contradiction-alike xs ys same histories are (Some e) is = record { histories = histories; are = histories-alike xs ys same histories are; contradiction = is }
 
 pub answer-alike : (budget : ℕ) (xs ys : List Called) → AreSameCalls xs ys → (a : Answer) → IsAnswer budget xs a → IsAnswer budget ys a
 answer-alike budget xs ys same (answer.Possible journal) is = explained-alike xs ys journal.items same is

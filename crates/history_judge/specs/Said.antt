@@ -2,7 +2,8 @@
 use Rattle.std.specs.Prelude.{ℕ, ◌+◌, ◌-◌, ◌^◌, Bool, min, List, [], ◌++◌, length, Option, None, Some, codes, if◌then◌else◌}
 use Rattle.std.specs.Fmt.{decimal}
 use Rattle.journal_format.specs.Text.{payload_text}
-use Rattle.refutations.specs.declared.excess.Excess.{Excess}
+use Rattle.refutations.specs.declared.contradiction.Contradiction.{Contradiction}
+use Rattle.refutations.specs.declared.contradiction.Contradiction.TheVariants.{Excess, Passed}
 use Rattle.history_judge.specs.Text.{history_text}
 use Rattle.history_judge.specs.Processes.{process_count}
 use Rattle.history_judge.specs.declared.line.Called.{Called}
@@ -12,7 +13,7 @@ use Rattle.history_judge.specs.declared.judgement.Judgement.TheVariants.{Possibl
 -- the exit status
 abbrev pub status_of : Judgement → ℕ
 status_of (Possible journal) = 0
-status_of (Impossible call front is_shortest excess) = 1
+status_of (Impossible call front is_shortest found) = 1
 status_of OutOfBudget = 5
 
 abbrev pub possible_line : ℕ → ℕ → List ℕ
@@ -22,24 +23,31 @@ possible_line calls processes =
 abbrev pub shortness : Bool → List ℕ
 shortness is_shortest = if is_shortest then [] else codes ", perhaps not the shortest"
 
--- a message that was received more often than it was sent, in the form of a line of a history
-abbrev pub reason : Option Excess → List ℕ
-reason None = []
-reason (Some e) =
+-- A message that was received more often than it was sent, or that lay in the queue while a
+-- receive passed over it. Messages are written as in a line of a history.
+abbrev pub contradiction_text : Contradiction → List ℕ
+contradiction_text (Excess e) =
     codes "; " ++ (decimal e.received ++ (codes " receives, " ++ (decimal e.sent ++
     (codes " sends of " ++ (decimal e.prio ++ payload_text e.message.items)))))
+contradiction_text (Passed e) =
+    codes "; " ++ (decimal e.prio ++ (payload_text e.message.items ++ (codes " lay in the queue from " ++
+    (decimal e.from ++ (codes " to " ++ decimal e.to)))))
 
-abbrev pub impossible_line : ℕ → ℕ → Bool → Option Excess → List ℕ
-impossible_line line calls is_shortest excess =
+abbrev pub reason : Option Contradiction → List ℕ
+reason None = []
+reason (Some found) = contradiction_text found
+
+abbrev pub impossible_line : ℕ → ℕ → Bool → Option Contradiction → List ℕ
+impossible_line line calls is_shortest found =
     codes "impossible: line " ++ (decimal line ++ (codes ", front part of " ++ (decimal calls ++
-    (codes " calls" ++ (shortness is_shortest ++ (reason excess ++ codes "\n"))))))
+    (codes " calls" ++ (shortness is_shortest ++ (reason found ++ codes "\n"))))))
 
 -- A line, and after it the journal that explains the history if `with_journal`, or the prefix that
 -- is not linearizable. The line of a call is counted from 1.
 abbrev pub judgement_text : List Called → Bool → Judgement → List ℕ
 judgement_text calls with_journal (Possible journal) =
     possible_line (length calls) (process_count calls) ++ (if with_journal then journal.items else [])
-judgement_text calls with_journal (Impossible call front is_shortest excess) =
-    impossible_line (min (call + 1) (2 ^ 64 - 1)) (length front.items) is_shortest excess ++
+judgement_text calls with_journal (Impossible call front is_shortest found) =
+    impossible_line (min (call + 1) (2 ^ 64 - 1)) (length front.items) is_shortest found ++
     history_text front.items
 judgement_text calls with_journal OutOfBudget = codes "undecided: the budget was used up\n"

@@ -9,8 +9,8 @@ use Rattle.histories.specs.Histories.{Histories, is_complete}
 use Rattle.histories.specs.Judgements.{TakesAllOrders}
 use Rattle.histories.specs.Linearizations.{IsLinearization}
 use Rattle.histories.specs.RealTime.{AgreesWithRealTime, EndInOrder}
-use Rattle.refutations.specs.Excess.{IsExcess}
-use Rattle.refutations.specs.declared.excess.Excess.{Excess}
+use Rattle.refutations.specs.Contradiction.{IsContradiction}
+use Rattle.refutations.specs.declared.contradiction.Contradiction.{Contradiction}
 use Rattle.history_judge.specs.Seen.{AreSameCalls, AreSameOperations, seen_call}
 use Rattle.history_judge.specs.Processes.{operations_of, process_count}
 use Rattle.history_judge.specs.Descriptors.{no_numbers, renamed}
@@ -64,16 +64,16 @@ IsAnswer budget calls answer.OutOfBudget = UsesUp budget calls
 abbrev pub are_pending : List Called → Bool
 are_pending calls = list_all (λ c. is_none c.operation.reply) (map seen_call calls)
 
--- in the operations of these calls a message was received more often than it was sent
-pub record HasExcess (calls : List Called) (e : Excess) : Type 0 where
+-- the operations of these calls have this contradiction
+pub record HasContradiction (calls : List Called) (reason : Contradiction) : Type 0 where
   pub histories : Histories
   pub are : AreHistoriesOf calls histories
-  pub excess : IsExcess histories e
+  pub contradiction : IsContradiction histories reason
 
--- The front is a prefix that is not linearizable, with this excess if one is given. It ends with
--- the return of the call; the whole history ends with the last return. If it is the shortest, the
--- prefix before it is linearizable. If it may not be, the budget was used up at a shorter prefix.
-pub record IsImpossibleFront (budget : ℕ) (calls : List Called) (call : ℕ) (front : List Called) (is_shortest : Bool) (excess : Option Excess) : Type 0 where
+-- The front is a prefix that is not linearizable, with this contradiction if one is given. It ends
+-- with the return of the call; the whole history ends with the last return. If it is the shortest,
+-- the prefix before it is linearizable. If it may not be, the budget was used up at a shorter one.
+pub record IsImpossibleFront (budget : ℕ) (calls : List Called) (call : ℕ) (front : List Called) (is_shortest : Bool) (found : Option Contradiction) : Type 0 where
   pub returns : List Return
   pub are : AreReturnsOf calls returns
   pub number : ℕ
@@ -82,12 +82,12 @@ pub record IsImpossibleFront (budget : ℕ) (calls : List Called) (call : ℕ) (
   pub of : call ≡ last.1
   pub part : AreSameCalls front (front_part calls returns number)
   pub impossible : IsImpossible (front_part calls returns number)
-  pub reason : IfSome excess (HasExcess (front_part calls returns number))
+  pub reason : IfSome found (HasContradiction (front_part calls returns number))
   pub shortest : is_shortest ≡ true → (before : ℕ) → before + 1 ≡ number → IsPossible (front_part calls returns before)
   pub unsure : is_shortest ≡ false → (before : ℕ) × (before < number) × UsesUp budget (front_part calls returns before)
 
 abbrev pub IsJudgement : ℕ → List Called → Judgement → Type 0
 IsJudgement budget calls (Possible journal) = IsExplainedBy calls journal.items
-IsJudgement budget calls (Impossible call front is_shortest excess) =
-    IsImpossibleFront budget calls call front.items is_shortest excess
+IsJudgement budget calls (Impossible call front is_shortest reason) =
+    IsImpossibleFront budget calls call front.items is_shortest reason
 IsJudgement budget calls OutOfBudget = UsesUp budget calls

@@ -3,10 +3,10 @@ ghost use Rattle.std.specs.Prelude.{◌≡◌, ◌≤◌, ◌<◌, IfOk, IfSome,
 ghost use Rattle.history_judge.specs.Seen.{AreSameCalls};
 ghost use Rattle.history_judge.specs.Fronts.{front_part};
 ghost use Rattle.history_judge.specs.Processes.{AreOfProcesses};
-ghost use Rattle.history_judge.specs.Verdicts.{AreHistoriesOf, HasExcess, IsAnswer, IsImpossible, IsJudgement, are_pending};
+ghost use Rattle.history_judge.specs.Verdicts.{AreHistoriesOf, HasContradiction, IsAnswer, IsImpossible, IsJudgement, are_pending};
 
 use crate::descriptors::rename;
-use crate::first_excess::first_excess;
+use crate::first_contradiction::{first_excess, first_passed};
 use crate::front::{front_of, returns_of, whole_of};
 use crate::hints::hints_of;
 use crate::line::Called;
@@ -15,7 +15,8 @@ use histories::judge::judge;
 use histories::linearizer::Linearizer;
 use histories::operation::Operation;
 use journal_format::text::write_journal;
-use refutations::excess::{Excess, find_excess};
+use refutations::contradiction::{Contradiction, find_contradiction};
+use refutations::passed::find_passed;
 use schedules::search::Finding;
 use std::alloc::{AllocError, Global};
 
@@ -38,8 +39,8 @@ pub fn find_order(alloc: Global, calls: Vec<Called>, budget: u64) -> Result<Answ
     ensures returned { result ≡ Ok Answer.Impossible → are_pending calls.items ≡ false }
 {
     let histories = histories_of(alloc, calls)?;
-    if let Some(excess) = find_excess(alloc, &histories)? {
-        let _excess = excess;
+    if let Some(reason) = find_contradiction(alloc, &histories)? {
+        let _reason = reason;
         return Ok(Answer::Impossible);
     }
     let hints = hints_of(alloc, &histories)?;
@@ -84,8 +85,8 @@ pub enum Judgement {
         front: Vec<Called>,
         /// Whether the prefix until the return before it is linearizable.
         is_shortest: bool,
-        /// A message that was received more often than it was sent until then, if one is found.
-        excess: Option<Excess>,
+        /// Calls until then that contradict each other, if some are found.
+        reason: Option<Contradiction>,
     },
     /// The budget was used up before either was known.
     OutOfBudget,
@@ -114,7 +115,7 @@ fn shortest(alloc: Global, calls: &[Called], budget: u64) -> Result<Judgement, A
     ensures { IfOk result (IsJudgement budget calls.now) }
 {
     let returns = returns_of(alloc, calls)?;
-    let guess = first_excess(alloc, calls, &returns)?;
+    let guess = guess(alloc, calls, &returns)?;
     // The prefix `bad` is not linearizable, and no prefix before `good` is known not to be. The
     // prefix after the last return is the whole history.
     let mut good = 0;
@@ -133,19 +134,39 @@ fn shortest(alloc: Global, calls: &[Called], budget: u64) -> Result<Judgement, A
         }
     }
     let front = front_part(alloc, calls, &returns, bad)?;
-    let excess = excess_in(alloc, calls, &returns, bad)?;
+    let reason = contradiction_in(alloc, calls, &returns, bad)?;
     let at = bad.min(returns.len().saturating_sub(1));
     let last = returns[at];
     Ok(Judgement::Impossible {
         call: last.1,
         front,
         is_shortest,
-        excess,
+        reason,
     })
 }
 
+// A guess at the shortest prefix in which calls contradict each other.
+fn guess(
+    alloc: Global,
+    calls: &[Called],
+    returns: &Vec<(u64, usize)>,
+) -> Result<Option<usize>, AllocError> {
+    let excess = first_excess(alloc, calls, returns)?;
+    let whole = whole_of(alloc, calls)?;
+    let histories = histories_of(alloc, whole)?;
+    let passed = match find_passed(alloc, &histories)? {
+        None => None,
+        Some(passed) => first_passed(calls, returns, passed.to),
+    };
+    match (excess, passed) {
+        (Some(excess), Some(passed)) => Ok(Some(excess.min(passed))),
+        (Some(excess), None) => Ok(Some(excess)),
+        (None, passed) => Ok(passed),
+    }
+}
+
 // The next prefix to check, from `good` on and before `bad`. It is the guess at the shortest one
-// with an excess; if that is `bad`, it is the one before; otherwise it is one in the middle.
+// with a contradiction; if that is `bad`, it is the one before; otherwise it is one in the middle.
 fn next_to_try(good: usize, bad: usize, guess: Option<usize>) -> usize
     requires { good < bad }
     ensures { (good ≤ result) × (result < bad) }
@@ -164,20 +185,19 @@ fn next_to_try(good: usize, bad: usize, guess: Option<usize>) -> usize
     }
 }
 
-// A message that was received more often than it was sent in the prefix with this index, if one is
-// found.
-fn excess_in(
+// Calls that contradict each other in the prefix with this index, if some are found.
+fn contradiction_in(
     alloc: Global,
     calls: &[Called],
     returns: &Vec<(u64, usize)>,
     number: usize,
-) -> Result<Option<Excess>, AllocError>
+) -> Result<Option<Contradiction>, AllocError>
     ensures { IfOk result (λ found.
-        IfSome found (HasExcess (front_part calls.now returns.now.items number))) }
+        IfSome found (HasContradiction (front_part calls.now returns.now.items number))) }
 {
     let front = front_part(alloc, calls, returns, number)?;
     let histories = histories_of(alloc, front)?;
-    find_excess(alloc, &histories)
+    find_contradiction(alloc, &histories)
 }
 
 // The prefix with this index: until a return, or the whole history.

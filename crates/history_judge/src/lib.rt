@@ -4,7 +4,7 @@
 
 pub mod contents;
 pub mod descriptors;
-mod first_excess;
+mod first_contradiction;
 mod fitting;
 pub mod front;
 pub mod heuristic;

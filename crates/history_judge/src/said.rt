@@ -1,13 +1,16 @@
 //! The text of the result of checking a history.
 ghost use Rattle.std.specs.Prelude.{◌≡◌, IfOk, Some, string_bytes};
-ghost use Rattle.history_judge.specs.Said.{impossible_line, judgement_text, possible_line, reason, shortness, status_of};
+ghost use Rattle.refutations.specs.declared.contradiction.Contradiction.TheVariants as contradiction;
+ghost use Rattle.history_judge.specs.Said.{contradiction_text, impossible_line, judgement_text, possible_line, reason, shortness, status_of};
 
 use crate::judgement::Judgement;
 use crate::line::Called;
 use crate::processes::process_count;
 use crate::text::write_history;
 use journal_format::payload::payload_text;
+use refutations::contradiction::Contradiction;
 use refutations::excess::Excess;
+use refutations::passed::Passed;
 use std::alloc::{AllocError, Global};
 
 // The line for a linearizable history.
@@ -28,18 +31,31 @@ fn shortness(is_shortest: bool) -> &'static str
     }
 }
 
-// A message that was received more often than it was sent.
-fn reason(alloc: Global, excess: &Option<Excess>) -> Result<String, AllocError>
-    ensures { IfOk result (λ text. string_bytes text ≡ reason excess.now) }
+// Why there is no linearization, if it is known.
+fn reason(alloc: Global, found: &Option<Contradiction>) -> Result<String, AllocError>
+    ensures { IfOk result (λ text. string_bytes text ≡ reason found.now) }
 {
-    match excess {
+    match found {
         None => Ok(String::new(alloc)),
-        Some(excess) => excess_text(alloc, excess),
+        Some(Contradiction::Excess(excess)) => excess_text(alloc, excess),
+        Some(Contradiction::Passed(passed)) => passed_text(alloc, passed),
     }
 }
 
+fn passed_text(alloc: Global, passed: &Passed) -> Result<String, AllocError>
+    ensures { IfOk result (λ text.
+        string_bytes text ≡ contradiction_text (contradiction.Passed passed.now)) }
+{
+    let prio = passed.prio;
+    let message = payload_text(alloc, &passed.message)?;
+    let from = passed.from;
+    let to = passed.to;
+    format!(in alloc; "; {prio}{message} lay in the queue from {from} to {to}")
+}
+
 fn excess_text(alloc: Global, excess: &Excess) -> Result<String, AllocError>
-    ensures { IfOk result (λ text. string_bytes text ≡ reason (Some excess.now)) }
+    ensures { IfOk result (λ text.
+        string_bytes text ≡ contradiction_text (contradiction.Excess excess.now)) }
 {
     let received = excess.received;
     let sent = excess.sent;
@@ -54,13 +70,13 @@ fn impossible_line(
     line: u64,
     calls: usize,
     is_shortest: bool,
-    excess: &Option<Excess>,
+    found: &Option<Contradiction>,
 ) -> Result<String, AllocError>
     ensures { IfOk result (λ text.
-        string_bytes text ≡ impossible_line line calls is_shortest excess.now) }
+        string_bytes text ≡ impossible_line line calls is_shortest found.now) }
 {
     let known = shortness(is_shortest);
-    let reason = reason(alloc, excess)?;
+    let reason = reason(alloc, found)?;
     format!(in alloc; "impossible: line {line}, front part of {calls} calls{known}{reason}\n")
 }
 
@@ -88,10 +104,10 @@ pub fn judgement_text(
             call,
             front,
             is_shortest,
-            excess,
+            reason,
         } => {
             let number = (*call as u64).saturating_add(1);
-            let line = impossible_line(alloc, number, front.len(), *is_shortest, excess)?;
+            let line = impossible_line(alloc, number, front.len(), *is_shortest, reason)?;
             text.extend_from_slice(line.as_bytes())?;
             let history = write_history(alloc, front)?;
             text.extend_from_slice(&history)?;

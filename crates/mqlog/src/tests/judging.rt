@@ -66,7 +66,7 @@ static TURNED: [(&str, &str, &str); 8] = [
          1 20 40 send 3 0 0 -> ok\n\
          2 0 15 open bcn limits 2 8 \"/q\" -> fd 3\n\
          2 41 50 recv 3 8 -> EAGAIN\n",
-        "impossible: line 4, front part of 4 calls\n",
+        "impossible: line 4, front part of 4 calls; 0 lay in the queue from 40 to 50\n",
     ),
     // A message that was sent twice and received twice, and one that was sent once and received
     // twice.
@@ -115,7 +115,7 @@ static TURNED: [(&str, &str, &str); 8] = [
          1 40 50 send 3 2 1 \"b\" -> ok\n\
          2 0 15 open b \"/q\" -> fd 3\n\
          2 55 60 recv 3 8 -> got 1 \"a\"\n",
-        "impossible: line 5, front part of 5 calls\n",
+        "impossible: line 5, front part of 5 calls; 2 \"b\" lay in the queue from 50 to 60\n",
     ),
     // Calls that never returned: a send whose message was received, and a send that began after
     // that receive returned.
@@ -140,7 +140,7 @@ static TURNED: [(&str, &str, &str); 8] = [
         "1 0 10 open bc limits 2 8 \"/q\" -> fd 3\n\
          1 12 15 send 3 1 1 \"a\" -> ok\n\
          1 20 30 trecv 3 8 until 5 0 at 4 0 -> ETIMEDOUT\n",
-        "impossible: line 3, front part of 3 calls\n",
+        "impossible: line 3, front part of 3 calls; 1 \"a\" lay in the queue from 15 to 30\n",
     ),
 ];
 

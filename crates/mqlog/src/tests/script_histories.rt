@@ -121,7 +121,7 @@ static TURNED: [(&str, &str); 5] = [
     ),
     (
         "2 9 10 recv 0 8 -> got 1 \"a\"\n2 11 12 recv 0 8 -> EAGAIN\n",
-        "impossible: line 6, front part of 6 calls\n",
+        "impossible: line 6, front part of 6 calls; 1 \"b\" lay in the queue from 6 to 12\n",
     ),
     (
         "2 9 10 recv 0 8 -> got 1 \"a\"\n2 11 12 recv 0 8 -> got 1 \"a\"\n",

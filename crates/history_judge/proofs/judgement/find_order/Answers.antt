@@ -20,12 +20,12 @@ returns-in-Found-clause-answer c =
 
 pub returns-in-Some-clause-answer : goal.returns-in-Some-clause-answer
 returns-in-Some-clause-answer c =
-    let none = rw c.in-Some.is at c.in_ok-excess.ensures.none in
+    let none = rw c.in-Some.is at c.in_ok-reason.ensures.none in
     is-impossible c.args.calls.items c.in_ok-histories.histories.items c.in_ok-histories.ensures.are (none refl)
 
 pub returns-in-Some-clause-returned : goal.returns-in-Some-clause-returned
 returns-in-Some-clause-returned c is =
-    let none = rw c.in-Some.is at c.in_ok-excess.ensures.none in
+    let none = rw c.in-Some.is at c.in_ok-reason.ensures.none in
     not-pending c.args.calls.items c.in_ok-histories.histories.items c.in_ok-histories.ensures.are (none refl [] tt)
 
 pub returns-in-Nothing-clause-answer : goal.returns-in-Nothing-clause-answer

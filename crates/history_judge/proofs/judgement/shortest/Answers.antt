@@ -94,7 +94,7 @@ returns c =
       of = refl;
       part = c.in_ok-front.ensures;
       impossible = was.impossible;
-      reason = c.in_ok-excess.ensures;
+      reason = c.in_ok-reason.ensures;
       unsure = λ f. let old = was.unsure f in let below = old.1 in (old.0, omega (arith, below, was.order), old.2);
       shortest = λ t before next. was.shortest t before (let e : before + 1 ≡ c.loop-good.good = omega (arith, next, was.order) in e);
     }

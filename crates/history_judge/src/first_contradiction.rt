@@ -1,4 +1,4 @@
-//! The first place at which a message may have been received more often than it was sent.
+//! The first prefix in which calls may contradict each other.
 use crate::line::Called;
 use histories::operation::Outcome;
 use refutations::excess::may_have_sent;
@@ -76,4 +76,20 @@ fn message_of(called: &Called) -> Message {
 // The index of the return of this call.
 fn place_of(returns: &Vec<(u64, usize)>, index: usize) -> Option<usize> {
     returns.iter().position(|one| one.1 == index)
+}
+
+/// The index of the first prefix in which each receive that began by `to` has returned. There a
+/// receive until `to` that passed over a message contradicts the others. It is a guess, so the
+/// caller checks that prefix.
+pub fn first_passed(calls: &[Called], returns: &Vec<(u64, usize)>, to: u64) -> Option<usize> {
+    let mut last = to;
+    for called in calls {
+        if called.operation.call.is_receive() && called.operation.begin <= to {
+            last = last.max(called.operation.end);
+        }
+    }
+    match returns.iter().position(|one| last < one.0) {
+        Some(behind) => behind.checked_sub(1),
+        None => returns.len().checked_sub(1),
+    }
 }
