@@ -35,7 +35,7 @@ use Rattle.histories.specs.Outcomes.{completes, fits, is_handed}
 use Rattle.histories.specs.RealTime.{operation_at}
 use Rattle.refutations.specs.Passed.{has_sent, is_done}
 use Rattle.refutations.proofs.Completing.{completed-other, completed-own, added, sent-payload}
-use Rattle.refutations.proofs.Cutting.{AreBegun}
+use Rattle.refutations.proofs.Cutting.{AreBegun, Ends}
 use Rattle.refutations.proofs.Tracing.{legal-linear, own-call, waits-for}
 
 -- the record at this place is of a send of this message
@@ -68,7 +68,7 @@ handed-more past r q m h = split (hands_over r.entry.call r.entry.reply && is_on
     (λ t. rw t (or-right (length past == m) _ h))
     (λ f. rw f h)
 
-accepted-more : (past : Past) (r : Record) (q m : ℕ) → is_accepted past q m ≡ true → is_accepted (r ∷ past) q m ≡ true
+pub accepted-more : (past : Past) (r : Record) (q m : ℕ) → is_accepted past q m ≡ true → is_accepted (r ∷ past) q m ≡ true
 accepted-more past r q m h = split (is_in (admitted past q) m)
     (λ t. or-left _ _ (with-more (entered past r.entry q) (admitted past q) m t))
     (λ f. let old : is_in (handed past q) m ≡ true = rw f at h in or-right (is_in (admitted (r ∷ past) q) m) _ (handed-more past r q m old))
@@ -302,4 +302,19 @@ completed-accepted time histories (r ∷ past) linear begun index k o prio messa
       let same : from.operation ≡ o = cc in
       completing-accepted histories past linear.0 time begun.0 r linear.1 from prio message (subst (λ (x : Operation). Sends x prio message) (sym same) (sends-of o prio message sent)) goes))
       (λ other. let same = completed-other past r (index + 1) (λ e. let k : (r.entry.process == index + 1) ≡ true = eq-eqb _ _ e in let bad : true ≡ false = sym k ∙ other in cc) in absurd (omega (arith, same, below, after)))
+]
+
+-- what was accepted stays accepted
+pub accepted-later : (before past : Past) (q m : ℕ) → Ends before past → is_accepted before q m ≡ true → is_accepted past q m ≡ true
+accepted-later before [] q m ends h = subst (λ (x : Past). is_accepted x q m ≡ true) ends h
+accepted-later before (r ∷ past) q m ends h = elim ends [
+  | inl same ↦ subst (λ (x : Past). is_accepted x q m ≡ true) same h
+  | inr older ↦ accepted-more past r q m (accepted-later before past q m older h)
+]
+
+pub of-later : (before past : Past) (m prio : ℕ) (message : List ℕ) → Ends before past → IsOf before m prio message → IsOf past m prio message
+of-later before [] m prio message ends h = subst (λ (x : Past). IsOf x m prio message) ends h
+of-later before (r ∷ past) m prio message ends h = elim ends [
+  | inl same ↦ subst (λ (x : Past). IsOf x m prio message) same h
+  | inr older ↦ of-older past r m prio message (of-later before past m prio message older h)
 ]

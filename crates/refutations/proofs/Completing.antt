@@ -143,7 +143,7 @@ sent-payload Collect y given send sent = absurd (let bad : false ≡ true = send
 sent-payload (Withdraw now) y given send sent = absurd (let bad : false ≡ true = send in cc)
 
 -- the operation of a record that sends the message sends it
-sending-operation : (past : Past) (r : Record) (operation : Operation) (prio : ℕ) (message : List ℕ) → IsCallOf r operation → fits past r.entry.reply operation.outcome ≡ true →
+pub sending-operation : (past : Past) (r : Record) (operation : Operation) (prio : ℕ) (message : List ℕ) → IsCallOf r operation → fits past r.entry.reply operation.outcome ≡ true →
     is_sending prio message r ≡ true → sends prio message operation ≡ true
 sending-operation past r operation prio message is fit sending =
     let one = and_parts (is_send r.entry.call && is_sent r.entry.reply && priority_given r.entry.call == prio) (bytes_eq r.payload message) sending in

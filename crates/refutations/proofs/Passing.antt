@@ -1,5 +1,5 @@
 -- A history in which a receive passed over a message has no linearization.
-use Rattle.std.proofs.Common.{◌≡◌, ℕ, ◌+◌, ◌-◌, ◌≤◌, ◌<◌, ◌==◌, zero, suc, Bool, true, false, not, ◌&&◌, ◌||◌, List, [], ◌∷◌, length, take, Option, Some, None, is_some, Vec, ◌⊎◌, inl, inr, refl, sym, ◌∙◌, ap, subst, arith, slice_get, nat_le, nat_lt, eqb-true, ltb-true, if◌then◌else◌}
+use Rattle.std.proofs.Common.{◌≡◌, ℕ, ◌+◌, ◌-◌, ◌≤◌, ◌<◌, ◌==◌, zero, suc, Bool, true, false, not, ◌&&◌, ◌||◌, List, [], ◌∷◌, length, take, Option, Some, None, is_some, Vec, ◌⊎◌, inl, inr, refl, sym, ◌∙◌, ap, subst, arith, slice_get, nat_le, nat_lt, eqb-true, eq-eqb, ltb-true, leb-false, IfSome, if◌then◌else◌}
 use Rattle.std.specs.Option.{option_map}
 use Rattle.std.specs.List.{list_all, list_any}
 use Rattle.std.specs.Prelude.{int_lt, pos}
@@ -11,7 +11,7 @@ use Rattle.mq_model.specs.Record.{Record, Past, record_at}
 use Rattle.mq_model.specs.Descriptors.{created, held}
 use Rattle.mq_model.specs.ErrorOrder.{found_reply, is_write_only, timed_reply}
 use Rattle.mq_model.specs.Legality.{IsLegalNext, Legal, reply_to, reply_to_receive}
-use Rattle.mq_model.specs.Messages.{best, goes_first, is_in, is_receive, present, priority, taken}
+use Rattle.mq_model.specs.Messages.{best, goes_first, is_in, is_receive, present, priority, priority_given, taken}
 use Rattle.mq_model.specs.Names.{attributes}
 use Rattle.mq_model.specs.Waits.{open_wait}
 use Rattle.mq_model.specs.declared.entries.Call.{Call}
@@ -23,28 +23,36 @@ use Rattle.mq_model.specs.declared.entries.Reply.TheVariants as reply
 use Rattle.mq_model.specs.declared.faults.Fault.{Fault}
 use Rattle.mq_model.specs.declared.faults.Fault.TheVariants.{Again, BadDescriptor, MessageSize, TimedOut}
 use Rattle.mq_model.proofs.Best.{best-none, find-test}
-use Rattle.mq_model.proofs.Cases.{either}
+use Rattle.mq_model.proofs.Cases.{Says, either}
 use Rattle.mq_model.proofs.HeldQueues.{created-held}
-use Rattle.mq_model.proofs.Places.{split}
+use Rattle.mq_model.proofs.Places.{find-in, split}
 use Rattle.mq_model.proofs.PresentFew.{present-created}
+use Rattle.mq_model.proofs.LegalReplies.{got_says, legal_says}
+use Rattle.mq_model.proofs.Prefixes.{record_at-below}
+use Rattle.mq_model.proofs.Presence.{present-admitted}
+use Rattle.mq_laws.proofs.SentMessages.{admitted-sent}
+use Rattle.refutations.proofs.Giving.{is_sending}
+use Rattle.std.specs.Str.{bytes_eq}
+use Rattle.std.proofs.lemmas.Slice.Eq.{bytes_eq-Decides}
 use Rattle.mq_laws.proofs.GoneQueues.{present-or-taken}
 use Rattle.histories.specs.OwnCalls.{made}
 use Rattle.histories.specs.declared.operation.Operation.{Operation}
 use Rattle.histories.specs.declared.operation.Outcome.{Outcome}
 use Rattle.histories.specs.declared.operation.Outcome.TheVariants.{Pending, Done, Opened, Got, Attributes, Notice, Refused}
-use Rattle.histories.specs.Histories.{Histories, completed, current_of, is_complete, is_through}
-use Rattle.histories.specs.Linearizations.{IsCallOf}
-use Rattle.histories.specs.Outcomes.{fits, has_priority, is_message}
+use Rattle.histories.specs.Histories.{Histories, completed, current_of, is_complete, is_through, none_ended}
+use Rattle.histories.specs.Linearizations.{ComesFrom, IsCallOf, IsLinearization}
+use Rattle.histories.specs.Outcomes.{fits, has_bytes, has_priority, is_message}
 use Rattle.histories.specs.RealTime.{operation_at}
-use Rattle.refutations.specs.Excess.{HasNoOrder, returned_by}
-use Rattle.refutations.specs.Passed.{IsPassed, has_returned, has_sent, may_receive, passes, passes_over, says_empty}
+use Rattle.refutations.specs.Excess.{HasNoOrder, has_got, returned_by, sends_by}
+use Rattle.refutations.specs.Passed.{IsPassed, got_other, has_any, has_returned, has_sent, may_receive, passes, passes_over, says_empty}
 use Rattle.refutations.specs.declared.passed.Passed.{Passed}
-use Rattle.refutations.proofs.Accepting.{completed-accepted}
-use Rattle.refutations.proofs.Cutting.{cut, ends-older, ends-trans, is_through_by, none-left, through-each}
+use Rattle.refutations.proofs.Accepting.{HasAccepted, IsOf, accepted-later, completed-accepted, ending-reply, of-later}
+use Rattle.refutations.proofs.Completing.{sending-operation}
+use Rattle.refutations.proofs.Cutting.{AreBegun, Ends, cut, ends-older, ends-trans, is_through_by, none-left, through-each}
 use Rattle.refutations.proofs.OneQueue.{none-has, one-queue}
 use Rattle.refutations.proofs.Refuting.{count_returned, returned-completed}
 use Rattle.refutations.proofs.Taking.{taker}
-use Rattle.refutations.proofs.Tracing.{legal-linear, made-record}
+use Rattle.refutations.proofs.Tracing.{legal-linear, made-record, own-call, record-with}
 
 -- an operation that a test finds among those that had returned by a time
 record HasFound (time : ℕ) (test : Operation → Bool) (histories : Histories) : Type 0 where
@@ -190,10 +198,9 @@ finds-passes-not past prio reply.Done x finds fit pass = finds
 -- the theorem ------------------------------------------------------------------------------------------------------------
 
 -- a receive before which the message is in the only queue
-receive-contradicts : (past : Past) (r : Record) (o : Operation) → Legal past → IsLegalNext past r → IsCallOf r o → (q m prio : ℕ) → is_in (present past q) m ≡ true → priority past m ≡ prio →
-    ((k : ℕ) → is_in (created past) k ≡ true → k ≡ q) → fits past r.entry.reply o.outcome ≡ true → is_receive o.call ≡ true → passes prio o.outcome ≡ true → ⊥
-receive-contradicts past r o legal next call q m prio there same only fit receive pass =
-    finds-passes-not past prio r.entry.reply o.outcome (by r.entry.call refl (ap is_receive call.call ∙ receive)) fit pass
+finds-now : (past : Past) (r : Record) (o : Operation) → Legal past → IsLegalNext past r → IsCallOf r o → (q m prio : ℕ) → is_in (present past q) m ≡ true → priority past m ≡ prio →
+    ((k : ℕ) → is_in (created past) k ≡ true → k ≡ q) → is_receive o.call ≡ true → Finds past prio r.entry.reply
+finds-now past r o legal next call q m prio there same only receive = by r.entry.call refl (ap is_receive call.call ∙ receive)
   where
     on : (d : ℕ) (h : Description) → held past r.entry.process d ≡ Some h → h.queue ≡ q
     on d h is = only h.queue (created-held past legal r.entry.process d h is)
@@ -209,6 +216,11 @@ receive-contradicts past r o legal next call q m prio there same only fit receiv
         subst (λ (y : Reply). Finds past prio y) is finds
     by _ c e = absurd (let bad : false ≡ true = e in cc)
 
+receive-contradicts : (past : Past) (r : Record) (o : Operation) → Legal past → IsLegalNext past r → IsCallOf r o → (q m prio : ℕ) → is_in (present past q) m ≡ true → priority past m ≡ prio →
+    ((k : ℕ) → is_in (created past) k ≡ true → k ≡ q) → fits past r.entry.reply o.outcome ≡ true → is_receive o.call ≡ true → passes prio o.outcome ≡ true → ⊥
+receive-contradicts past r o legal next call q m prio there same only fit receive pass =
+    finds-passes-not past prio r.entry.reply o.outcome (finds-now past r o legal next call q m prio there same only receive) fit pass
+
 completed-made : (past : Past) (p : ℕ) → completed past p ≤ made past p
 completed-made past p = by (is_some (open_wait past p))
   where
@@ -216,36 +228,173 @@ completed-made past p = by (is_some (open_wait past p))
     by true = omega arith
     by false = omega arith
 
--- what is in the queue before the call of the receive
+-- a receive of the history, with what was made before it
+record IsReceive (e : Passed) (histories : Histories) (full past : Past) (r : Record) (o : Operation) : Type 0 where
+  pub linear : IsLinearization histories (r ∷ past)
+  pub begun : AreBegun e.to histories (r ∷ past) linear
+  pub call : IsCallOf r o
+  pub fits : fits past r.entry.reply o.outcome ≡ true
+  pub receive : is_receive o.call ≡ true
+  pub whole : IsLinearization histories full
+  pub inside : Ends past full
+  pub complete : is_complete histories full ≡ true
+
+-- a message that was accepted before a receive is still in its queue
+record IsThere (past : Past) (prio m q : ℕ) : Type 0 where
+  pub there : is_in (present past q) m ≡ true
+  pub same : priority past m ≡ prio
+
+still-there : (histories : Histories) (e : Passed) → IsPassed histories e → (full past : Past) (r : Record) (o : Operation) → IsReceive e histories full past r o → (acc : HasAccepted past e.prio e.message.items) → IsThere past e.prio acc.m acc.q
+still-there histories e is full past r o x acc = split (is_in (taken past) acc.m)
+    (λ t.
+    let y = taker e.to histories full past x.linear.0 x.begun.0 x.whole x.inside (through-all histories full x.complete) acc.m e.prio e.message.items acc.of t in
+    let no = none-has (may_receive e.to e.prio e.message.items) histories y.index y.k y.operation is.stays y.is in
+    let bad : true ≡ false = sym y.may ∙ no in absurd (cc))
+    (λ f. record { there = present-or-taken past acc.q acc.m acc.accepted ∙ ap not f; same = rw acc.of.at acc.of.priority })
+
+only-queue : (histories : Histories) (e : Passed) → IsPassed histories e → (full past : Past) (r : Record) (o : Operation) → IsReceive e histories full past r o → (q m : ℕ) → is_in (present past q) m ≡ true → (k : ℕ) → is_in (created past) k ≡ true → k ≡ q
+only-queue histories e is full past r o x q m there k other =
+    one-queue e.to e.name.items histories past x.linear.0 x.begun.0 is.one_queue k q other (present-created past (legal-linear histories past x.linear.0) q m there)
+
+-- the send of the message had returned before a record of what began later
+sent-before : (histories : Histories) (e : Passed) → IsPassed histories e → (past : Past) (linear : IsLinearization histories past) → AreBegun e.to histories past linear → (begin : ℕ) → e.from < begin → none_ended histories past begin (length histories) ≡ true → HasAccepted past e.prio e.message.items
+sent-before histories e is past linear begun begin later in_time =
+    let sender = found e.from (has_sent e.prio e.message.items) histories is.sent in
+    let within = slice_get_within histories sender.index sender.v sender.has in
+    let before = none-left histories past begin e.from (length histories) sender.index in_time later within in
+    let sent = found-completed e.from (has_sent e.prio e.message.items) histories past sender before in
+    completed-accepted e.to histories past linear begun sender.index sender.k sender.operation e.prio e.message.items (found-at e.from (has_sent e.prio e.message.items) histories sender) sender.passes sent
+
+-- a receive that finds no message of this priority or a higher one
+lower-not : (histories : Histories) (e : Passed) → IsPassed histories e → (full past : Past) (r : Record) (o : Operation) → IsReceive e histories full past r o → HasAccepted past e.prio e.message.items → passes e.prio o.outcome ≡ true → ⊥
+lower-not histories e is full past r o x acc pass =
+    let there = still-there histories e is full past r o x acc in
+    receive-contradicts past r o (legal-linear histories past x.linear.0) x.linear.1 x.call acc.q acc.m e.prio there.there there.same
+    (only-queue histories e is full past r o x acc.q acc.m there.there) x.fits x.receive pass
+
+-- a receive that gets a message of the priority that was sent later ------------------------------------------------------
+
+-- the reply gives a message that goes before all others of its queue
+record GivesFirst (past : Past) (prio : ℕ) (bytes : List ℕ) : Type 0 where
+  pub b : ℕ
+  pub q : ℕ
+  pub there : is_in (present past q) b ≡ true
+  pub all : list_all (goes_first past b) (present past q) ≡ true
+  pub of : IsOf past b prio bytes
+
+of-message : (past : Past) (b prio : ℕ) (bytes : List ℕ) → is_message past b prio bytes ≡ true → IsOf past b prio bytes
+of-message past b prio bytes e = by (record_at past b) refl (and_parts _ _ e)
+  where
+    by : (o : Option Record) → record_at past b ≡ o → (has_priority (option_map (λ (r : Record). r.entry) o) prio ≡ true) × (has_bytes (option_map (λ (r : Record). r.payload) o) bytes ≡ true) → IsOf past b prio bytes
+    by None is parts = absurd (let bad : false ≡ true = parts.0 in cc)
+    by (Some r) is parts = record { r = r; at = is; priority = eqb-true _ _ parts.0; bytes = (bytes_eq-Decides r.payload bytes).0 parts.1 }
+
+-- a receive that finds a message waits for none, so what it got is in its queue
+gives-first : (past : Past) (r : Record) (o : Operation) → Legal past → IsLegalNext past r → IsCallOf r o → (q m prio : ℕ) (bytes : List ℕ) → is_in (present past q) m ≡ true → priority past m ≡ prio → ((k : ℕ) → is_in (created past) k ≡ true → k ≡ q) →
+    fits past r.entry.reply o.outcome ≡ true → is_receive o.call ≡ true → has_got prio bytes o.outcome ≡ true → GivesFirst past prio bytes
+gives-first past r o legal next call q m prio bytes there same only fit receive got =
+    by r.entry.reply refl (finds-now past r o legal next call q m prio there same only receive) o.outcome fit got
+  where
+    first_of : (b : ℕ) (a n : Option ℕ) → r.entry.reply ≡ reply.Got b a n → is_message past b prio bytes ≡ true → GivesFirst past prio bytes
+    first_of b a n is e =
+        let says : Says past r.entry.process r.entry.call (reply.Got b a n) = subst (λ (y : Reply). Says past r.entry.process r.entry.call y) is (legal_says past r next) in
+        let x = got_says past r.entry.process r.entry.call b a n says in
+        let y = find-in (λ (k : ℕ). list_all (goes_first past k) (present past x.2.queue)) (present past x.2.queue) b x.6 in
+        record { b = b; q = x.2.queue; there = y.0; all = y.1; of = of-message past b prio bytes e }
+
+    by : (y : Reply) → r.entry.reply ≡ y → Finds past prio y → (x : Outcome) → fits past r.entry.reply x ≡ true → has_got prio bytes x ≡ true → GivesFirst past prio bytes
+    by (reply.Got b a n) is finds (Got p other) fit got =
+        let parts = and_parts (p == prio) (bytes_eq other.items bytes) got in
+        let here : is_message past b p other.items ≡ true = rw is at fit in
+        let number : p ≡ prio = eqb-true _ _ parts.0 in
+        let equal : other.items ≡ bytes = (bytes_eq-Decides other.items bytes).0 parts.1 in
+        first_of b a n is (subst (λ (k : ℕ). is_message past b k bytes ≡ true) number (subst (λ (l : List ℕ). is_message past b p l ≡ true) equal here))
+    by (reply.Refused g) is finds (Got p other) fit got = absurd (let bad : false ≡ true = rw is at fit in cc)
+    by (reply.Opened d c) is finds x fit got = absurd finds
+    by (reply.Queued n) is finds x fit got = absurd finds
+    by (reply.Handed w) is finds x fit got = absurd finds
+    by reply.Waits is finds x fit got = absurd finds
+    by (reply.Collected c) is finds x fit got = absurd finds
+    by (reply.Withdrawn c) is finds x fit got = absurd finds
+    by (reply.Attrs s) is finds x fit got = absurd finds
+    by (reply.Notice v) is finds x fit got = absurd finds
+    by reply.Done is finds x fit got = absurd finds
+    by y is finds _ fit got = absurd (let bad : false ≡ true = got in cc)
+
+-- the send of a message that nobody had begun to send by this time came after those that had returned
+later-not : (histories : Histories) (e : Passed) → IsPassed histories e → (full past : Past) (r : Record) (o : Operation) → IsReceive e histories full past r o → HasAccepted past e.prio e.message.items →
+    (bytes : List ℕ) → has_any (sends_by e.from e.prio bytes) histories ≡ false → has_got e.prio bytes o.outcome ≡ true → ⊥
+later-not histories e is full past r o x acc bytes later got =
+    let legal = legal-linear histories past x.linear.0 in
+    let there = still-there histories e is full past r o x acc in
+    let only = only-queue histories e is full past r o x acc.q acc.m there.there in
+    let y = gives-first past r o legal x.linear.1 x.call acc.q acc.m e.prio bytes there.there there.same only x.fits x.receive got in
+    let sent = admitted-sent past y.q y.b (present-admitted past y.q y.b y.there) in
+    let both : Some y.of.r ≡ Some sent.r = sym y.of.at ∙ sent.at in
+    let same : y.of.r ≡ sent.r = cc in
+    let z = record-with e.to histories past x.linear.0 x.begun.0 y.b sent.r sent.at in
+    let from : ComesFrom histories z.before sent.r = z.linear.2 in
+    let says = legal_says z.before sent.r z.linear.1 in
+    let own = ending-reply z.before sent.r.entry.process sent.r.entry.call sent.r.entry.reply says sent.reply in
+    let call = own-call histories z.before sent.r from own in
+    let prio : priority_given sent.r.entry.call ≡ e.prio = ap (λ (s : Record). priority_given s.entry.call) (sym same) ∙ y.of.priority in
+    let payload : sent.r.payload ≡ bytes = ap (λ (s : Record). s.payload) (sym same) ∙ y.of.bytes in
+    let sending : is_sending e.prio bytes sent.r ≡ true = rw (sent.send, sent.reply, eq-eqb _ _ prio, (bytes_eq-Decides sent.r.payload bytes).1 payload) refl in
+    let sends_it = sending-operation z.before sent.r from.operation e.prio bytes call from.fits sending in
+    let none = none-has (sends_by e.from e.prio bytes) histories from.index (completed z.before (from.index + 1)) from.operation later from.is in
+    let late : nat_le from.operation.begin e.from ≡ false = split (nat_le from.operation.begin e.from)
+    (λ t. let bad : true ≡ false = rw (t, sends_it) at none in absurd (cc))
+    (λ f. f) in
+    let after = leb-false from.operation.begin e.from late in
+    let first = sent-before histories e is z.before z.linear.0 z.begun.0 from.operation.begin after from.in_time in
+    let old : Ends z.before past = ends-older sent.r z.before past z.ends in
+    let acc_old : HasAccepted past e.prio e.message.items = record { m = first.m; q = first.q; accepted = accepted-later z.before past first.q first.m old first.accepted; of = of-later z.before past first.m e.prio e.message.items old first.of } in
+    let still = still-there histories e is full past r o x acc_old in
+    let queue : y.q ≡ first.q = only-queue histories e is full past r o x first.q first.m still.there y.q (present-created past legal y.q y.b y.there) in
+    let here : is_in (present past y.q) first.m ≡ true = subst (λ (k : ℕ). is_in (present past k) first.m ≡ true) (sym queue) still.there in
+    let goes = all-at (goes_first past y.b) (present past y.q) first.m y.all here in
+    let mine : priority past y.b ≡ e.prio = rw y.of.at y.of.priority in
+    let below = record_at-below z.before first.m first.of.r first.of.at in
+    let place = z.place in
+    goes-not past y.b first.m (mine ∙ sym still.same) (omega (arith, below, place)) goes
+  where
+    goes-not : (past : Past) (b m : ℕ) → priority past b ≡ priority past m → m < b → goes_first past b m ≡ true → ⊥
+    goes-not past b m same lt e = by (priority past b) (priority past m) same lt e
+      where
+        by : (x y : ℕ) → x ≡ y → m < b → (nat_lt y x || (x == y && nat_le b m)) ≡ true → ⊥
+        by x y same lt e = grind (arith, nat_tests)
+
+-- the theorem
 pub passed-refutes : (histories : Histories) (e : Passed) → IsPassed histories e → HasNoOrder histories
 passed-refutes histories e is past linear = split (is_complete histories past)
     (λ complete.
     let c = cut e.to histories past linear complete in
-    let sender = found e.from (has_sent e.prio e.message.items) histories is.sent in
-    let receiver = found e.to (passes_over e.from e.prio) histories is.passed in
-    let sender_at = slice_get_within histories sender.index sender.v sender.has in
-    let receiver_at = slice_get_within histories receiver.index receiver.v receiver.has in
-    let received = found-completed e.to (passes_over e.from e.prio) histories c.part receiver (c.through receiver.index receiver_at) in
+    let receiver = found e.to (passes_over e.from e.prio e.other) histories is.passed in
+    let within = slice_get_within histories receiver.index receiver.v receiver.has in
+    let received = found-completed e.to (passes_over e.from e.prio e.other) histories c.part receiver (c.through receiver.index within) in
     let few = completed-made c.part (receiver.index + 1) in
-    let x = made-record e.to histories c.part c.linear c.begun receiver.index receiver.k receiver.operation (found-at e.to (passes_over e.from e.prio) histories receiver) (omega (arith, received, few)) in
-    let one = and_parts (is_receive receiver.operation.call && nat_lt e.from receiver.operation.begin) (passes e.prio receiver.operation.outcome) receiver.passes in
+    let x = made-record e.to histories c.part c.linear c.begun receiver.index receiver.k receiver.operation (found-at e.to (passes_over e.from e.prio e.other) histories receiver) (omega (arith, received, few)) in
+    let one = and_parts (is_receive receiver.operation.call && nat_lt e.from receiver.operation.begin) (passes e.prio receiver.operation.outcome || got_other e.prio e.other receiver.operation.outcome) receiver.passes in
     let two = and_parts (is_receive receiver.operation.call) (nat_lt e.from receiver.operation.begin) one.0 in
-    let later = ltb-true e.from receiver.operation.begin two.1 in
-    let before = none-left histories x.past receiver.operation.begin e.from (length histories) sender.index x.in_time later sender_at in
-    let sent = found-completed e.from (has_sent e.prio e.message.items) histories x.past sender before in
-    let legal = legal-linear histories x.past x.linear.0 in
-    let acc = completed-accepted e.to histories x.past x.linear.0 x.begun.0 sender.index sender.k sender.operation e.prio e.message.items (found-at e.from (has_sent e.prio e.message.items) histories sender) sender.passes sent in
-    let inside = ends-older x.r x.past past (ends-trans (x.r ∷ x.past) c.part past x.ends c.ends) in
-    split (is_in (taken x.past) acc.m)
-    (λ t.
-    let y = taker e.to histories past x.past x.linear.0 x.begun.0 linear inside (through-all histories past complete) acc.m e.prio e.message.items acc.of t in
-    let no = none-has (may_receive e.to e.prio e.message.items) histories y.index y.k y.operation is.stays y.is in
-    let bad : true ≡ false = sym y.may ∙ no in absurd (cc))
-    (λ f.
-    let there : is_in (present x.past acc.q) acc.m ≡ true = present-or-taken x.past acc.q acc.m acc.accepted ∙ ap not f in
-    let prio : priority x.past acc.m ≡ e.prio = rw acc.of.at acc.of.priority in
-    let made_it = present-created x.past legal acc.q acc.m there in
-    absurd (receive-contradicts x.past x.r receiver.operation legal x.linear.1 x.call acc.q acc.m e.prio there prio
-    (λ k other. one-queue e.to e.name.items histories x.past x.linear.0 x.begun.0 is.one_queue k acc.q other made_it)
-    x.fits two.0 one.1)))
+    let acc = sent-before histories e is x.past x.linear.0 x.begun.0 receiver.operation.begin (ltb-true e.from receiver.operation.begin two.1) x.in_time in
+    let it : IsReceive e histories past x.past x.r receiver.operation = record {
+      linear = x.linear;
+      begun = x.begun;
+      call = x.call;
+      fits = x.fits;
+      receive = two.0;
+      whole = linear;
+      inside = ends-older x.r x.past past (ends-trans (x.r ∷ x.past) c.part past x.ends c.ends);
+      complete = complete;
+    } in
+    split (passes e.prio receiver.operation.outcome)
+    (λ pass. absurd (lower-not histories e is past x.past x.r receiver.operation it acc pass))
+    (λ no.
+    let other : got_other e.prio e.other receiver.operation.outcome ≡ true = rw no at one.1 in
+    absurd (by-other receiver.operation.outcome e.other refl is.later other (later-not histories e is past x.past x.r receiver.operation it acc))))
     (λ f. f)
+  where
+    by-other : (x : Outcome) (other : Option (Vec ℕ Global)) → e.other ≡ other → IfSome e.other (λ (v : Vec ℕ Global). has_any (sends_by e.from e.prio v.items) histories ≡ false) → got_other e.prio e.other x ≡ true →
+        ((bytes : List ℕ) → has_any (sends_by e.from e.prio bytes) histories ≡ false → has_got e.prio bytes x ≡ true → ⊥) → ⊥
+    by-other x None same later got refutes = let bad : false ≡ true = rw same at got in cc
+    by-other x (Some v) same later got refutes = refutes v.items (rw same at later) (rw same at got)

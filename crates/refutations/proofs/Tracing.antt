@@ -156,3 +156,24 @@ made-record time histories (r ∷ past) linear begun index k operation is below 
       }))
       (λ other. let same = made-other past r (index + 1) (λ e. let k : (r.entry.process == index + 1) ≡ true = eq-eqb _ _ e in let bad : true ≡ false = sym k ∙ other in cc) in absurd (omega (arith, same, below, after)))
 ]
+
+-- a record with those before it
+pub record IsAt (time : ℕ) (histories : Histories) (past : Past) (b : ℕ) (r : Record) : Type 0 where
+  pub before : Past
+  pub linear : IsLinearization histories (r ∷ before)
+  pub begun : AreBegun time histories (r ∷ before) linear
+  pub ends : Ends (r ∷ before) past
+  pub place : length before ≡ b
+
+pub record-with : (time : ℕ) (histories : Histories) (past : Past) (linear : IsLinearization histories past) → AreBegun time histories past linear → (b : ℕ) (r : Record) → record_at past b ≡ Some r → IsAt time histories past b r
+record-with time histories [] linear begun b r at = absurd (let bad : None ≡ Some r = at in cc)
+record-with time histories (s ∷ past) linear begun b r at = split (b == length past)
+    (λ t.
+    let both : Some s ≡ Some r = rw t at at in
+    let same : s ≡ r = cc in
+    subst (λ (x : Record). IsAt time histories (s ∷ past) b x) same
+    (record { before = past; linear = linear; begun = begun; ends = inl refl; place = sym (eqb-true _ _ t) }))
+    (λ f.
+    let old : record_at past b ≡ Some r = rw f at at in
+    let x = record-with time histories past linear.0 begun.0 b r old in
+    record { before = x.before; linear = x.linear; begun = x.begun; ends = inr x.ends; place = x.place })

@@ -1,5 +1,5 @@
 -- Messages that lay in their queue while a receive passed over them.
-use Rattle.std.specs.Prelude.{◌≡◌, ℕ, Bool, false, true, not, ◌&&◌, ◌||◌, ◌==◌, nat_le, nat_lt, List, Vec}
+use Rattle.std.specs.Prelude.{◌≡◌, ℕ, Bool, false, true, not, ◌&&◌, ◌||◌, ◌==◌, nat_le, nat_lt, IfSome, List, Option, Some, None, Vec}
 use Rattle.std.specs.List.{list_any}
 use Rattle.std.specs.Str.{bytes_eq}
 use Rattle.std.specs.declared.alloc.Global.{Global}
@@ -11,7 +11,7 @@ use Rattle.histories.specs.Histories.{Histories, is_pending}
 use Rattle.histories.specs.declared.operation.Operation.{Operation}
 use Rattle.histories.specs.declared.operation.Outcome.{Outcome}
 use Rattle.histories.specs.declared.operation.Outcome.TheVariants.{Done, Got, Refused}
-use Rattle.refutations.specs.Excess.{has_got, returned_by}
+use Rattle.refutations.specs.Excess.{has_got, returned_by, sends_by}
 use Rattle.refutations.specs.declared.passed.Passed.{Passed}
 
 abbrev pub is_done : Outcome → Bool
@@ -36,9 +36,15 @@ passes prio (Got p m) = nat_lt p prio
 passes prio (Refused fault) = says_empty fault
 passes prio _ = false
 
+-- a receive with this result got this other message of the priority
+abbrev pub got_other : ℕ → Option (Vec ℕ Global) → Outcome → Bool
+got_other prio None outcome = false
+got_other prio (Some other) outcome = has_got prio other.items outcome
+
 -- such a receive, which began after this time
-abbrev pub passes_over : ℕ → ℕ → Operation → Bool
-passes_over time prio o = is_receive o.call && nat_lt time o.begin && passes prio o.outcome
+abbrev pub passes_over : ℕ → ℕ → Option (Vec ℕ Global) → Operation → Bool
+passes_over time prio other o =
+    is_receive o.call && nat_lt time o.begin && (passes prio o.outcome || got_other prio other o.outcome)
 
 -- a call that began by this time, and received this message or is a receive that had not returned
 abbrev pub may_receive : ℕ → ℕ → List ℕ → Operation → Bool
@@ -60,10 +66,12 @@ has_returned time test histories =
     list_any (λ (v : Vec Operation Global). list_any test (returned_by time v.items)) histories
 
 -- A send of the message had returned by the time `from`. A receive that began later, and had
--- returned by the time `to`, found no message of its priority or a higher one. No call that began
--- by then may have received the message, and all names of queues until then are the same.
+-- returned by the time `to`, found no message of its priority or a higher one, or got another
+-- message of the priority, of which no send had begun by `from`. No call that began by then may
+-- have received the message, and all names of queues until then are the same.
 pub record IsPassed (histories : Histories) (e : Passed) : Type 0 where
   pub sent : has_returned e.from (has_sent e.prio e.message.items) histories ≡ true
-  pub passed : has_returned e.to (passes_over e.from e.prio) histories ≡ true
+  pub passed : has_returned e.to (passes_over e.from e.prio e.other) histories ≡ true
+  pub later : IfSome e.other (λ (other : Vec ℕ Global). has_any (sends_by e.from e.prio other.items) histories ≡ false)
   pub stays : has_any (may_receive e.to e.prio e.message.items) histories ≡ false
   pub one_queue : has_any (leaves_queue e.to e.name.items) histories ≡ false

@@ -42,7 +42,7 @@ pub fn may_have_sent(outcome: &Outcome) -> bool
     }
 }
 
-fn sends(prio: u32, message: &[u8], operation: &Operation) -> bool
+pub fn sends(prio: u32, message: &[u8], operation: &Operation) -> bool
     ensures { result ≡ sends prio message.now operation.now }
 {
     operation.call.is_send()

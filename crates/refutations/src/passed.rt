@@ -1,24 +1,27 @@
 //! Messages that lay in their queue while a receive passed over them.
-ghost use Rattle.std.specs.Prelude.{◌≡◌, IfOk, IfSome, IsSome};
+ghost use Rattle.std.specs.Prelude.{◌≡◌, IfOk, IfSome, IsSome, false, true};
 ghost use Rattle.std.specs.List.{list_any};
 ghost use Rattle.mq_model.specs.Names.{is_open, is_unlink};
-ghost use Rattle.refutations.specs.Excess.{HasNoOrder, returned_by};
-ghost use Rattle.refutations.specs.Passed.{IsPassed, has_any, has_returned, has_sent, is_done, leaves_queue, may_receive, passes, passes_over, says_empty};
+ghost use Rattle.refutations.specs.Excess.{HasNoOrder, returned_by, sends_by};
+ghost use Rattle.refutations.specs.Passed.{IsPassed, has_any, got_other, has_returned, has_sent, is_done, leaves_queue, may_receive, passes, passes_over, says_empty};
 
-use crate::excess::{has_got, is_pending, returned_by};
+use crate::excess::{has_got, is_pending, may_have_sent, returned_by, sends};
 use histories::operation::{Operation, Outcome};
 use mq_model::entries::Call;
 use mq_model::faults::Fault;
 use std::alloc::{AllocError, Global};
 
 /// A message that lay in its queue while a receive passed over it: the receive failed with `EAGAIN`
-/// or `ETIMEDOUT`, or got a message of a lower priority.
+/// or `ETIMEDOUT`, or got a message of a lower priority or one of its priority that was sent later.
 #[derive(Debug, Drop)]
 pub struct Passed {
     pub prio: u32,
     pub message: Vec<u8>,
     /// The name of the only queue until then.
     pub name: Vec<u8>,
+    /// The message that the receive got instead, if it has the same priority. No send of it had
+    /// begun by `from`.
+    pub other: Option<Vec<u8>>,
     /// A time before the receive began by which a send of the message had returned.
     pub from: u64,
     /// When the receive had returned. No call that began by then may have received the message.
@@ -74,11 +77,55 @@ fn passes(prio: u32, outcome: &Outcome) -> bool
     }
 }
 
-// Whether an operation is such a receive, which began after this time.
-fn passes_over(time: u64, prio: u32, operation: &Operation) -> bool
-    ensures { result ≡ passes_over time prio operation.now }
+// Whether a receive with this result got this other message of the priority.
+fn got_other(prio: u32, other: &Option<Vec<u8>>, outcome: &Outcome) -> bool
+    ensures { result ≡ got_other prio other.now outcome.now }
 {
-    operation.call.is_receive() && time < operation.begin && passes(prio, &operation.outcome)
+    match other {
+        None => false,
+        Some(other) => has_got(prio, other, outcome),
+    }
+}
+
+// Whether an operation is such a receive, which began after this time.
+fn passes_over(time: u64, prio: u32, other: &Option<Vec<u8>>, operation: &Operation) -> bool
+    ensures { result ≡ passes_over time prio other.now operation.now }
+{
+    operation.call.is_receive()
+        && time < operation.begin
+        && (passes(prio, &operation.outcome) || got_other(prio, other, &operation.outcome))
+}
+
+// Whether no send of the other message, if there is one, had begun by this time.
+fn is_later(time: u64, prio: u32, other: &Option<Vec<u8>>, histories: &Vec<Vec<Operation>>) -> bool
+    ensures { result ≡ true → IfSome other.now (λ message.
+        has_any (sends_by time prio message.items) histories.now.items ≡ false) }
+{
+    match other {
+        None => true,
+        Some(other) => !was_begun(time, prio, other, histories),
+    }
+}
+
+fn one_begun(time: u64, prio: u32, message: &[u8], operations: &[Operation]) -> bool
+    ensures { result ≡ list_any (sends_by time prio message.now) operations.now }
+{
+    let mut found = false;
+    for operation in operations {
+        found = found || (operation.begin <= time && sends(prio, message, operation));
+    }
+    found
+}
+
+// Whether a send of this message had begun by this time.
+fn was_begun(time: u64, prio: u32, message: &[u8], histories: &Vec<Vec<Operation>>) -> bool
+    ensures { result ≡ has_any (sends_by time prio message.now) histories.now.items }
+{
+    let mut found = false;
+    for operations in histories {
+        found = found || one_begun(time, prio, message, operations);
+    }
+    found
 }
 
 // Whether an operation began by this time and may have received the message.
@@ -109,12 +156,12 @@ fn one_sent(prio: u32, message: &[u8], operations: &[Operation]) -> bool
     found
 }
 
-fn one_passes(time: u64, prio: u32, operations: &[Operation]) -> bool
-    ensures { result ≡ list_any (passes_over time prio) operations.now }
+fn one_passes(time: u64, prio: u32, other: &Option<Vec<u8>>, operations: &[Operation]) -> bool
+    ensures { result ≡ list_any (passes_over time prio other.now) operations.now }
 {
     let mut found = false;
     for operation in operations {
-        found = found || passes_over(time, prio, operation);
+        found = found || passes_over(time, prio, other, operation);
     }
     found
 }
@@ -151,12 +198,18 @@ fn was_sent(time: u64, prio: u32, message: &[u8], histories: &Vec<Vec<Operation>
 }
 
 // Whether a receive that began after `from`, and had returned by `to`, passes over such messages.
-fn was_passed(from: u64, to: u64, prio: u32, histories: &Vec<Vec<Operation>>) -> bool
-    ensures { result ≡ has_returned to (passes_over from prio) histories.now.items }
+fn was_passed(
+    from: u64,
+    to: u64,
+    prio: u32,
+    other: &Option<Vec<u8>>,
+    histories: &Vec<Vec<Operation>>,
+) -> bool
+    ensures { result ≡ has_returned to (passes_over from prio other.now) histories.now.items }
 {
     let mut found = false;
     for operations in histories {
-        found = found || one_passes(from, prio, returned_by(to, operations));
+        found = found || one_passes(from, prio, other, returned_by(to, operations));
     }
     found
 }
@@ -189,10 +242,11 @@ fn checked(passed: Passed, histories: &Vec<Vec<Operation>>) -> Option<Passed>
 {
     let prio = passed.prio;
     let sent = was_sent(passed.from, prio, &passed.message, histories);
-    let is_passed = was_passed(passed.from, passed.to, prio, histories);
+    let is_passed = was_passed(passed.from, passed.to, prio, &passed.other, histories);
+    let later = is_later(passed.from, prio, &passed.other, histories);
     let received = was_received(passed.to, prio, &passed.message, histories);
     let left = was_left(passed.to, &passed.name, histories);
-    if sent && is_passed && !received && !left {
+    if sent && is_passed && later && !received && !left {
         Some(passed)
     } else {
         None
@@ -243,12 +297,15 @@ struct Stay<'h> {
     to: u64,
 }
 
-// A receive that found no message of priority `least` or a higher one.
+// A receive that found no message of priority `least` or a higher one among those that were in the
+// queue since before `begin`; or one that got a message of this priority, no send of which began
+// before then.
 #[derive(Drop)]
-struct Miss {
+struct Miss<'h> {
     least: u32,
     begin: u64,
     end: u64,
+    other: Option<&'h [u8]>,
 }
 
 // The return of a send or the begin of a receive: the priority and the message, whether it was
@@ -301,23 +358,80 @@ fn stays_of<'h>(
     Ok(stays)
 }
 
+// The begin of a send, behind its priority and its message.
+type Begin<'h> = (u32, &'h [u8], u64);
+
+// The begins of the sends that may have succeeded, sorted by message.
+fn begins_of(alloc: Global, histories: &Vec<Vec<Operation>>) -> Result<Vec<Begin>, AllocError> {
+    let mut begins: Vec<Begin> = Vec::new(alloc);
+    for operations in histories {
+        for operation in operations {
+            if operation.call.is_send() && may_have_sent(&operation.outcome) {
+                let prio = operation.call.priority();
+                begins.push((prio, operation.given.as_slice(), operation.begin))?;
+            }
+        }
+    }
+    begins.sort()?;
+    Ok(begins)
+}
+
+// When the first send of this message began.
+fn first_begin(begins: &Vec<Begin>, prio: u32, message: &[u8]) -> Option<u64> {
+    let rank = match begins.binary_search(&(prio, message, 0)) {
+        Ok(rank) => rank,
+        Err(rank) => rank,
+    };
+    if rank < begins.len() && begins[rank].0 == prio && begins[rank].1 == message {
+        return Some(begins[rank].2);
+    }
+    None
+}
+
+// What a receive missed, if anything.
+fn miss_of<'h>(operation: &'h Operation) -> Option<Miss<'h>> {
+    let least = match &operation.outcome {
+        Outcome::Got { prio, message: _ } => Some(prio.saturating_add(1)),
+        Outcome::Refused(fault) if says_empty(*fault) => Some(0),
+        _ => None,
+    };
+    match least {
+        Some(least) if operation.call.is_receive() => Some(Miss {
+            least,
+            begin: operation.begin,
+            end: operation.end,
+            other: None,
+        }),
+        _ => None,
+    }
+}
+
+// What a receive that got a message missed of its priority.
+fn missed_before<'h>(begins: &Vec<Begin>, operation: &'h Operation) -> Option<Miss<'h>> {
+    match &operation.outcome {
+        Outcome::Got { prio, message } => {
+            let sent = first_begin(begins, *prio, message)?;
+            Some(Miss {
+                least: *prio,
+                begin: sent.min(operation.begin),
+                end: operation.end,
+                other: Some(message.as_slice()),
+            })
+        }
+        _ => None,
+    }
+}
+
 fn misses_of(alloc: Global, histories: &Vec<Vec<Operation>>) -> Result<Vec<Miss>, AllocError> {
+    let begins = begins_of(alloc, histories)?;
     let mut misses: Vec<Miss> = Vec::new(alloc);
     for operations in histories {
         for operation in operations {
-            let least = match &operation.outcome {
-                Outcome::Got { prio, message: _ } => Some(prio.saturating_add(1)),
-                Outcome::Refused(fault) if says_empty(*fault) => Some(0),
-                _ => None,
-            };
-            if operation.call.is_receive()
-                && let Some(least) = least
-            {
-                misses.push(Miss {
-                    least,
-                    begin: operation.begin,
-                    end: operation.end,
-                })?;
+            if let Some(miss) = miss_of(operation) {
+                misses.push(miss)?;
+            }
+            if let Some(miss) = missed_before(&begins, operation) {
+                misses.push(miss)?;
             }
         }
     }
@@ -365,6 +479,29 @@ fn latest(ends: &Ends, leaf: usize) -> (u64, usize) {
     found
 }
 
+// The latest end of a stay that a receive missed.
+fn missed(prios: &Vec<u32>, ends: &Ends, width: usize, miss: &Miss) -> (u64, usize) {
+    match prios.binary_search(&miss.least) {
+        Ok(rank) => {
+            let leaf = width.saturating_add(rank);
+            if miss.other.is_none() {
+                latest(ends, leaf)
+            } else if leaf < ends.len() {
+                ends[leaf]
+            } else {
+                (0, 0)
+            }
+        }
+        Err(rank) => {
+            if miss.other.is_none() && rank < prios.len() {
+                latest(ends, width.saturating_add(rank))
+            } else {
+                (0, 0)
+            }
+        }
+    }
+}
+
 // A stay and a miss that lies within it, by their indices.
 fn contradiction(
     alloc: Global,
@@ -399,15 +536,9 @@ fn contradiction(
             }
         } else if !*is_stay && *index < misses.len() {
             let miss = &misses[*index];
-            let rank = match prios.binary_search(&miss.least) {
-                Ok(rank) => rank,
-                Err(rank) => rank,
-            };
-            if rank < prios.len() {
-                let (end, stay) = latest(&ends, width.saturating_add(rank));
-                if miss.end < end {
-                    return Ok(Some((stay, *index)));
-                }
+            let (end, stay) = missed(&prios, &ends, width, miss);
+            if miss.end < end {
+                return Ok(Some((stay, *index)));
             }
         }
     }
@@ -429,10 +560,18 @@ fn suspect(alloc: Global, histories: &Vec<Vec<Operation>>) -> Result<Option<Pass
     }
     let message = stays[stay].message.to_vec(alloc)?;
     let name = name.to_vec(alloc)?;
+    let other = match misses[miss].other {
+        None => None,
+        Some(other) => {
+            let other = other.to_vec(alloc)?;
+            Some(other)
+        }
+    };
     Ok(Some(Passed {
         prio: stays[stay].prio,
         message,
         name,
+        other,
         from: stays[stay].from,
         to: misses[miss].end,
     }))

@@ -129,7 +129,7 @@ static TURNED: [(&str, &str); 5] = [
     ),
     (
         "2 9 10 recv 0 8 -> got 1 \"b\"\n2 11 12 recv 0 8 -> got 1 \"a\"\n",
-        "impossible: line 5, front part of 5 calls\n",
+        "impossible: line 5, front part of 5 calls; 1 \"a\" lay in the queue from 4 to 10\n",
     ),
 ];
 

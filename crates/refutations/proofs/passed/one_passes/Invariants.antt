@@ -4,4 +4,4 @@ use Rattle.refutations.specs.Passed.{passes_over}
 use Rattle.refutations.proofs.passed.one_passes.Given as goal
 
 abbrev pub invariant-loop-operation : goal.invariant-loop-operation
-invariant-loop-operation l = l.found ≡ list_any (passes_over l.time l.prio) (take l.operation-index l.operations)
+invariant-loop-operation l = l.found ≡ list_any (passes_over l.time l.prio l.other) (take l.operation-index l.operations)

@@ -8,4 +8,4 @@ use Rattle.refutations.proofs.passed.was_passed.Given as goal
 
 abbrev pub invariant-loop-operations : goal.invariant-loop-operations
 invariant-loop-operations l =
-    l.found ≡ list_any (λ (v : Vec Operation Global). list_any (passes_over l.from l.prio) (returned_by l.to v.items)) (take l.operations-index l.histories.items)
+    l.found ≡ list_any (λ (v : Vec Operation Global). list_any (passes_over l.from l.prio l.other) (returned_by l.to v.items)) (take l.operations-index l.histories.items)
