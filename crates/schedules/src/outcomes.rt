@@ -10,7 +10,8 @@ ghost use Rattle.schedules.specs.declared.outcomes.Level.{Level};
 
 use crate::keyed::Keyed;
 use crate::machine::Machine;
-use crate::search::run_again;
+use crate::marks::Mark;
+use crate::search::go_back;
 use crate::seen::Seen;
 use std::alloc::{AllocError, Global};
 
@@ -153,7 +154,7 @@ fn leave(levels: &mut Vec<Level>, seen: &mut Seen) -> Result<Option<u32>, AllocE
 
 /// Tries every schedule of a machine, in at most `budget` steps, and collects the outcomes of the
 /// goals that they lead to. A step takes a choice, or takes one back. After taking one back, the
-/// choices before it are run again only if another choice follows them. Equivalent states, which
+/// search returns to the state before it only if another choice follows. Equivalent states, which
 /// have the same key, are explored once. Fails if memory was refused.
 pub fn collect<M: EquivalentOutcomes>(
     alloc: Global,
@@ -174,6 +175,7 @@ pub fn collect<M: EquivalentOutcomes>(
     machine.restart()?;
     let mut path: Vec<u32> = Vec::new(alloc);
     let mut levels: Vec<Level> = Vec::new(alloc);
+    let mut marks: Vec<Mark<M::Saved>> = Vec::new(alloc);
     let mut seen = Seen::new(alloc);
     let mut found = Vec::new(alloc);
     note(alloc, machine, &path, &mut found)?;
@@ -198,7 +200,7 @@ pub fn collect<M: EquivalentOutcomes>(
                 };
                 next = leave(&mut levels, &mut seen)?;
                 if next.is_some() {
-                    run_again(machine, &path)?;
+                    go_back(alloc, machine, &path, &mut marks)?;
                 }
             }
         }

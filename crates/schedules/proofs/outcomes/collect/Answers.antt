@@ -10,7 +10,7 @@ use Rattle.schedules.proofs.Alike.{AreDone, done-fewer, done-leads, done-more}
 use Rattle.schedules.proofs.Ahead.{IsLevel, Leaves, Stands, stands-back, stands-fewer, stands-first, stands-push, step-goes}
 use Rattle.schedules.proofs.Working.{HasSpent, spends-entered, spends-first, spends-left, spends-within}
 use Rattle.schedules.proofs.outcomes.collect.Goals as goal
-use Rattle.schedules.proofs.outcomes.collect.Goals.{in-Some+in_ok-_went-in-Some+in_ok-push-in-Some+in_ok-note-in-Some+in_ok-key-in-Some+in_ok-push-in-Some-2, in-None+in-Some-pop+in_ok-next-in-None+then-is_some+in_ok-run_again-in-None, in-None+in-Some-pop+in_ok-next-in-None+else-is_some}
+use Rattle.schedules.proofs.outcomes.collect.Goals.{in-Some+in_ok-_went-in-Some+in_ok-push-in-Some+in_ok-note-in-Some+in_ok-key-in-Some+in_ok-push-in-Some-2, in-None+in-Some-pop+in_ok-next-in-None+then-is_some+in_ok-go_back-in-None, in-None+in-Some-pop+in_ok-next-in-None+else-is_some}
 
 pub loop-init : goal.loop-init
 loop-init g c =
@@ -33,6 +33,7 @@ loop-init g c =
       distinct = c.in_ok-note.ensures.distinct;
       witnessed = (rw same at c.in_ok-note.ensures.witnessed);
       spent = λ node at_node. rw c.new-path.ensures.items (spends-first next g.M.Machine.choices (λ depth. 1) c.args.budget start node first);
+      marks = rw c.new-marks.ensures.items (λ k d lt. let none : ⊥ = omega (arith, lt) in absurd none);
     }
 
 pub note-requires-in-Some-clause-runs : goal.note-requires-in-Some-clause-runs
@@ -47,6 +48,16 @@ note-requires-in-Some-clause-runs g c =
     rw (c.deref-in-Some.ensures.value, start, c.in_ok-push-in-Some.ensures.items)
     (after-push next c.loop.path.items c.in-Some.choice _ c.loop.machine c.step.new.self runs step)
 
+pub note-requires-in-Some-clause-witnessed : goal.note-requires-in-Some-clause-witnessed
+note-requires-in-Some-clause-witnessed g c =
+    let next = g.M.Machine.next in
+    let stands = (rw c.in-Some.is at c.loop.invariant.stands) in
+    let at : c.loop.machine ≡ stands.node = stands.here refl in
+    let some : IsSome (next c.loop.machine c.in-Some.choice) = rw at stands.ahead.1 in
+    let step = step-goes next c.loop.machine c.step.new.self c.in-Some.choice _ c.in_ok-_went-in-Some.ensures.went c.in_ok-_went-in-Some.ensures.none some in
+    let start = g.met.M.Machine.same_start c.loop.machine c.step.new.self c.in-Some.choice step ∙ c.loop.invariant.start in
+    rw start c.loop.invariant.witnessed
+
 pub returns-in_default-clause-all : goal.returns-in_default-clause-all
 returns-in_default-clause-all g c =
     let next = g.M.Machine.next in
@@ -58,11 +69,14 @@ returns-in_default-clause-all g c =
     let from : HasNoGoal next is_new start = rw here stands.ahead in
     λ _. all-found next g.M.Machine.is_goal g.M.Observable.outcome start c.loop.found.items from
 
-pub run_again-requires : goal.run_again-requires
-run_again-requires g c =
+pub go_back-requires-clause-runs : goal.go_back-requires-clause-runs
+go_back-requires-clause-runs g c =
     rw (c.deref-then-is_some.ensures.value, c.loop.invariant.start)
     (front_runs g.M.Machine.next c.pop.new.self.items (c.in-Some-pop._taken ∷ []) _ c.loop.invariant.stands.node
     (rw (← c.in-Some-pop.ensures.items) c.loop.invariant.stands.runs))
+
+pub go_back-requires-clause-marks : goal.go_back-requires-clause-marks
+go_back-requires-clause-marks g c = rw c.loop.invariant.start c.loop.invariant.marks
 
 pub loop-preserved : goal.loop-preserved
 loop-preserved g c =
@@ -107,7 +121,7 @@ loop-preserved g c =
           w.first_at-next.ensures.new w.first_at-next.ensures.done
           (λ seen_before. done-leads next (is_new_goal is_goal outcome more) IsKey start seen key t done reached w.in_ok-key-in-Some.ensures seen_before)
           in
-          rw (w.path-is, w.levels-is, w.machine-is, w.found-is, w.seen-is, w.next-is)
+          rw (w.path-is, w.levels-is, w.marks-is, w.machine-is, w.found-is, w.seen-is, w.next-is)
           record {
             stands = rw (w.in_ok-push-in-Some.ensures.items, w.in_ok-push-in-Some-2.ensures.items) further;
             done = done;
@@ -122,20 +136,21 @@ loop-preserved g c =
                 rw w.in_ok-push-in-Some.ensures.items
                 (subst (λ (x : g.row.M.Denot). HasSpent next g.M.Machine.choices each c.args.budget (c.loop.counter + 1) 0 (path ++ choice ∷ []) start x w.first_at-next.result) e
                 (spends-entered next g.M.Machine.choices each c.args.budget c.loop.counter 0 path choice start now t w.first_at-next.result runs step (omega arith) now_there));
+            marks = c.loop.invariant.marks;
           }
-      | in-None+in-Some-pop+in_ok-next-in-None+then-is_some+in_ok-run_again-in-None w ↦
+      | in-None+in-Some-pop+in_ok-next-in-None+then-is_some+in_ok-go_back-in-None w ↦
           let stands = (rw w.in-None.is at c.loop.invariant.stands) in
           let back : Leaves next is_new IsKey w.pop.new.self.items w.in-Some-pop._taken levels start stands.node = stands-back next is_new IsKey path w.pop.new.self.items w.in-Some-pop._taken levels start now stands w.in-Some-pop.ensures.items in
           let last = w.in_ok-next-in-None.ensures back.others back.level back.are in
-          let runs : after next w.pop.new.self.items start ≡ Some w.run_again.new.machine = (rw (w.deref-then-is_some.ensures.value, c.loop.invariant.start) at w.in_ok-run_again-in-None.ensures.runs) in
-          rw (w.path-is, w.levels-is, w.machine-is, w.found-is, w.seen-is, w.next-is)
+          let runs : after next w.pop.new.self.items start ≡ Some w.go_back.new.machine = (rw (w.deref-then-is_some.ensures.value, c.loop.invariant.start) at w.in_ok-go_back-in-None.ensures.runs) in
+          rw (w.path-is, w.levels-is, w.marks-is, w.machine-is, w.found-is, w.seen-is, w.next-is)
           record {
-            stands = rw (last.0, last.1) (back.back w.run_again.new.machine (λ some. runs));
+            stands = rw (last.0, last.1) (back.back w.go_back.new.machine (λ some. runs));
             done =
                 done-more next is_new g.M.Keyed.IsAlike IsKey start c.keeps_alike.ensures.by_key
                 (new-alike is_goal outcome g.M.Keyed.IsAlike c.keeps_alike.ensures.same_goal c.have_equal_outcomes.ensures found) c.keeps_alike.ensures.same_next
                 seen w.leave.new.seen back.level.key stands.node last.2 back.key (path, stands.runs) stands.ahead c.loop.invariant.done;
-            start = w.in_ok-run_again-in-None.ensures.start ∙ c.loop.invariant.start;
+            start = w.in_ok-go_back-in-None.ensures.start ∙ c.loop.invariant.start;
             distinct = c.loop.invariant.distinct;
             witnessed = c.loop.invariant.witnessed;
             spent = λ node at_node.
@@ -143,6 +158,7 @@ loop-preserved g c =
                 (spends-left next g.M.Machine.choices each g.met.M.Machine.no_others c.args.budget c.loop.counter 0 0 0 path w.pop.new.self.items w.in-Some-pop._taken start stands.node node None back.level.other
                 w.in-Some-pop.ensures.items stands.runs at_node (omega arith) (omega arith) (omega arith) back.later
                 (rw w.in-None.is at c.loop.invariant.spent stands.node stands.runs));
+            marks = (rw c.loop.invariant.start at w.in_ok-go_back-in-None.ensures.marks);
           }
       | in-None+in-Some-pop+in_ok-next-in-None+else-is_some w ↦
           let stands = (rw w.in-None.is at c.loop.invariant.stands) in
@@ -150,7 +166,7 @@ loop-preserved g c =
           let last = w.in_ok-next-in-None.ensures back.others back.level back.are in
           let none : is_some back.level.other ≡ false = rw (← last.0) cc in
           let machine : IsSome back.level.other → after next w.pop.new.self.items start ≡ Some now = λ some. let k : true ≡ false = sym some ∙ none in cc in
-          rw (w.path-is, w.levels-is, w.machine-is, w.found-is, w.seen-is, w.next-is)
+          rw (w.path-is, w.levels-is, w.marks-is, w.machine-is, w.found-is, w.seen-is, w.next-is)
           record {
             stands = rw (last.0, last.1) (back.back now machine);
             done =
@@ -165,6 +181,7 @@ loop-preserved g c =
                 (spends-left next g.M.Machine.choices each g.met.M.Machine.no_others c.args.budget c.loop.counter 0 0 0 path w.pop.new.self.items w.in-Some-pop._taken start stands.node node None back.level.other
                 w.in-Some-pop.ensures.items stands.runs at_node (omega arith) (omega arith) (omega arith) back.later
                 (rw w.in-None.is at c.loop.invariant.spent stands.node stands.runs));
+            marks = c.loop.invariant.marks;
           }
     ]
 

@@ -1,6 +1,7 @@
 use Rattle.std.proofs.Common.{◌≡◌, All, Some}
 use Rattle.schedules.specs.Schedules.{after}
 use Rattle.schedules.specs.Outcomes.{AreDistinct, IsWitness}
+use Rattle.schedules.specs.Marks.{AreMarks}
 use Rattle.schedules.proofs.Ahead.{Stands}
 use Rattle.schedules.proofs.Alike.{AreDone}
 use Rattle.schedules.proofs.Collecting.{is_new_goal}
@@ -8,7 +9,8 @@ use Rattle.schedules.proofs.Working.{HasSpent}
 use Rattle.schedules.proofs.outcomes.collect.Given as goal
 
 -- At the position of the search, the outcome of each goal before it was found, and so was that of
--- each goal after a state whose key was noted. It has made this many steps.
+-- each goal after a state whose key was noted. It has made this many steps. The marks are states of
+-- the machine.
 abbrev pub invariant-loop : goal.invariant-loop
 invariant-loop g l = record {
   stands :
@@ -23,4 +25,5 @@ invariant-loop g l = record {
   spent :
       (node : g.row.M.Denot) → after g.M.Machine.next l.path.items (g.M.Machine.start l.fn.machine) ≡ Some node →
       HasSpent g.M.Machine.next g.M.Machine.choices (λ depth. 1) l.fn.budget l.counter 0 l.path.items (g.M.Machine.start l.fn.machine) node l.next;
+  marks : AreMarks g.M.Machine.next g.M.Machine.start g.M.Machine.IsSaved (g.M.Machine.start l.fn.machine) l.marks.items;
 }
