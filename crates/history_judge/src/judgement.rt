@@ -17,7 +17,7 @@ use histories::operation::Operation;
 use journal_format::text::write_journal;
 use refutations::contradiction::{Contradiction, find_contradiction};
 use refutations::passed::find_passed;
-use schedules::search::Finding;
+use schedules::ranked::Finding;
 use std::alloc::{AllocError, Global};
 
 /// Whether a history is linearizable.

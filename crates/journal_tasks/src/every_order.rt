@@ -16,7 +16,7 @@ use crate::start::{NoStart, start_after};
 use journal_format::text::write_journal;
 use mq_model::journals::Journal;
 use schedules::outcomes::{Collected, Witnessed};
-use schedules::search::run_again;
+use schedules::runs::run_again;
 use script_orders::orders::{outcomes_of, play_after};
 use script_orders::play::Play;
 use script_orders::report::report_text;

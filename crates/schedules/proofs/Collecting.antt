@@ -1,7 +1,7 @@
 -- Goals of which nothing was found yet.
 use Rattle.std.proofs.Common.{◌≡◌, ℕ, Bool, true, false, ◌&&◌, ◌||◌, not, ◌==◌, if◌then◌else◌, List, [], ◌∷◌, ◌++◌, Option, refl, sym, ◌∙◌, ap, subst, eq-eqb}
 use Rattle.std.specs.Cmp.Derive.{both_true}
-use Rattle.std.proofs.lemmas.Bool.{eqb-true}
+use Rattle.std.proofs.lemmas.Bool.{and_parts, eqb-true}
 use Rattle.std.proofs.lemmas.List.Folds.{list_any-append}
 use Rattle.std.proofs.lemmas.Slice.Eq.{bytes_eq-Decides}
 use Rattle.std.specs.Str.{bytes_eq}
@@ -65,12 +65,6 @@ all-found next is_goal outcome from found none schedule to leads =
     in
     goes (is_goal to) (is_among found (outcome to)) leads.goal (none schedule to leads.runs)
 
-and-parts : (a b : Bool) → (a && b) ≡ true → (a ≡ true) × (b ≡ true)
-and-parts true true h = (refl, refl)
-and-parts true false h = cc
-and-parts false true h = cc
-and-parts false false h = cc
-
 both-true : (a b : Bool) → (if a then b else not b) ≡ true → a ≡ b
 both-true true true h = refl
 both-true true false h = cc
@@ -84,8 +78,8 @@ either-self false = refl
 -- what tells the same is the same
 pub same-is : (a b : Observed) → are_same a b ≡ true → a ≡ b
 same-is a b same =
-    let outer = and-parts (a.stage == b.stage && (if a.stuck then b.stuck else not b.stuck)) (bytes_eq a.text b.text) same in
-    let inner = and-parts (a.stage == b.stage) (if a.stuck then b.stuck else not b.stuck) outer.0 in
+    let outer = and_parts (a.stage == b.stage && (if a.stuck then b.stuck else not b.stuck)) (bytes_eq a.text b.text) same in
+    let inner = and_parts (a.stage == b.stage) (if a.stuck then b.stuck else not b.stuck) outer.0 in
     let stage : a.stage ≡ b.stage = eqb-true a.stage b.stage inner.0 in
     let stuck : a.stuck ≡ b.stuck = both-true a.stuck b.stuck inner.1 in
     let text : a.text ≡ b.text = (bytes_eq-Decides a.text b.text).0 outer.1 in

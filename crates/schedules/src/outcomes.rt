@@ -11,7 +11,7 @@ ghost use Rattle.schedules.specs.declared.outcomes.Level.{Level};
 use crate::keyed::Keyed;
 use crate::machine::Machine;
 use crate::marks::Mark;
-use crate::search::go_back;
+use crate::runs::go_back;
 use crate::seen::Seen;
 use std::alloc::{AllocError, Global};
 

@@ -3,8 +3,8 @@ use Rattle.std.proofs.lemmas.List.Elements.{All-push}
 use Rattle.schedules.specs.Marks.{IsMark}
 use Rattle.schedules.specs.declared.marks.Mark.{Mark}
 use Rattle.schedules.proofs.Backing.{all-front, path-goes, path-further}
-use Rattle.schedules.proofs.search.go_back.Goals as goal
-use Rattle.schedules.proofs.search.go_back.Goals.{then-is_worth+in_ok-schedule+in_ok-saved+in_ok-push, else-is_worth}
+use Rattle.schedules.proofs.runs.go_back.Goals as goal
+use Rattle.schedules.proofs.runs.go_back.Goals.{then-is_worth+in_ok-schedule+in_ok-saved+in_ok-push, else-is_worth}
 
 pub loop-depth-init : goal.loop-depth-init
 loop-depth-init g c = record {

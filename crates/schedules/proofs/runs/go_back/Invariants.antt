@@ -1,7 +1,7 @@
 use Rattle.std.proofs.Common.{◌≡◌, Some, take}
 use Rattle.schedules.specs.Schedules.{after}
 use Rattle.schedules.specs.Marks.{AreMarks}
-use Rattle.schedules.proofs.search.go_back.Given as goal
+use Rattle.schedules.proofs.runs.go_back.Given as goal
 
 -- the first choices lead to the state of the machine
 abbrev pub invariant-loop-depth : goal.invariant-loop-depth
