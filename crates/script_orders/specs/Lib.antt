@@ -6,6 +6,7 @@ pub mod Scenes
 pub mod Turns
 pub mod Stage
 pub mod StageLaws
+pub mod Saves
 pub mod PlayModel
 pub mod Report
 pub mod Orders

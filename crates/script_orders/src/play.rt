@@ -33,6 +33,14 @@ pub struct Play {
     seats: Vec<Seat>,
 }
 
+/// A saved state: the phase, the journal so far, and the states of the processes.
+#[derive(Drop)]
+pub struct SavedPlay {
+    phase: u64,
+    trail: Trail,
+    seats: Vec<Seat>,
+}
+
 impl Model for Play {
     ghost use Rattle.script_orders.specs.Stage.{Stage};
 
@@ -80,6 +88,17 @@ fn cleared_seats(alloc: Global, seats: &[Seat]) -> Result<Vec<Seat>, AllocError>
         cleared.push(Seat::new(alloc, seat.begun()))?;
     }
     Ok(cleared)
+}
+
+// A copy of the states of the processes.
+fn copy_seats(alloc: Global, seats: &[Seat]) -> Result<Vec<Seat>, AllocError>
+    ensures { IfOk result (λ copies. copies.items ≡ seats.now) }
+{
+    let mut copies = Vec::new(alloc);
+    for seat in seats {
+        copies.push(seat.copy(alloc)?)?;
+    }
+    Ok(copies)
 }
 
 // The text of the replies of all processes in a phase.
@@ -289,8 +308,11 @@ impl Play {
 
 impl Machine for Play {
     ghost use Rattle.script_orders.specs.Stage.{choice_count, first_stage, next_stage, stands_still};
+    ghost use Rattle.script_orders.specs.Saves.{IsSaved};
     ghost use Rattle.script_orders.specs.StageLaws.{next-first, next-others};
     ghost use Rattle.std.specs.Prelude.{refl};
+
+    type Saved = SavedPlay;
 
     ghost start = { first_stage };
 
@@ -300,11 +322,31 @@ impl Machine for Play {
 
     ghost is_goal = { stands_still };
 
+    ghost IsSaved = { IsSaved };
+
     fn restart(&mut self) -> Result<(), AllocError> {
         let seats = fresh_seats(self.alloc, self.programs.len())?;
         self.trail = trail_after(self.alloc, &self.start)?;
         self.seats = seats;
         self.phase = 0;
+        Ok(())
+    }
+
+    fn save(&self) -> Result<SavedPlay, AllocError> {
+        let seats = copy_seats(self.alloc, &self.seats)?;
+        let trail = self.trail.copy(self.alloc)?;
+        Ok(SavedPlay {
+            phase: self.phase,
+            trail,
+            seats,
+        })
+    }
+
+    fn restore(&mut self, saved: &SavedPlay) -> Result<(), AllocError> {
+        let seats = copy_seats(self.alloc, &saved.seats)?;
+        self.trail = saved.trail.copy(self.alloc)?;
+        self.seats = seats;
+        self.phase = saved.phase;
         Ok(())
     }
 

@@ -42,6 +42,16 @@ impl Seat {
         }
     }
 
+    /// A copy.
+    pub fn copy(&self, alloc: Global) -> Result<Seat, AllocError>
+        ensures { IfOk result (λ seat. seat ≡ self.now) }
+    {
+        Ok(Seat {
+            begun: self.begun,
+            text: Vec::from_slice(alloc, &self.text)?,
+        })
+    }
+
     /// How many of its lines the process has begun.
     pub fn begun(&self) -> usize
         ensures { result ≡ self.now.begun }
