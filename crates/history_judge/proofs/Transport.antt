@@ -18,8 +18,8 @@ use Rattle.histories.specs.Histories.{Histories, are_through, completed, current
 use Rattle.histories.specs.Linearizations.{ComesFrom, IsCallOf, IsLinearization, IsWithdrawalOf}
 use Rattle.journal_format.specs.Text.{journal_text}
 use Rattle.histories.proofs.RealTime.{linearization-agrees}
-use Rattle.refutations.specs.Contradiction.{IsContradiction}
-use Rattle.refutations.specs.declared.contradiction.Contradiction.{Contradiction}
+use Rattle.histories.specs.Contradiction.{IsContradiction}
+use Rattle.histories.specs.declared.contradiction.Contradiction.{Contradiction}
 use Rattle.history_judge.specs.Text.{message_of, written_reply}
 use Rattle.history_judge.specs.Seen.{AreSameCalls, AreSameOperations, Seen, seen}
 use Rattle.history_judge.specs.Verdicts.{AreHistoriesOf, Explains, HasContradiction, IsAnswer, IsExplainedBy, IsImpossible, UsesUp}

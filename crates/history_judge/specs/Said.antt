@@ -2,8 +2,8 @@
 use Rattle.std.specs.Prelude.{ℕ, ◌+◌, ◌-◌, ◌^◌, Bool, min, List, [], ◌++◌, length, Option, None, Some, codes, if◌then◌else◌}
 use Rattle.std.specs.Fmt.{decimal}
 use Rattle.journal_format.specs.Text.{payload_text}
-use Rattle.refutations.specs.declared.contradiction.Contradiction.{Contradiction}
-use Rattle.refutations.specs.declared.contradiction.Contradiction.TheVariants.{Excess, Passed}
+use Rattle.histories.specs.declared.contradiction.Contradiction.{Contradiction}
+use Rattle.histories.specs.declared.contradiction.Contradiction.TheVariants.{Excess, Passed}
 use Rattle.history_judge.specs.Text.{history_text}
 use Rattle.history_judge.specs.Processes.{process_count}
 use Rattle.history_judge.specs.declared.line.Called.{Called}

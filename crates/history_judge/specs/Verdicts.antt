@@ -9,8 +9,8 @@ use Rattle.histories.specs.Histories.{Histories, is_complete}
 use Rattle.histories.specs.Judgements.{TakesAllOrders}
 use Rattle.histories.specs.Linearizations.{IsLinearization}
 use Rattle.histories.specs.RealTime.{AgreesWithRealTime, EndInOrder}
-use Rattle.refutations.specs.Contradiction.{IsContradiction}
-use Rattle.refutations.specs.declared.contradiction.Contradiction.{Contradiction}
+use Rattle.histories.specs.Contradiction.{IsContradiction}
+use Rattle.histories.specs.declared.contradiction.Contradiction.{Contradiction}
 use Rattle.history_judge.specs.Seen.{AreSameCalls, AreSameOperations, seen_call}
 use Rattle.history_judge.specs.Processes.{operations_of, process_count}
 use Rattle.history_judge.specs.Descriptors.{no_numbers, renamed}

@@ -1,7 +1,7 @@
 //! The first prefix in which calls may contradict each other.
 use crate::line::Called;
+use histories::excess::may_have_sent;
 use histories::operation::Outcome;
-use refutations::excess::may_have_sent;
 use std::alloc::{AllocError, Global};
 
 // A message with its priority.

@@ -11,12 +11,12 @@ use crate::front::{front_of, returns_of, whole_of};
 use crate::hints::hints_of;
 use crate::line::Called;
 use crate::processes::{by_process, process_count};
+use histories::contradiction::{Contradiction, find_contradiction};
 use histories::judge::judge;
 use histories::linearizer::Linearizer;
 use histories::operation::Operation;
+use histories::passed::find_passed;
 use journal_format::text::write_journal;
-use refutations::contradiction::{Contradiction, find_contradiction};
-use refutations::passed::find_passed;
 use schedules::ranked::Finding;
 use std::alloc::{AllocError, Global};
 

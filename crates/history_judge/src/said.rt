@@ -1,16 +1,16 @@
 //! The text of the result of checking a history.
 ghost use Rattle.std.specs.Prelude.{◌≡◌, IfOk, Some, string_bytes};
-ghost use Rattle.refutations.specs.declared.contradiction.Contradiction.TheVariants as contradiction;
+ghost use Rattle.histories.specs.declared.contradiction.Contradiction.TheVariants as contradiction;
 ghost use Rattle.history_judge.specs.Said.{contradiction_text, impossible_line, judgement_text, possible_line, reason, shortness, status_of};
 
 use crate::judgement::Judgement;
 use crate::line::Called;
 use crate::processes::process_count;
 use crate::text::write_history;
+use histories::contradiction::Contradiction;
+use histories::excess::Excess;
+use histories::passed::Passed;
 use journal_format::payload::payload_text;
-use refutations::contradiction::Contradiction;
-use refutations::excess::Excess;
-use refutations::passed::Passed;
 use std::alloc::{AllocError, Global};
 
 // The line for a linearizable history.

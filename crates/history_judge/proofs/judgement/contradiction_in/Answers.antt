@@ -1,8 +1,8 @@
 use Rattle.std.proofs.Common.{IfOk, IfSome, Err, List, Ok, Option, Result}
 use Rattle.std.specs.declared.alloc.AllocError.{AllocError}
 use Rattle.histories.specs.Histories.{Histories}
-use Rattle.refutations.specs.Contradiction.{IsContradiction}
-use Rattle.refutations.specs.declared.contradiction.Contradiction.{Contradiction}
+use Rattle.histories.specs.Contradiction.{IsContradiction}
+use Rattle.histories.specs.declared.contradiction.Contradiction.{Contradiction}
 use Rattle.history_judge.specs.Fronts.{front_part}
 use Rattle.history_judge.specs.Seen.{AreSameCalls}
 use Rattle.history_judge.specs.Verdicts.{AreHistoriesOf, HasContradiction}

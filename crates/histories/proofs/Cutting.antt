@@ -1,0 +1,118 @@
+-- The first records of a linearization: those of what began by a time.
+use Rattle.std.proofs.Common.{◌≡◌, ℕ, ◌≤◌, ◌<◌, zero, suc, Bool, true, false, not, [], ◌∷◌, length, Option, Some, None, ◌⊎◌, inl, inr, refl, sym, arith, subst, nat_lt, ltb-false}
+use Rattle.std.proofs.lemmas.Bool.{and_parts, cases_lt, lt-ltb}
+use Rattle.mq_model.specs.Record.{Record, Past}
+use Rattle.mq_model.proofs.Places.{split}
+use Rattle.histories.specs.declared.operation.Operation.{Operation}
+use Rattle.histories.specs.Histories.{Histories, are_through, current_of, ended_before, is_complete, is_pending, is_through, none_ended}
+use Rattle.histories.specs.Linearizations.{ComesFrom, IsLinearization}
+use Rattle.histories.specs.Excess.{returns_after}
+
+-- the operation of each record began by this time
+abbrev pub AreBegun : (time : ℕ) (histories : Histories) (past : Past) → IsLinearization histories past → Type 0
+AreBegun time histories [] linear = Unit {0}
+AreBegun time histories (r ∷ past) linear = AreBegun time histories past linear.0 × (linear.2.operation.begin ≤ time)
+
+-- these are the first records of a longer journal, or all of them
+abbrev pub Ends : Past → Past → Type 0
+Ends part [] = part ≡ []
+Ends part (r ∷ past) = (part ≡ r ∷ past) ⊎ Ends part past
+
+pub ends-self : (past : Past) → Ends past past
+ends-self [] = refl
+ends-self (r ∷ past) = inl refl
+
+pub ends-trans : (a b c : Past) → Ends a b → Ends b c → Ends a c
+ends-trans a b [] first second = subst (λ (x : Past). Ends a x) second first
+ends-trans a b (r ∷ c) first second = elim second [
+  | inl same ↦ subst (λ (x : Past). Ends a x) same first
+  | inr older ↦ inr (ends-trans a b c first older)
+]
+
+-- and so are those before the last of them
+pub ends-older : (r : Record) (part past : Past) → Ends (r ∷ part) past → Ends part past
+ends-older r part [] ends = absurd (let bad : r ∷ part ≡ [] = ends in cc)
+ends-older r part (s ∷ past) ends = elim ends [
+  | inl same ↦ let tails : part ≡ past = cc in inr (subst (λ (x : Past). Ends x past) (sym tails) (ends-self past))
+  | inr older ↦ inr (ends-older r part past older)
+]
+
+-- no operation is left that had returned by this time
+abbrev pub is_through_by : ℕ → Option Operation → Bool
+is_through_by time None = true
+is_through_by time (Some o) = returns_after time o
+
+-- a linearization of what began by this time, with all that had returned by then
+pub record IsCut (time : ℕ) (histories : Histories) (past : Past) : Type 0 where
+  pub part : Past
+  pub ends : Ends part past
+  pub linear : IsLinearization histories part
+  pub begun : AreBegun time histories part linear
+  pub through : (i : ℕ) → i < length histories → is_through_by time (current_of histories part i) ≡ true
+
+not-before : (o : Option Operation) (begin time : ℕ) → not (ended_before begin o) ≡ true → time < begin → is_through_by time o ≡ true
+not-before None begin time late less = refl
+not-before (Some o) begin time late less = split (nat_lt o.end begin)
+    (λ t. let bad : false ≡ true = rw t at late in absurd (cc))
+    (λ f.
+    let above = ltb-false o.end begin f in
+    let after = lt-ltb time o.end (omega (arith, above, less)) in
+    rw after (split (is_pending o.outcome) (λ t. rw t refl) (λ f. rw f refl)))
+
+pub none-left : (histories : Histories) (past : Past) (begin time n i : ℕ) → none_ended histories past begin n ≡ true → time < begin → i < n → is_through_by time (current_of histories past i) ≡ true
+none-left histories past begin time zero i none less below = absurd (omega (arith, below))
+none-left histories past begin time (suc n) i none less below =
+    let parts = and_parts (none_ended histories past begin n) (not (ended_before begin (current_of histories past n))) none in
+    elim (cases_lt i n) [
+      | inl inside ↦ none-left histories past begin time n i parts.0 less inside
+      | inr last ↦
+          let e : n ≡ i = omega (arith, below, last) in
+          let here = not-before (current_of histories past n) begin time parts.1 less in
+          subst (λ k. is_through_by time (current_of histories past k) ≡ true) e here
+    ]
+
+begun-or-cut : (time : ℕ) (histories : Histories) (past : Past) (linear : IsLinearization histories past) → AreBegun time histories past linear ⊎ IsCut time histories past
+begun-or-cut time histories [] linear = inl tt
+begun-or-cut time histories (r ∷ past) linear = elim (begun-or-cut time histories past linear.0) [
+  | inr c ↦ inr (record { part = c.part; ends = inr c.ends; linear = c.linear; begun = c.begun; through = c.through })
+  | inl begun ↦
+      let from : ComesFrom histories past r = linear.2 in
+      elim (cases_lt time from.operation.begin) [
+        | inl late ↦ inr (record {
+          part = past;
+          ends = inr (ends-self past);
+          linear = linear.0;
+          begun = begun;
+          through = λ i below. none-left histories past from.operation.begin time (length histories) i from.in_time late below;
+        })
+        | inr by_then ↦ inl (begun, by_then)
+      ]
+]
+
+pub through-each : (histories : Histories) (past : Past) (n i : ℕ) → are_through histories past n ≡ true → i < n → is_through (current_of histories past i) ≡ true
+through-each histories past zero i through below = absurd (omega (arith, below))
+through-each histories past (suc n) i through below =
+    let parts = and_parts (are_through histories past n) (is_through (current_of histories past n)) through in
+    elim (cases_lt i n) [
+      | inl less ↦ through-each histories past n i parts.0 less
+      | inr last ↦
+          let e : n ≡ i = omega (arith, below, last) in
+          subst (λ k. is_through (current_of histories past k) ≡ true) e parts.1
+    ]
+
+through-by : (o : Option Operation) (time : ℕ) → is_through o ≡ true → is_through_by time o ≡ true
+through-by None time e = refl
+through-by (Some o) time e = let pending : is_pending o.outcome ≡ true = e in rw pending refl
+
+-- each complete linearization has such a part
+pub cut : (time : ℕ) (histories : Histories) (past : Past) → IsLinearization histories past → is_complete histories past ≡ true → IsCut time histories past
+cut time histories past linear complete = elim (begun-or-cut time histories past linear) [
+  | inr part ↦ part
+  | inl begun ↦ record {
+    part = past;
+    ends = ends-self past;
+    linear = linear;
+    begun = begun;
+    through = λ i below. through-by (current_of histories past i) time (through-each histories past (length histories) i complete below);
+  }
+]

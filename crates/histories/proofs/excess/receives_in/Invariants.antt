@@ -1,0 +1,8 @@
+use Rattle.std.proofs.Common.{◌≡◌, ◌≤◌, take}
+use Rattle.std.specs.List.{count_by}
+use Rattle.histories.specs.Excess.{receives}
+use Rattle.histories.proofs.excess.receives_in.Given as goal
+
+abbrev pub invariant-loop-operation : goal.invariant-loop-operation
+invariant-loop-operation l =
+    (l.count ≡ count_by (receives l.prio l.message) (take l.operation-index l.operations)) × (l.count ≤ l.operation-index)

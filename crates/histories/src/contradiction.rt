@@ -1,0 +1,33 @@
+//! A contradiction of any kind.
+ghost use Rattle.std.specs.Prelude.{IfOk, IfSome, IsSome};
+ghost use Rattle.histories.specs.Contradiction.{IsContradiction};
+ghost use Rattle.histories.specs.Excess.{HasNoOrder};
+
+use crate::excess::{Excess, find_excess};
+use crate::operation::Operation;
+use crate::passed::{Passed, find_passed};
+use std::alloc::{AllocError, Global};
+
+/// Why a history has no linearization.
+#[derive(Debug, Drop)]
+pub enum Contradiction {
+    Excess(Excess),
+    Passed(Passed),
+}
+
+/// A contradiction, if one is found. Such a history has no linearization.
+pub fn find_contradiction(
+    alloc: Global,
+    histories: &Vec<Vec<Operation>>,
+) -> Result<Option<Contradiction>, AllocError>
+    ensures is { IfOk result (λ found. IfSome found (IsContradiction histories.now.items)) }
+    ensures none { IfOk result (λ found. IsSome found → HasNoOrder histories.now.items) }
+{
+    if let Some(excess) = find_excess(alloc, histories)? {
+        return Ok(Some(Contradiction::Excess(excess)));
+    }
+    match find_passed(alloc, histories)? {
+        None => Ok(None),
+        Some(passed) => Ok(Some(Contradiction::Passed(passed))),
+    }
+}

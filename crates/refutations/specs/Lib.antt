@@ -1,3 +1,0 @@
-pub mod Excess
-pub mod Passed
-pub mod Contradiction
