@@ -25,10 +25,10 @@ pub struct Question {
     pub budget: u64,
 }
 
-/// Without a journal, within a million steps.
+/// Without a journal, within two million steps.
 pub const PLAIN: Question = Question {
     journal: false,
-    budget: 1_000_000,
+    budget: 2_000_000,
 };
 
 /// Reads a concurrent history line by line, checks whether it is linearizable, and writes the

@@ -159,7 +159,7 @@ fn judge<'a>(alloc: Global) -> Result<Command<'a>, AllocError> {
         alloc,
         "budget",
         &["N"],
-        "Takes at most N steps, in place of 1000000",
+        "Takes at most N steps, in place of 2000000",
     ))
 }
 
