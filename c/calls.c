@@ -70,6 +70,7 @@ static bool is_good(const struct mq_attr *attr, bool is_written)
 /* A dispatcher with room for another description; PROCESSES if there is none. */
 static unsigned roomy_dispatcher(void)
 {
+    program_close_taken();
     for (unsigned round = 0; round < 2; ++round) {
         for (uint32_t d = 0; d < DESCRIPTIONS; ++d)
             if (the_program.tables.descriptions[d].made == 0 &&
@@ -280,6 +281,7 @@ int mq_notify(mqd_t mqdes, const struct sigevent *event)
     return error != 0 ? fails(error) : result(answer);
 }
 
+/* Whether a call is done and holds the lock. */
 static bool is_done(outcome it)
 {
     return it.fate == ANSWERED && it.answer == YAK_DONE;
@@ -292,27 +294,33 @@ static int error_of(outcome it)
         return yak_errno(it.answer);
     case REFUSED:
         return it.error;
+    case HANDED:
+        return 0;
     default:
         return EINTR;
     }
 }
 
-/* What is left of a send or a receive that the dispatcher has tried: a wait, the wakes and notices
- * for others, and a warning. Leaves the lock. */
+/* What is left of a send or a receive that the dispatcher has tried: its record, or the receive
+ * that waited alone for it; a wait; the wakes and notices for others, and a warning. Leaves the
+ * lock. */
 static __attribute__((noinline)) outcome go_on(uint32_t d, const request *asked,
                                                yak_message *message, uint32_t answer)
 {
     outcome end = {.answer = answer};
     unsigned process = DISPATCHER;
-    uint32_t answered = 0;
+    uint32_t answered = 0, handed = 0;
     int cancelling = -1;
     bool warns = false;
     notices found;
     found.count = 0;
+    if (answer == YAK_DONE)
+        handed = program_record(d, asked);
     if (answer == YAK_AGAIN && !the_program.nonblock[d])
         end = program_wait(&process, d, asked, message, &cancelling);
     if (end.fate < LOST) {
         answered = program_note_answers(process != DISPATCHER ? process : program_dispatcher_of(d));
+        answered |= handed;
         if (is_done(end) && the_program.tables.registered != 0)
             program_collect_notices(d, &found);
         if (is_done(end) && the_program.polls != 0)
@@ -327,7 +335,7 @@ static __attribute__((noinline)) outcome go_on(uint32_t d, const request *asked,
     if (cancelling != -1)
         pthread_setcancelstate(cancelling, 0);
     if (end.fate == CANCELLED)
-        pthread_testcancel();
+        program_test_cancel();
     return end;
 }
 
@@ -357,7 +365,8 @@ static inline __attribute__((always_inline)) int make(const char *call, bool is_
         answer = program_try(is_send, d, bytes, len, prio, message);
         if (__builtin_expect(answer == YAK_DONE && the_program.until_large >= 0 &&
                                  (the_program.is_logged | the_program.tables.registered |
-                                  the_program.overflow | the_program.polls |
+                                  the_program.tables.alone | the_program.overflow |
+                                  the_program.polls |
                                   the_program.processes[program_dispatcher_of(d)].answered) == 0,
                              1)) {
             program_leave();
@@ -365,8 +374,6 @@ static inline __attribute__((always_inline)) int make(const char *call, bool is_
             explored_moved(is_send, d, 0, bytes, is_send ? len : message->len);
             return 0;
         } else {
-            if (the_program.is_logged && answer == YAK_DONE)
-                log_message(is_send, d, bytes, len, prio);
             const request asked = {
                 .call = call,
                 .number = mqdes,

@@ -60,7 +60,7 @@ static bool end_waits(void)
         uint8_t *kept = program_kept(process);
         uint8_t none = 0;
         uint32_t answer;
-        if (!it->is_open || it->has_ended)
+        if (!it->is_open || it->has_ended || (the_program.tables.alone & 1u << process) != 0)
             continue;
         if (kept == 0)
             return false;
@@ -259,12 +259,13 @@ static void put_waits(writer *to)
     while (left != 0) {
         unsigned first = (unsigned)__builtin_ctz(left);
         const pending *it;
-        record head = {.what = DID_START};
+        record head = {0};
         for (uint32_t others = left; others != 0; others &= others - 1)
             if (the_program.tables.waits[__builtin_ctz(others)].order <
                 the_program.tables.waits[first].order)
                 first = (unsigned)__builtin_ctz(others);
         it = &the_program.tables.waits[first];
+        head.what = (the_program.tables.alone & 1u << first) != 0 ? DID_ALONE : DID_START;
         head.process = (uint8_t)first;
         head.d = (uint8_t)it->d;
         head.len = (uint32_t)it->len;

@@ -534,9 +534,7 @@ static void before_fork(void)
 {
     coming = 0;
     again = 0;
-    is_inside =
-        program_here->me != 0 && program_thread.place == INSIDE &&
-        (__atomic_load_n(PROGRAM_WORD, __ATOMIC_RELAXED) & FUTEX_TID_MASK) == program_thread.number;
+    is_inside = program_here->me != 0 && program_thread.place == INSIDE && program_holds_lock();
     if (program_here->me == 0)
         return;
     if (is_inside) {
@@ -571,6 +569,7 @@ static void forget(void)
     if (it->number != 0)
         atomic_fetch_add(&the_program.news[it->process], 1);
     program_own_wait.number = 0;
+    program_own_wait.is_listed = false;
     program_waits = 0;
     program_forget_notices();
     program_forget_polls();

@@ -74,6 +74,12 @@ void program_meet_thread(void)
     program_thread.number = (int)syscall(SYS_gettid);
 }
 
+bool program_holds_lock(void)
+{
+    return (__atomic_load_n(PROGRAM_WORD, __ATOMIC_RELAXED) & FUTEX_TID_MASK) ==
+           program_thread.number;
+}
+
 static yak_word_ lock_word(void)
 {
     return (yak_word_){.at = (uint32_t *)PROGRAM_WORD, .is_shared = true};

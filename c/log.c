@@ -193,9 +193,12 @@ static void apply_registration(uint32_t d, const registration *with)
 
 static void apply_end(unsigned process)
 {
-    the_program.tables.waits[process].is_open = false;
-    the_program.tables.waits[process].has_ended = false;
-    the_program.tables.idle |= 1u << process;
+    tables *all = &the_program.tables;
+    all->waits[process].is_open = false;
+    all->waits[process].has_ended = false;
+    all->idle |= 1u << process;
+    all->alone &= ~(1u << process);
+    all->ended &= ~(1u << process);
 }
 
 static void apply_start(unsigned process, const pending *it)
@@ -203,6 +206,30 @@ static void apply_start(unsigned process, const pending *it)
     the_program.tables.waits[process] = *it;
     if (it->is_open)
         the_program.tables.idle &= ~(1u << process);
+}
+
+static void apply_alone(unsigned process, const pending *it)
+{
+    apply_start(process, it);
+    the_program.tables.alone |= 1u << process;
+}
+
+/* A wait has ended before its thread knows, with this message if it is a receive. */
+static void apply_keep(unsigned process, const yak_message *message)
+{
+    pending *it = &the_program.tables.waits[process];
+    it->has_ended = true;
+    it->message = *message;
+    the_program.tables.alone &= ~(1u << process);
+    the_program.tables.ended |= 1u << process;
+}
+
+/* The library has begun a receive that waited alone. */
+static void apply_enter(unsigned process, uint32_t answer, const yak_message *message)
+{
+    the_program.tables.alone &= ~(1u << process);
+    if (answer == YAK_DONE)
+        apply_keep(process, message);
 }
 
 /* ---- the calls ---- */
@@ -332,6 +359,144 @@ uint32_t did_start(unsigned process, pending *it, const request *asked, yak_mess
     return answer;
 }
 
+/* ---- receives that wait alone ---- */
+
+static bool is_alone(unsigned process)
+{
+    return (the_program.tables.alone & 1u << process) != 0;
+}
+
+/* The waiter with the receive that waits alone on a queue; DISPATCHER if there is none. */
+static unsigned lone_waiter(unsigned slot)
+{
+    const tables *all = &the_program.tables;
+    for (uint32_t left = all->alone & all->holders[slot]; left != 0; left &= left - 1)
+        if (all->waits[__builtin_ctz(left)].queue == slot)
+            return (unsigned)__builtin_ctz(left);
+    return DISPATCHER;
+}
+
+static bool is_in_state(unsigned process, unsigned state)
+{
+    return atomic_load(&the_program.hands[process].state) ==
+           program_hand_state(the_program.tables.waits[process].order, state);
+}
+
+/* The thread of a wait that has ended may take the message from now on. */
+static void show_hand(unsigned process)
+{
+    const pending *it = &the_program.tables.waits[process];
+    hand *to = &the_program.hands[process];
+    to->message = it->message;
+    atomic_store_explicit(&to->state, program_hand_state(it->order, HAND_FULL),
+                          memory_order_release);
+}
+
+uint32_t did_wait_alone(unsigned process, pending *it)
+{
+    const record head = {.what = DID_ALONE, .process = (uint8_t)process};
+    if (program_kept(process) == 0)
+        return YAK_NOMEMORY;
+    it->is_open = true;
+    atomic_store_explicit(&the_program.hands[process].state,
+                          program_hand_state(it->order, HAND_EMPTY), memory_order_relaxed);
+    note(head, it, sizeof *it, 0);
+    apply_alone(process, it);
+    return YAK_WAITS;
+}
+
+/* Begins in the library what waits alone: YAK_WAITS, YAK_DONE if a message is there, or an error.
+ */
+static uint32_t enter(unsigned process)
+{
+    const record head = {.what = DID_ENTER, .process = (uint8_t)process};
+    const pending *it = &the_program.tables.waits[process];
+    yak_message message = {0};
+    const uint32_t answer = start(process, it, program_kept(process), it->len, &message);
+    if (answer == YAK_DONE || answer == YAK_WAITS) {
+        note(head, 0, 0, 0);
+        apply_enter(process, answer, &message);
+    }
+    return answer;
+}
+
+uint32_t did_enter(unsigned slot)
+{
+    const unsigned process = lone_waiter(slot);
+    const uint32_t answer = process != DISPATCHER ? enter(process) : (uint32_t)YAK_WAITS;
+    return answer == YAK_WAITS ? (uint32_t)YAK_DONE : answer;
+}
+
+unsigned did_hand(uint32_t d, const uint8_t *bytes, size_t len, uint32_t prio)
+{
+    const unsigned waiter = lone_waiter(the_program.tables.descriptions[d].queue);
+    const pending *it = &the_program.tables.waits[waiter];
+    const record head = {
+        .what = DID_HAND,
+        .process = (uint8_t)program_dispatcher_of(d),
+        .d = (uint8_t)program_there(d),
+        .prio = prio,
+        .len = (uint32_t)len,
+    };
+    yak_message message = {0};
+    uint32_t answer;
+    if (waiter == DISPATCHER)
+        return DISPATCHER;
+    MADE(answer,
+         yak_proved_start_receive(at(waiter), it->d, program_kept(waiter), it->len, &message));
+    if (answer == YAK_DONE) {
+        note(head, &waiter, sizeof waiter, bytes);
+        apply_keep(waiter, &message);
+        show_hand(waiter);
+    } else if (the_program.is_logged) {
+        /* The message stays in the queue, where the receiver finds it when it wakes. */
+        log_message(true, d, bytes, len, prio);
+    }
+    atomic_fetch_add(&the_program.news[waiter], 1);
+    return waiter;
+}
+
+bool did_take(unsigned process)
+{
+    const record head = {.what = DID_COLLECT, .process = (uint8_t)process};
+    if (!is_in_state(process, HAND_TAKEN))
+        return false;
+    note(head, 0, 0, 0);
+    apply_end(process);
+    return true;
+}
+
+/* What its thread finds when it wakes for another reason: a message is there only if an allocation
+ * failed in did_hand. If one fails here too, the wait ends with that. */
+static uint32_t look_alone(unsigned process)
+{
+    const record head = {.what = DID_END, .process = (uint8_t)process};
+    yak_attributes now = {0};
+    uint32_t answer;
+    READ(answer, yak_proved_getattr(at(process), the_program.tables.waits[process].d, &now));
+    if (answer != YAK_DONE || now.curmsgs == 0)
+        return YAK_WAITS;
+    answer = enter(process);
+    if (answer != YAK_DONE && answer != YAK_WAITS) {
+        note(head, &program_never, sizeof program_never, 0);
+        apply_end(process);
+    }
+    return answer;
+}
+
+/* Withdraws it at this time, as the library would. */
+static uint32_t end_alone(unsigned process, const yak_moment *now)
+{
+    const record head = {.what = DID_END, .process = (uint8_t)process};
+    if (program_is_before(now, &the_program.tables.waits[process].until))
+        return YAK_EARLY;
+    note(head, now, sizeof *now, 0);
+    apply_end(process);
+    return YAK_TIMEDOUT;
+}
+
+/* ---- the end of a wait ---- */
+
 /* Takes the kept result of a wait that has already ended. */
 static uint32_t take_kept(unsigned process, uint8_t *buf, size_t len, yak_message *message)
 {
@@ -343,6 +508,7 @@ static uint32_t take_kept(unsigned process, uint8_t *buf, size_t len, yak_messag
         memcpy(buf, program_kept(process), it->message.len);
         *message = it->message;
     }
+    atomic_store(&the_program.hands[process].state, 0);
     note(head, 0, 0, 0);
     apply_end(process);
     return YAK_DONE;
@@ -351,9 +517,13 @@ static uint32_t take_kept(unsigned process, uint8_t *buf, size_t len, yak_messag
 uint32_t did_collect(unsigned process, uint8_t *buf, size_t len, yak_message *message)
 {
     const record head = {.what = DID_COLLECT, .process = (uint8_t)process};
-    uint32_t answer;
-    if (the_program.tables.waits[process].has_ended)
+    uint32_t answer = YAK_DONE;
+    if (is_alone(process))
+        answer = look_alone(process);
+    if (answer == YAK_DONE && the_program.tables.waits[process].has_ended)
         return take_kept(process, buf, len, message);
+    if (answer != YAK_DONE)
+        return answer;
     MADE(answer, yak_proved_collect(at(process), buf, len, message));
     if (answer == YAK_DONE) {
         note(head, 0, 0, 0);
@@ -369,6 +539,8 @@ uint32_t did_end(unsigned process, uint8_t *buf, size_t len, yak_message *messag
     uint32_t answer;
     if (the_program.tables.waits[process].has_ended)
         return take_kept(process, buf, len, message);
+    if (is_alone(process))
+        return end_alone(process, now);
     MADE(answer, yak_proved_end_wait(at(process), buf, len, message, now));
     program_count(answer == YAK_TIMEDOUT ? MORE_BYTES : 0);
     if (answer == YAK_DONE || answer == YAK_TIMEDOUT) {
@@ -381,6 +553,15 @@ uint32_t did_end(unsigned process, uint8_t *buf, size_t len, yak_message *messag
 /* ---- rebuilding the system ---- */
 
 static uint8_t room[MOST_BYTES];
+
+/* Where the bytes are kept that a waiter keeps. A thread may be taking them just now: then they are
+ * whole, and are not written again. */
+static uint8_t *kept_again(unsigned process)
+{
+    return atomic_load(&the_program.hands[process].state) % HAND_STATES == HAND_FULL
+               ? room
+               : program_kept(process);
+}
 
 static uint32_t open_again(const record *it, const uint8_t *own)
 {
@@ -410,7 +591,7 @@ static uint32_t start_again(const record *it, const uint8_t *own)
     pending with;
     yak_message message;
     uint32_t answer;
-    uint8_t *kept = program_kept(it->process);
+    uint8_t *kept = kept_again(it->process);
     memcpy(&with, own, sizeof with);
     if (kept == 0)
         return YAK_NOMEMORY;
@@ -427,7 +608,7 @@ static uint32_t end_again(const record *it, const uint8_t *own)
     yak_message message;
     yak_moment now;
     uint32_t answer = YAK_DONE;
-    if (!the_program.tables.waits[it->process].has_ended) {
+    if (!the_program.tables.waits[it->process].has_ended && !is_alone(it->process)) {
         if (it->what == DID_COLLECT) {
             MADE(answer, yak_proved_collect(at(it->process), room, sizeof room, &message));
         } else {
@@ -441,14 +622,49 @@ static uint32_t end_again(const record *it, const uint8_t *own)
 
 static uint32_t keep_again(const record *it, const uint8_t *own)
 {
-    pending *to = &the_program.tables.waits[it->process];
-    uint8_t *kept = program_kept(it->process);
+    pending with;
+    uint8_t *kept = kept_again(it->process);
     if (kept == 0)
         return YAK_NOMEMORY;
-    memcpy(to, own, sizeof *to);
-    memcpy(kept, own + sizeof *to, it->len);
-    the_program.tables.idle &= ~(1u << it->process);
+    memcpy(&with, own, sizeof with);
+    memcpy(kept, own + sizeof with, it->len);
+    apply_start(it->process, &with);
+    apply_keep(it->process, &with.message);
     return YAK_DONE;
+}
+
+static uint32_t wait_alone_again(const record *it, const uint8_t *own)
+{
+    pending with;
+    memcpy(&with, own, sizeof with);
+    apply_alone(it->process, &with);
+    return YAK_DONE;
+}
+
+static uint32_t enter_again(const record *it)
+{
+    const pending *of = &the_program.tables.waits[it->process];
+    yak_message message = {0};
+    const uint32_t answer = start(it->process, of, kept_again(it->process), of->len, &message);
+    apply_enter(it->process, answer, &message);
+    return answer == YAK_WAITS ? (uint32_t)YAK_DONE : answer;
+}
+
+static uint32_t hand_again(const record *it, const uint8_t *own)
+{
+    yak_message message = {0};
+    unsigned waiter;
+    const pending *of;
+    uint32_t answer;
+    memcpy(&waiter, own, sizeof waiter);
+    of = &the_program.tables.waits[waiter];
+    MADE(answer,
+         yak_proved_start_send(at(it->process), it->d, own + sizeof waiter, it->len, it->prio));
+    if (answer == YAK_DONE)
+        MADE(answer,
+             yak_proved_start_receive(at(waiter), of->d, kept_again(waiter), of->len, &message));
+    apply_keep(waiter, &message);
+    return answer;
 }
 
 /* Makes the call of a record again: YAK_DONE, unless an allocation fails. */
@@ -487,9 +703,23 @@ static uint32_t do_again(const record *it)
         return start_again(it, own);
     case DID_KEEP:
         return keep_again(it, own);
+    case DID_ALONE:
+        return wait_alone_again(it, own);
+    case DID_ENTER:
+        return enter_again(it);
+    case DID_HAND:
+        return hand_again(it, own);
     default:
         return end_again(it, own);
     }
+}
+
+/* A process may have died between a record and the hand that it fills. */
+static void show_hands(void)
+{
+    for (uint32_t left = the_program.tables.ended; left != 0; left &= left - 1)
+        if (is_in_state((unsigned)__builtin_ctz(left), HAND_EMPTY))
+            show_hand((unsigned)__builtin_ctz(left));
 }
 
 bool log_replay(void)
@@ -511,5 +741,7 @@ bool log_replay(void)
         answer = do_again((const record *)it);
     the_program.until_large = until_large;
     the_program.is_torn = answer != YAK_DONE;
+    if (answer == YAK_DONE)
+        show_hands();
     return answer == YAK_DONE;
 }

@@ -23,7 +23,10 @@ enum {
     DID_START,
     DID_COLLECT,
     DID_END,
-    DID_KEEP /* the wait of a waiter has already ended, and its result is kept */
+    DID_KEEP,  /* the wait of a waiter has already ended, and its result is kept */
+    DID_ALONE, /* a receive begins to wait alone */
+    DID_ENTER, /* the library begins such a wait */
+    DID_HAND   /* a send, and the receive that waited alone; behind the record is its waiter */
 };
 
 /* The data of its kind follow, and the bytes of a name or a message. */
@@ -59,6 +62,17 @@ uint32_t did_start(unsigned process, pending *it, const request *asked, yak_mess
 uint32_t did_collect(unsigned process, uint8_t *buf, size_t len, yak_message *message);
 uint32_t did_end(unsigned process, uint8_t *buf, size_t len, yak_message *message,
                  const yak_moment *now);
+/* Begins a receive that waits alone: YAK_WAITS, or YAK_NOMEMORY. */
+uint32_t did_wait_alone(unsigned process, pending *it);
+/* Lets the library begin the receive that waits alone on a queue, if there is one: YAK_DONE, or an
+ * error, and then the receive stays alone. */
+uint32_t did_enter(unsigned slot);
+/* Hands the message that a dispatcher has just sent to the receive that waits alone on its queue,
+ * and records both calls. Returns the waiter, which has to be woken; or DISPATCHER if no receive
+ * waits so. */
+unsigned did_hand(uint32_t d, const uint8_t *bytes, size_t len, uint32_t prio);
+/* Closes the wait of a waiter if its thread has taken the message that was handed to it. */
+bool did_take(unsigned process);
 /* Takes the next notice of a dispatcher. log_take_notice commits it. */
 uint32_t did_next_notice(unsigned process, uint64_t *value);
 void log_take_notice(unsigned process, uint32_t d);

@@ -9,6 +9,13 @@
  * of messages, which wait is served, and every error. If the program has more than 16 open
  * descriptions, waiters become dispatchers, from process 32 down.
  *
+ * A receive that waits alone is one that nobody else could be served before or behind: no other
+ * call waits on its queue, and no notification is registered. Its waiter does not begin the call in
+ * the library yet. The next send to the queue makes both calls, first its own and then the receive
+ * of the waiter, which finds the message; and it hands the message over, so that the receiver needs
+ * no lock when it wakes. Before another call waits on the queue, or somebody registers there, the
+ * waiter begins the call (did_enter).
+ *
  * All of this is in memory that parent and forked children share (arena.h). One lock guards it; it
  * is held during a call and never while a call waits. If a process dies inside it, the next one
  * rebuilds the system from the log (log.h).
@@ -95,7 +102,7 @@ typedef struct pending {
     bool is_open;
     bool is_send;
     bool is_timed;
-    bool has_ended; /* the library no longer has the wait, and its result is kept here */
+    bool has_ended; /* the library does not have the wait any more, and its result is kept here */
     uint8_t queue;
     uint16_t owner;
     uint32_t d;     /* the waiter's descriptor */
@@ -119,8 +126,27 @@ typedef struct tables {
     pending waits[PROCESSES];
     uint32_t waiters; /* the processes that are not dispatchers, by bits */
     uint32_t idle;    /* the waiters without an open wait */
+    uint32_t alone;   /* those with a receive that waits alone */
+    uint32_t ended;   /* those with an open wait that has ended */
     uint32_t registered;
 } tables;
+
+/* ---- messages that are handed over ---- */
+
+enum { HAND_EMPTY, HAND_FULL, HAND_TAKEN, HAND_STATES };
+
+/* How the thread of a wait that has ended takes the message without the lock: the bytes are in
+ * ARENA_KEPT. The state is one of those, with the order of the wait. Only that thread changes it
+ * from full to taken; what the others change they change inside the lock. */
+typedef struct hand {
+    _Alignas(64) _Atomic uint64_t state;
+    yak_message message;
+} hand;
+
+static inline uint64_t program_hand_state(uint64_t order, unsigned state)
+{
+    return order * HAND_STATES + state;
+}
 
 /* ---- operating-system processes ---- */
 
@@ -176,7 +202,10 @@ typedef struct ending {
 /* The wait of a thread, which has at most one. It is thread-local, because on the stack it would be
  * lost if a handler jumped out of the call. */
 typedef struct waiting {
-    unsigned number; /* of the wait, counted from 1 in the whole program; 0 if none is open */
+    /* Of the wait, counted from 1 in the whole program; 0 if none is open. One that took its
+       message without the lock is still in the list then. */
+    _Atomic unsigned number;
+    bool is_listed;
     request asked;
     pthread_t thread;
     pid_t tid; /* the kernel's id of its thread */
@@ -219,7 +248,8 @@ typedef struct program {
     unsigned seen_closes[PROCESSES];  /* `closes` when a waiter last released what nobody holds */
     _Atomic uint32_t news[PROCESSES]; /* how often there was news for the wait of a waiter; that of
                                          the dispatcher is for overflow calls */
-    unsigned log;                     /* which of the two logs is in use */
+    hand hands[PROCESSES];
+    unsigned log; /* which of the two logs is in use */
     char *log_next[2];
     size_t log_limit;     /* in bytes: at this size a checkpoint is made */
     unsigned owners_used; /* slots from here on are free */
@@ -278,6 +308,11 @@ static inline unsigned program_owner_number(void)
 /* The last moment, used as the deadline of a call without one. */
 static const yak_moment program_never = {.sec = INT64_MAX, .nsec = 999999999};
 
+static inline bool program_is_before(const yak_moment *one, const yak_moment *other)
+{
+    return one->sec != other->sec ? one->sec < other->sec : one->nsec < other->nsec;
+}
+
 /* The part of a registration that only its process can use. */
 typedef struct own_part {
     uint64_t serial; /* of the registration; 0 if there is none */
@@ -310,6 +345,8 @@ void program_wake_next(void);
 /* Releases the lock and wakes the threads whose waits were answered. If the process is killed in
  * this, it has woken them, or is known to have died inside the lock. */
 void program_leave_waking(uint32_t answered);
+/* Whether this thread holds the lock. */
+bool program_holds_lock(void);
 void program_tell_locked(void);
 /* Sets the lock's word free, and wakes a thread that sleeps for it. ThreadSanitizer is told. */
 void program_unlock_watched(void);
@@ -468,19 +505,29 @@ static inline __attribute__((always_inline)) uint32_t program_try(bool is_send, 
     return answer;
 }
 
+/* Records a send or a receive that the dispatcher has done. If a receive waits alone for what was
+ * sent, that is done too; then it returns the waiter, as a bit, which is to be woken; else 0. */
+uint32_t program_record(uint32_t d, const request *asked);
 /* An idle waiter that has the queue of this description open too, and its descriptor there; or
  * DISPATCHER if there is none. */
 unsigned program_choose(uint32_t d, uint32_t *there);
 /* Makes a waiter whose wait has ended close the queues that nobody has open any more. */
 void program_release(unsigned process);
+/* Closes the waits whose threads have taken their messages without the lock. */
+void program_close_taken(void);
 /* Makes all idle waiters open the queue with this name, before it is unlinked. */
 void program_replicate_all(const uint8_t *name, size_t len);
 /* Makes a waiter a dispatcher: false if it has an open wait, or keeps a descriptor. */
 bool program_take_dispatcher(unsigned process);
 /* Closes a description that nobody holds any more, and the descriptors of waiters for it. */
 uint32_t program_close_description(uint32_t d);
-/* The kept bytes of the open wait of a waiter; null if an allocation failed. */
+/* The kept bytes of the open wait of a waiter; null if an allocation failed. The second does not
+ * allocate. */
 uint8_t *program_kept(unsigned process);
+static inline uint8_t *program_kept_from(unsigned process)
+{
+    return (uint8_t *)the_program.arena.parts[ARENA_KEPT].from + (size_t)process * MOST_BYTES;
+}
 
 /* program_note_answers records, inside the lock, whose waits the last call of a process has
  * answered; after the lock is released, the next function wakes them. */
@@ -494,9 +541,10 @@ typedef enum fate {
     CANCELLED,
     WITHDRAWN, /* a call of a handler withdrew its wait: it starts again */
     /* With these the lock is not held: */
-    LOST,   /* its thread is now in a child, which a handler forked: EINTR there */
-    ANEW,   /* the same if the handler restarts calls: the call starts again there */
-    REFUSED /* `error` says why */
+    LOST,    /* its thread is now in a child, which a handler forked: EINTR there */
+    ANEW,    /* the same if the handler restarts calls: the call starts again there */
+    REFUSED, /* `error` says why */
+    HANDED   /* it has its message */
 } fate;
 
 typedef struct outcome {
@@ -515,6 +563,8 @@ outcome program_wait(unsigned *process, uint32_t d, const request *asked, yak_me
 /* Ends the open wait of this thread, so that the thread can make another call; inside the lock.
  * ENOMEM if it stays open. */
 int program_end_own_wait(void);
+/* Where a cancellation may act that leaves frames of the library: AddressSanitizer is told. */
+void program_test_cancel(void);
 /* Ends the open wait of a thread that ends. */
 void program_end_with_thread(void *unused);
 

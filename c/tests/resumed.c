@@ -16,7 +16,7 @@ enum {
     MSGSIZE = 16,
     MESSAGES = 1000,
     ROUNDS = 20,
-    MOST_NANOS = 2000000,
+    MOST_NANOS = 6000000,
     ROOM = 1000
 };
 
@@ -336,7 +336,9 @@ static int64_t nanos_of(resumes *by, journal from)
     return (after.tv_sec - before.tv_sec) * 1000000000 + after.tv_nsec - before.tv_nsec;
 }
 
-/* The minimum of some rounds, in time of the processor, because the machine may be busy. */
+/* The minimum of some rounds, in time of the processor, because the machine may be busy. A resume
+ * takes one millisecond, two if another thread shares the core, and tens if each entry reads the
+ * journal again. */
 static bool is_quick(resumes *by, journal from, bool tells)
 {
     int64_t least = INT64_MAX;
