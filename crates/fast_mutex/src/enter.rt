@@ -16,11 +16,15 @@ const MOST_PAUSES: u32 = 12;
 /// Acquiring with a wait, for every lock. It is a trait of its own, so that code that never waits
 /// can use a lock.
 pub trait Enter<S: Logged>: Lock<S> {
-    /// Takes at most [`FAST_PATH_STEPS`] steps, and none once the lock is acquired. It never waits.
+    /// Takes [`FAST_PATH_STEPS`] steps, or fewer if the lock is acquired before. It takes none once
+    /// the lock is acquired. It never waits.
     fn take_fast_path(&self, walk: Self::Walk) -> Self::Walk
         requires { (Self.walking walk).lock ≡ Self.id self.now }
         ensures ticket { Self.walking result ≡ Self.walking walk }
-        ensures few { Self.walk_accesses result ≤ Self.walk_accesses walk + 5 };
+        ensures few { Self.walk_accesses result ≤ Self.walk_accesses walk + 5 }
+        ensures all { Self.is_in result ≡ false →
+            Self.walk_accesses result ≡ Self.walk_accesses walk + 5 }
+        ensures inside { Self.is_in walk ≡ true → result ≡ walk };
 
     /// Takes steps until the lock is acquired, and waits while another process holds it.
     fn come_in<R: Wait>(&self, rt: &R, walk: Self::Walk) -> Self::Walk
@@ -148,6 +152,8 @@ fn next<S: Logged, L: Lock<S>>(lock: &L, walk: L::Walk) -> L::Walk
     requires { (L.walking walk).lock ≡ L.id lock.now }
     ensures ticket { L.walking result ≡ L.walking walk }
     ensures one { L.walk_accesses result ≤ L.walk_accesses walk + 1 }
+    ensures inside { L.is_in walk ≡ true → result ≡ walk }
+    ensures outside { L.is_in walk ≡ false → L.walk_accesses result ≡ L.walk_accesses walk + 1 }
 {
     if !L::is_admitted(&walk) {
         return lock.step(walk).0;
