@@ -1,6 +1,7 @@
 //! Reading a history as text from an input, line by line.
 ghost use Rattle.std.specs.Prelude.{◌≡◌, ◌<◌, ◌+◌, ◌++◌, ℕ, List, false, IfOk, IsErrOf, OnOk, Some, length, take};
 ghost use Rattle.journal_format.specs.Lines.{ReadsUpTo};
+ghost use Rattle.text_io.specs.Sources.{HasFailed};
 ghost use Rattle.journal_format.specs.Text.{has_feed};
 ghost use Rattle.journal_format.specs.declared.fault.JournalFault.TheVariants.{BadLine, Input};
 ghost use Rattle.history_judge.specs.Fitting.{AllFit};
@@ -12,7 +13,7 @@ use crate::text::{read_lines, whole};
 use journal_format::fault::JournalFault;
 use journal_format::lines::{Lines, MOST_BYTES};
 use std::alloc::Global;
-use std::io::Read;
+use text_io::sources::ByteSource;
 
 /// The calls whose text the input has; of a longer input only the first 2^40 + 1 bytes are read.
 /// Each line is parsed as soon as it is read, and no text is kept except the last line until its
@@ -22,7 +23,7 @@ use std::io::Read;
 ///   call of a process from 1 to 32, or it has no line feed within `MOST_LINE` bytes. No read was
 ///   made after those that returned it.
 /// - `JournalFault::Input`: a read failed.
-pub fn read_input<R: Read>(alloc: Global, input: &mut R) -> Result<Vec<Called>, JournalFault>
+pub fn read_input<R: ByteSource>(alloc: Global, input: &mut R) -> Result<Vec<Called>, JournalFault>
     ensures found { (all : List ℕ) → R.remaining input.old ≡ Some all →
         IfOk result (λ calls. take (MOST_BYTES + 1) all ≡ history_text calls.items) }
     ensures fits { IfOk result (λ calls. AllFit calls.items) }
@@ -30,6 +31,8 @@ pub fn read_input<R: Read>(alloc: Global, input: &mut R) -> Result<Vec<Called>, 
         ReadsUpTo line (R.remaining input.old) (R.remaining input.new) }
     ensures bad_line { (all : List ℕ) (line : ℕ) → R.remaining input.old ≡ Some all →
         IsErrOf result (BadLine line) → IsAtFault line (take (MOST_BYTES + 1) all) }
+    ensures cause { IsErrOf result Input → HasFailed (R.failed input.new) }
+    ensures well { (IsErrOf result Input → ⊥) → R.failed input.new ≡ R.failed input.old }
 {
     let mut calls: Vec<Called> = Vec::new(alloc);
     let mut lines = Lines::new(alloc);

@@ -3,6 +3,7 @@ ghost use Rattle.std.specs.Prelude.{◌≡◌, ◌<◌, ◌≤◌, ◌+◌, ◌^
 ghost use Rattle.journal_format.specs.Fitting.{AllFit};
 ghost use Rattle.journal_format.specs.JournalFault.{IsAtFault, StopsAt};
 ghost use Rattle.journal_format.specs.Lines.{ReadsUpTo};
+ghost use Rattle.text_io.specs.Sources.{HasFailed};
 ghost use Rattle.journal_format.specs.Text.{has_feed, journal_text};
 ghost use Rattle.journal_format.specs.declared.fault.JournalFault.TheVariants.{BadLine, Input};
 
@@ -11,7 +12,7 @@ use crate::lines::{Lines, MOST_BYTES};
 use crate::text::{read_lines, whole};
 use mq_model::journals::Journal;
 use std::alloc::Global;
-use std::io::Read;
+use text_io::sources::ByteSource;
 
 /// The journal whose text the input has; of a longer input only the first 2^40 + 1 bytes are read.
 /// Each line is parsed as soon as it is read, and no text is kept except the last line until its
@@ -21,7 +22,7 @@ use std::io::Read;
 ///   entry with the next sequence number, or it has no line feed within `MOST_LINE` bytes. No read
 ///   was made after those that returned it.
 /// - `JournalFault::Input`: a read failed.
-pub fn read_input<R: Read>(alloc: Global, input: &mut R) -> Result<Journal, JournalFault>
+pub fn read_input<R: ByteSource>(alloc: Global, input: &mut R) -> Result<Journal, JournalFault>
     ensures found { (all : List ℕ) → R.remaining input.old ≡ Some all →
         IfOk result (λ journal. AllFit journal.records ×
         (take (MOST_BYTES + 1) all ≡ journal_text journal.records)) }
@@ -29,6 +30,8 @@ pub fn read_input<R: Read>(alloc: Global, input: &mut R) -> Result<Journal, Jour
         ReadsUpTo line (R.remaining input.old) (R.remaining input.new) }
     ensures bad_line { (all : List ℕ) (line : ℕ) → R.remaining input.old ≡ Some all →
         IsErrOf result (BadLine line) → IsAtFault line (take (MOST_BYTES + 1) all) }
+    ensures cause { IsErrOf result Input → HasFailed (R.failed input.new) }
+    ensures well { (IsErrOf result Input → ⊥) → R.failed input.new ≡ R.failed input.old }
 {
     let mut journal = Journal::new(alloc);
     let mut lines = Lines::new(alloc);

@@ -2,11 +2,12 @@
 ghost use Rattle.std.specs.Prelude.{◌≡◌, ◌<◌, ◌≤◌, ◌+◌, ◌++◌, ℕ, List, [], Option, Ok, false, true, IfOk, IsErrOf, OnOk, length};
 ghost use Rattle.journal_format.specs.Lines.{HasEnded, HasNewLine, HasRead};
 ghost use Rattle.journal_format.specs.Text.{can_go_on, has_feed};
-ghost use Rattle.journal_format.specs.declared.fault.JournalFault.TheVariants.{BadLine};
+ghost use Rattle.text_io.specs.Sources.{HasFailed};
+ghost use Rattle.journal_format.specs.declared.fault.JournalFault.TheVariants.{BadLine, Input};
 
 use crate::fault::JournalFault;
 use std::alloc::Global;
-use std::io::Read;
+use text_io::sources::ByteSource;
 
 /// The maximum length of a text, in bytes.
 pub const MOST_BYTES: usize = 1 << 40;
@@ -48,7 +49,7 @@ impl Lines {
     /// Reads until `rest` has a whole line. False if no line will come: everything was read, or
     /// `rest` is longer than a line can be, or has a byte that no line has. `JournalFault::Input`:
     /// a read failed.
-    pub fn come<R: Read>(&mut self, input: &mut R) -> Result<bool, JournalFault>
+    pub fn come<R: ByteSource>(&mut self, input: &mut R) -> Result<bool, JournalFault>
         requires rest { has_feed self.old.rest.items ≡ false }
         requires short { length self.old.rest.items ≤ CHUNK }
         ensures feed { IfOk result (λ came. has_feed self.new.rest.items ≡ came) }
@@ -61,6 +62,8 @@ impl Lines {
             HasEnded self.new.rest.items self.new.left (R.remaining input.new) }
         ensures few { OnOk result (length self.new.rest.items ≤ MOST_LINE + CHUNK) }
         ensures no_line { (line : ℕ) → IsErrOf result (BadLine line) → ⊥ }
+        ensures cause { IsErrOf result Input → HasFailed (R.failed input.new) }
+        ensures well { (IsErrOf result Input → ⊥) → R.failed input.new ≡ R.failed input.old }
     {
         if !can_go_on(self.rest.as_slice()) {
             return Ok(false);
@@ -68,7 +71,7 @@ impl Lines {
         let mut chunk = [0u8; CHUNK];
         'reads: while self.left > 0 && self.rest.len() <= MOST_LINE {
             let count = input
-                .read(&mut chunk[..self.left.min(CHUNK)])
+                .read_bytes(&mut chunk[..self.left.min(CHUNK)])
                 .map_err(|_| JournalFault::Input)?;
             if count == 0 {
                 return Ok(false);

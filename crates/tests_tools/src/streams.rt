@@ -6,6 +6,7 @@ use std::io::{Error, ErrorKind, Read, Write};
 use std::test::Fail;
 use text_io::input::{ReadFault, read_all};
 use text_io::output::{WriteFailed, write_all};
+use text_io::sources::{Memory, Watched};
 
 // Gives its bytes one at a time, and fails at one read.
 #[derive(Drop)]
@@ -32,25 +33,31 @@ impl Read for OneByOne {
     }
 }
 
-// The bytes from a reader that fails at this read.
-fn bytes_until(alloc: Global, fails_at: usize, most: usize) -> Result<Vec<u8>, ReadFault> {
-    let mut input = OneByOne {
-        rest: b"abc",
-        reads: 0,
-        fails_at,
+// The bytes from a reader that fails at this read. Whether a read failed is noted.
+fn bytes_until(alloc: Global, fails_at: usize, most: usize) -> (Result<Vec<u8>, ReadFault>, bool) {
+    let mut input = Watched {
+        reader: OneByOne {
+            rest: b"abc",
+            reads: 0,
+            fails_at,
+        },
+        failed: false,
     };
-    read_all(alloc, &mut input, most)
+    let read = read_all(alloc, &mut input, most);
+    (read, input.failed)
 }
 
 #[test]
 fn all_is_read_unless_a_read_fails(rt: HostRuntime) -> Result<(), Fail> {
     for fails_at in 1..=4 {
-        let fault = bytes_until(rt.alloc(), fails_at, 256).err();
-        same(&rt, fault, Some(ReadFault::Failed), "a read that fails");
+        let (read, failed) = bytes_until(rt.alloc(), fails_at, 256);
+        same(&rt, read.err(), Some(ReadFault::Failed), "a read that fails");
+        assert!(rt; failed, "{fails_at}");
     }
     for most in [3, 4, 256, usize::MAX] {
-        let all = bytes_until(rt.alloc(), 5, most)?;
-        assert!(rt; all.as_slice() == b"abc".as_slice(), "{most}");
+        let (all, failed) = bytes_until(rt.alloc(), 5, most);
+        assert!(rt; all?.as_slice() == b"abc".as_slice(), "{most}");
+        assert!(rt; !failed, "{most}");
     }
     Ok(())
 }
@@ -76,7 +83,10 @@ fn pieces_of_an_input_are_put_together(rt: HostRuntime) -> Result<(), Fail> {
     for k in 0..10_000u32 {
         whole.push((k % 251) as u8)?;
     }
-    let all = read_all(rt.alloc(), &mut whole.as_slice(), 1_048_576)?;
+    let mut input = Memory {
+        rest: whole.as_slice(),
+    };
+    let all = read_all(rt.alloc(), &mut input, 1_048_576)?;
     assert!(rt; all.as_slice() == whole.as_slice());
     Ok(())
 }

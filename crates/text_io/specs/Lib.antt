@@ -1,3 +1,4 @@
 pub mod Faults
 pub mod Output
+pub mod Sources
 pub mod Words

@@ -2,12 +2,13 @@
 ghost use Rattle.std.specs.Prelude.{◌≡◌, ◌≤◌, ◌+◌, ℕ, List, IfOk, IfSome, IsErrOf, OnErr, Some, length, take, vec_len};
 ghost use Rattle.std.specs.Io.KnownBytes.{Consumes};
 ghost use Rattle.text_io.specs.Faults.{read_fault_text};
+ghost use Rattle.text_io.specs.Sources.{HasFailed};
 ghost use Rattle.text_io.specs.declared.input.ReadFault.TheVariants.{Failed, NoMemory};
 
+use crate::sources::ByteSource;
 use std::alloc::{AllocError, Global};
 use std::error::Error;
 use std::fmt;
-use std::io::Read;
 
 /// Why an input could not be read.
 #[derive(Clone, Copy, Debug, PartialEq, Eq)]
@@ -45,7 +46,11 @@ const CHUNK: usize = 4096;
 /// The bytes of the input, up to one more than `most`. Each read except the last returns at least
 /// one byte, so there are at most `most + 1` reads. What was read before an error is lost. Once
 /// `most + 1` bytes are there, nothing more is read.
-pub fn read_all<R: Read>(alloc: Global, input: &mut R, most: usize) -> Result<Vec<u8>, ReadFault>
+pub fn read_all<R: ByteSource>(
+    alloc: Global,
+    input: &mut R,
+    most: usize,
+) -> Result<Vec<u8>, ReadFault>
     ensures size { IfOk result (λ bytes. vec_len bytes ≤ most + 1) }
     ensures bytes { IfOk result (λ bytes. IfSome (R.remaining input.old) (λ all. bytes.items ≡
         take (most + 1) all)) }
@@ -55,13 +60,15 @@ pub fn read_all<R: Read>(alloc: Global, input: &mut R, most: usize) -> Result<Ve
         Consumes (R.remaining input.old) (R.remaining input.new) lost) }
     ensures failed { IsErrOf result Failed → (lost : List ℕ) × (length lost ≤ most) ×
         Consumes (R.remaining input.old) (R.remaining input.new) lost }
+    ensures cause { IsErrOf result Failed → HasFailed (R.failed input.new) }
+    ensures well { (IsErrOf result Failed → ⊥) → R.failed input.new ≡ R.failed input.old }
 {
     let mut bytes = Vec::new(alloc);
     let mut chunk = [0u8; CHUNK];
     while bytes.len() <= most {
         let room = (most - bytes.len()).min(CHUNK - 1) + 1;
         let count = input
-            .read(&mut chunk[..room])
+            .read_bytes(&mut chunk[..room])
             .map_err(|_| ReadFault::Failed)?;
         if count == 0 {
             return Ok(bytes);
