@@ -1,5 +1,6 @@
 //! From the bytes of a journal to the verdict on it.
 ghost use Rattle.std.specs.Prelude.{◌≡◌, ◌+◌, ℕ, List, IfOk, IsErrOf, Some, take};
+ghost use Rattle.text_io.specs.Sources.{HasFailed};
 ghost use Rattle.text_io.specs.Output.{AppendsTooLittle};
 ghost use Rattle.journal_format.specs.JournalFault.{IsAtFault};
 ghost use Rattle.journal_format.specs.Lines.{ReadsUpTo};
@@ -11,8 +12,9 @@ use crate::verdict::{Verdict, verdict_of, verdict_text};
 use journal_format::input::read_input;
 use journal_format::lines::MOST_BYTES;
 use std::alloc::Global;
-use std::io::{Read, Write};
+use std::io::Write;
 use text_io::output::write_all;
+use text_io::sources::ByteSource;
 
 /// Reads a journal line by line, checks it, and writes a line with the number of its entries,
 /// processes and queues, or the first entry that is not legal and why.
@@ -22,7 +24,7 @@ use text_io::output::write_all;
 /// - `LogFault::Input`: a read failed. Nothing is written.
 /// - `LogFault::Output`: a write failed. A prefix of the verdict is written.
 /// - `LogFault::NoMemory`: memory was refused. Nothing is written.
-pub fn check_journal<R: Read, W: Write>(
+pub fn check_journal<R: ByteSource, W: Write>(
     alloc: Global,
     input: &mut R,
     output: &mut W,
@@ -41,6 +43,8 @@ pub fn check_journal<R: Read, W: Write>(
     ensures output { (all : List ℕ) → R.remaining input.old ≡ Some all →
         IsErrOf result Output → StopsInVerdict (take (MOST_BYTES + 1) all) (W.contents output.old)
         (W.contents output.new) }
+    ensures cause { IsErrOf result Input → HasFailed (R.failed input.new) }
+    ensures well { (IsErrOf result Input → ⊥) → R.failed input.new ≡ R.failed input.old }
 {
     let journal = read_input(alloc, input)?;
     let verdict = verdict_of(alloc, &journal)?;

@@ -1,5 +1,6 @@
 //! From the bytes of a journal to a picture of it.
 ghost use Rattle.std.specs.Prelude.{◌≡◌, ◌+◌, ℕ, List, IsErrOf, OnOk, Some, take};
+ghost use Rattle.text_io.specs.Sources.{HasFailed};
 ghost use Rattle.journal_format.specs.JournalFault.{IsAtFault};
 ghost use Rattle.journal_format.specs.Lines.{ReadsUpTo};
 ghost use Rattle.journal_tasks.specs.Window.{Draws, DrawsInPart};
@@ -11,8 +12,9 @@ use journal_format::input::read_input;
 use journal_format::lines::MOST_BYTES;
 use journal_views::picture_of;
 use std::alloc::Global;
-use std::io::{Read, Write};
+use std::io::Write;
 use text_io::output::write_all;
+use text_io::sources::ByteSource;
 
 /// Reads a journal line by line, which need not be legal, and writes a picture of its entries in
 /// the window, at most the first 2,000 of these.
@@ -22,7 +24,7 @@ use text_io::output::write_all;
 /// - `LogFault::Input`: a read failed. Nothing is written.
 /// - `LogFault::Output`: a write failed. A proper prefix of the picture is written.
 /// - `LogFault::NoMemory`: memory was refused. Nothing is written.
-pub fn draw_journal<R: Read, W: Write>(
+pub fn draw_journal<R: ByteSource, W: Write>(
     alloc: Global,
     input: &mut R,
     output: &mut W,
@@ -41,6 +43,8 @@ pub fn draw_journal<R: Read, W: Write>(
     ensures no_memory { IsErrOf result NoMemory → W.contents output.new ≡ W.contents output.old }
     ensures unwritten { (line : ℕ) → IsErrOf result (BadLine line) →
         W.contents output.new ≡ W.contents output.old }
+    ensures cause { IsErrOf result Input → HasFailed (R.failed input.new) }
+    ensures well { (IsErrOf result Input → ⊥) → R.failed input.new ≡ R.failed input.old }
 {
     let journal = read_input(alloc, input)?;
     let (from, count) = shown(window, &journal);

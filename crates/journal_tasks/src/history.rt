@@ -1,5 +1,6 @@
 //! From the bytes of a script to the history of its calls.
 ghost use Rattle.std.specs.Prelude.{◌≡◌, ◌≤◌, ◌⊎◌, ◌+◌, ℕ, List, Vec, IfErr, IsErrOf, OnOk, Some, Ok, Err, take};
+ghost use Rattle.text_io.specs.Sources.{HasFailed};
 ghost use Rattle.std.specs.declared.alloc.Global.{Global};
 ghost use Rattle.script_runner.specs.RunFault.{IsLate, StopsAt};
 ghost use Rattle.script_text.specs.Script.{Whole, said_script, script_written};
@@ -14,12 +15,13 @@ use mq::Guarded;
 use script_runner::{Noted, RunFault, run_noted};
 use script_text::script::{MOST_BYTES, Script, read_script};
 use std::alloc::Global;
-use std::io::{Read, Write};
+use std::io::Write;
 use std::sync::Wait;
 use std::thread::Threads;
 use std::time::Clock;
 use text_io::input::read_all;
 use text_io::output::write_all;
+use text_io::sources::ByteSource;
 
 /// Runs a script over the lock `L` as `run_script` does, and writes the history of its calls. Fails
 /// as `run_script`, and also with `RunFault::NoMemory` if a call failed with `NoMemory`, even in a
@@ -36,7 +38,7 @@ where
     L::Seat: Send,
     L::Walk: Send,
     S: Threads + Wait + Clock + Sync,
-    R: Read,
+    R: ByteSource,
     W: Write,
     ensures bad_call { (all : List ℕ) (line : ℕ) → R.remaining input.old ≡ Some all →
         script_written (take (MOST_BYTES + 1) all) ≡ Err line →
@@ -55,6 +57,8 @@ where
     ensures done { (all : List ℕ) (script : Whole) → R.remaining input.old ≡ Some all →
         script_written (take (MOST_BYTES + 1) all) ≡ Ok script →
         OnOk result (RecordsHistory script (W.contents output.old) (W.contents output.new)) }
+    ensures cause { IsErrOf result Input → HasFailed (R.failed input.new) }
+    ensures well { (IsErrOf result Input → ⊥) → R.failed input.new ≡ R.failed input.old }
 {
     let text = read_all(alloc, input, MOST_BYTES)?;
     let script = read_script(alloc, text.as_slice())?;

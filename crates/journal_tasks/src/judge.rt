@@ -1,5 +1,6 @@
 //! From the bytes of a concurrent history to whether it is linearizable.
 ghost use Rattle.std.specs.Prelude.{◌≡◌, ◌+◌, ℕ, List, IfOk, IsErrOf, Some, take};
+ghost use Rattle.text_io.specs.Sources.{HasFailed};
 ghost use Rattle.history_judge.specs.HistoryFault.{IsAtFault};
 ghost use Rattle.journal_format.specs.Lines.{ReadsUpTo};
 ghost use Rattle.history_judge.specs.declared.well_formed.IllFormed.{IllFormed};
@@ -13,8 +14,9 @@ use history_judge::said::{judgement_text, status_of};
 use history_judge::well_formed::first_fault;
 use journal_format::lines::MOST_BYTES;
 use std::alloc::Global;
-use std::io::{Read, Write};
+use std::io::Write;
 use text_io::output::write_all;
+use text_io::sources::ByteSource;
 
 /// How a history is checked.
 #[derive(Clone, Copy, Debug, PartialEq, Eq)]
@@ -43,7 +45,7 @@ pub const PLAIN: Question = Question {
 /// - `LogFault::Input`: a read failed. Nothing is written.
 /// - `LogFault::Output`: a write failed. A prefix of the result is written.
 /// - `LogFault::NoMemory`: memory was refused. Nothing is written.
-pub fn judge_history<R: Read, W: Write>(
+pub fn judge_history<R: ByteSource, W: Write>(
     alloc: Global,
     input: &mut R,
     output: &mut W,
@@ -68,6 +70,8 @@ pub fn judge_history<R: Read, W: Write>(
     ensures output { (all : List ℕ) → R.remaining input.old ≡ Some all →
         IsErrOf result Output → StopsInJudgement question.budget (take (MOST_BYTES + 1) all)
         question.journal (W.contents output.old) (W.contents output.new) }
+    ensures cause { IsErrOf result Input → HasFailed (R.failed input.new) }
+    ensures well { (IsErrOf result Input → ⊥) → R.failed input.new ≡ R.failed input.old }
 {
     let calls = read_input(alloc, input)?;
     if let Some((line, why)) = first_fault(&calls) {

@@ -1,10 +1,11 @@
 //! From the bytes of a script that continues from a journal to the text of the journal of both.
 ghost use Rattle.std.specs.Prelude.{◌≡◌, ◌≢◌, ◌≤◌, ◌+◌, ℕ, List, IfErr, IfOk, IsErrOf, Some, Ok, Err, take};
+ghost use Rattle.text_io.specs.Sources.{HasFailed};
 ghost use Rattle.script_runner.specs.RunFault.{IsLate, StopsAt};
 ghost use Rattle.script_text.specs.Script.{Whole, said_script, script_written};
 ghost use Rattle.journal_tasks.specs.Resumed.{Resumes, ResumesInPart};
 ghost use Rattle.script_runner.specs.declared.fault.RunFault.{RunFault};
-ghost use Rattle.script_runner.specs.declared.fault.RunFault.TheVariants.{BadCall, Output};
+ghost use Rattle.script_runner.specs.declared.fault.RunFault.TheVariants.{BadCall, Input, Output};
 
 use crate::start::{NoStart, start_after};
 use fast_mutex::Look;
@@ -14,12 +15,13 @@ use mq_model::journals::Journal;
 use script_runner::{Gate, RunFault, run_after};
 use script_text::script::{MOST_BYTES, Script, read_script};
 use std::alloc::Global;
-use std::io::{Read, Write};
+use std::io::Write;
 use std::sync::Wait;
 use std::thread::Threads;
 use std::time::Clock;
 use text_io::input::read_all;
 use text_io::output::write_all;
+use text_io::sources::ByteSource;
 
 /// Runs a script over the lock `L` as `record_script` does, on the queues that a journal leaves,
 /// and writes the text of the journal with the calls of both. If the script cannot continue from
@@ -38,7 +40,7 @@ where
     L::Seat: Send,
     L::Walk: Send,
     S: Threads + Wait + Clock + Sync,
-    R: Read,
+    R: ByteSource,
     W: Write,
     G: Gate + Sync,
     ensures bad_call { (all : List ℕ) (line : ℕ) → R.remaining input.old ≡ Some all →
@@ -55,6 +57,8 @@ where
         script_written (take (MOST_BYTES + 1) all) ≡ Ok script →
         IfOk result (λ why. Resumes journal.records script why (W.contents output.old)
         (W.contents output.new)) }
+    ensures cause { IsErrOf result Input → HasFailed (R.failed input.new) }
+    ensures well { (IsErrOf result Input → ⊥) → R.failed input.new ≡ R.failed input.old }
 {
     let text = read_all(alloc, input, MOST_BYTES)?;
     let script = read_script(alloc, text.as_slice())?;

@@ -1,5 +1,6 @@
 //! From the bytes of a journal to the state after a prefix of it.
 ghost use Rattle.std.specs.Prelude.{◌≡◌, ◌+◌, ℕ, List, IfOk, IsErrOf, MatchResult, Some, take};
+ghost use Rattle.text_io.specs.Sources.{HasFailed};
 ghost use Rattle.journal_format.specs.JournalFault.{IsAtFault};
 ghost use Rattle.journal_format.specs.Lines.{ReadsUpTo};
 ghost use Rattle.journal_tasks.specs.State.{IsTextOf, LacksState, Tells, TellsInPart};
@@ -13,8 +14,9 @@ use mq_model::journals::Journal;
 use mq_state::replay::replay;
 use std::alloc::{AllocError, Global};
 use std::fmt;
-use std::io::{Read, Write};
+use std::io::Write;
 use text_io::output::write_all;
+use text_io::sources::ByteSource;
 
 /// Which state is wanted: after this number of entries, or after all, and in which form.
 #[derive(Clone, Copy, Debug, PartialEq, Eq)]
@@ -57,7 +59,7 @@ impl fmt::Display for NoState {
 /// - `LogFault::Input`: a read failed. Nothing is written.
 /// - `LogFault::Output`: a write failed. A proper prefix of the state is written.
 /// - `LogFault::NoMemory`: memory was refused. Nothing is written.
-pub fn state_journal<R: Read, W: Write>(
+pub fn state_journal<R: ByteSource, W: Write>(
     alloc: Global,
     input: &mut R,
     output: &mut W,
@@ -77,6 +79,8 @@ pub fn state_journal<R: Read, W: Write>(
     ensures no_memory { IsErrOf result NoMemory → W.contents output.new ≡ W.contents output.old }
     ensures unwritten { (line : ℕ) → IsErrOf result (BadLine line) →
         W.contents output.new ≡ W.contents output.old }
+    ensures cause { IsErrOf result Input → HasFailed (R.failed input.new) }
+    ensures well { (IsErrOf result Input → ⊥) → R.failed input.new ≡ R.failed input.old }
 {
     let journal = read_input(alloc, input)?;
     let told = text_of(alloc, &journal, wanted)?;

@@ -1,10 +1,11 @@
 //! From the bytes of a journal to a page of it.
 ghost use Rattle.std.specs.Prelude.{◌≡◌, ◌≤◌, ◌+◌, ℕ, List, IfOk, IsErrOf, Ok, Some, length, take};
+ghost use Rattle.text_io.specs.Sources.{HasFailed};
 ghost use Rattle.mq_model.specs.Record.{first};
 ghost use Rattle.journal_format.specs.JournalFault.{IsAtFault};
 ghost use Rattle.journal_format.specs.Lines.{ReadsUpTo};
 ghost use Rattle.journal_format.specs.declared.fault.JournalFault.{JournalFault};
-ghost use Rattle.journal_format.specs.declared.fault.JournalFault.TheVariants.{BadLine};
+ghost use Rattle.journal_format.specs.declared.fault.JournalFault.TheVariants.{BadLine, Input};
 ghost use Rattle.journal_views.specs.View.{IsStateLine, IsTooLong, Views, ViewsInPart, count_viewed, first_viewed};
 ghost use Rattle.journal_views.specs.declared.view.Unviewed.TheVariants.{Output, Unread};
 ghost use Rattle.journal_views.specs.declared.view.Viewed.TheVariants.{TooLong, Written};
@@ -19,8 +20,9 @@ use journal_format::lines::MOST_BYTES;
 use mq_model::journals::Journal;
 use mq_state::replay::replay;
 use std::alloc::{AllocError, Global};
-use std::io::{Read, Write};
+use std::io::Write;
 use text_io::output::write_all;
+use text_io::sources::ByteSource;
 
 /// The maximum number of entries in a page.
 const MOST_VIEWED: u64 = 1_000_000;
@@ -86,7 +88,7 @@ fn state_line(alloc: Global, journal: &Journal, k: u64) -> Result<Vec<u8>, Alloc
 /// - `JournalFault::Input`: a read failed. Nothing is written.
 /// - `JournalFault::NoMemory`: memory was refused. Nothing is written.
 /// - `Unviewed::Output`: a write failed. A proper prefix of the page is written.
-pub fn view_journal<R: Read, W: Write>(
+pub fn view_journal<R: ByteSource, W: Write>(
     alloc: Global,
     input: &mut R,
     output: &mut W,
@@ -110,6 +112,8 @@ pub fn view_journal<R: Read, W: Write>(
         (W.contents output.old) (W.contents output.new) }
     ensures unread { (fault : JournalFault) → IsErrOf result (Unread fault) →
         W.contents output.new ≡ W.contents output.old }
+    ensures cause { IsErrOf result (Unread Input) → HasFailed (R.failed input.new) }
+    ensures well { (IsErrOf result (Unread Input) → ⊥) → R.failed input.new ≡ R.failed input.old }
 {
     let journal = match read_input(alloc, input) {
         Ok(journal) => journal,

@@ -1,5 +1,6 @@
 //! From the bytes of a script to the bytes of its replies.
 ghost use Rattle.std.specs.Prelude.{◌≡◌, ◌≤◌, ◌+◌, ◌↔◌, [], ℕ, List, true, IfErr, IfOk, IsErr, IsErrOf, IsOk, OnErr, OnOk, Some, Ok, Err, Vec, length, take, vec_len};
+ghost use Rattle.text_io.specs.Sources.{HasFailed};
 ghost use Rattle.std.specs.Io.KnownBytes.{Appends, Consumes};
 ghost use Rattle.std.specs.List.{All};
 ghost use Rattle.mq_model.specs.Legality.{Legal};
@@ -29,12 +30,13 @@ use mq_model::journals::Journal;
 use script_text::line::ScriptCall;
 use script_text::script::{MOST_BYTES, Script, read_script};
 use std::alloc::Global;
-use std::io::{Read, Write};
+use std::io::Write;
 use std::sync::Wait;
 use std::thread::Threads;
 use std::time::Clock;
 use text_io::input::read_all;
 use text_io::output::write_all;
+use text_io::sources::ByteSource;
 
 /// Reads a script, checks all of it, makes its calls over the lock `L` and writes their replies,
 /// phase by phase. In a phase each process that has calls makes them in a thread of its own, and
@@ -61,7 +63,7 @@ where
     L::Seat: Send,
     L::Walk: Send,
     S: Threads + Wait + Clock + Sync,
-    R: Read,
+    R: ByteSource,
     W: Write,
     G: Gate + Sync,
     ensures input { IsErrOf result Input → W.contents output.new ≡ W.contents output.old }
@@ -86,6 +88,8 @@ where
     ensures done { (all : List ℕ) (script : Whole) → R.remaining input.old ≡ Some all →
         script_written (take (MOST_BYTES + 1) all) ≡ Ok script →
         OnOk result (RunsScript script (W.contents output.old) (W.contents output.new)) }
+    ensures cause { IsErrOf result Input → HasFailed (R.failed input.new) }
+    ensures well { (IsErrOf result Input → ⊥) → R.failed input.new ≡ R.failed input.old }
 {
     let text = read_all(alloc, input, MOST_BYTES)?;
     let script = read_script(alloc, text.as_slice())?;
