@@ -1,4 +1,4 @@
-use Rattle.std.proofs.Common.{◌≡◌, ◌||◌, ℕ, ◌+◌, ◌≤◌, List, Bool, false, true, ◌∷◌, ◌∙◌, refl, length, Vec, arith, ap}
+use Rattle.std.proofs.Common.{◌≡◌, ◌||◌, ℕ, ◌+◌, ◌≤◌, List, Bool, false, true, not, sym, ◌∷◌, ◌∙◌, refl, length, Vec, arith, ap}
 use Rattle.std.specs.declared.alloc.Global.{Global}
 use Rattle.std.specs.Bool.{MatchBool}
 use Rattle.std.specs.Str.{bytes_eq}
@@ -31,3 +31,16 @@ returns-clause-bounded c before =
     let f : Vec ℕ Global → ℕ = λ k. length k.items in
     let more = grows f c.args.self.now.keys.keys c.insert.new.self.keys c.args.key c.in_ok-_added._added c.in_ok-_added.ensures.keys in
     omega (arith, more, before, c.len-numbers.ensures, c.if-numbers-self.false)
+
+-- a key that was not there was put in, so that it passes too
+puts : {K : Type 0} (test : K → Bool) (old new : List K) (key : K) (added : Bool) → added ≡ true → MatchBool added (IsPermutation (key ∷ old) new) (new ≡ old) → list_any test new ≡ (test key || list_any test old)
+puts test old new key true is put = sym (list_any-IsPermutation test (key ∷ old) new put)
+puts test old new key false is put = absurd (cc)
+
+pub returns-clause-added : goal.returns-clause-added
+returns-clause-added c none fits =
+    let is : c.in_ok-_added._added ≡ true = c.in_ok-_added.ensures.added ∙ ap not none in
+    record {
+      noted = λ other. puts (λ k. bytes_eq other k.items) c.args.self.now.keys.keys c.insert.new.self.keys c.args.key c.in_ok-_added._added is c.in_ok-_added.ensures.keys;
+      room = omega (arith, fits, c.len-numbers.ensures, c.if-numbers-self.false);
+    }
