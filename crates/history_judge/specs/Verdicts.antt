@@ -1,5 +1,5 @@
 -- What it means that a history is linearizable, and what the result of a check says.
-use Rattle.std.specs.Prelude.{◌≡◌, ℕ, ◌+◌, ◌-◌, ◌<◌, Bool, true, false, is_none, map, min, List, length, IfSome, Option, Some, Vec, slice_get}
+use Rattle.std.specs.Prelude.{◌≡◌, ℕ, ◌+◌, ◌-◌, ◌/◌, ◌<◌, Bool, true, false, is_none, map, min, List, length, IfSome, Option, Some, Vec, slice_get}
 use Rattle.std.specs.List.{list_all}
 use Rattle.std.specs.declared.alloc.Global.{Global}
 use Rattle.mq_model.specs.Record.{Past}
@@ -70,6 +70,11 @@ pub record HasContradiction (calls : List Called) (reason : Contradiction) : Typ
   pub are : AreHistoriesOf calls histories
   pub contradiction : IsContradiction histories reason
 
+-- The budget for each prefix of this number of calls. The result is known by then, so the longer the
+-- history, the less each prefix is worth.
+abbrev pub front_budget : ℕ → ℕ → ℕ
+front_budget budget count = budget / (1 + count / 50)
+
 -- The front is a prefix that is not linearizable, with this contradiction if one is given. It ends
 -- with the return of the call; the whole history ends with the last return. If it is the shortest,
 -- the prefix before it is linearizable. If it may not be, the budget was used up at a shorter one.
@@ -89,5 +94,5 @@ pub record IsImpossibleFront (budget : ℕ) (calls : List Called) (call : ℕ) (
 abbrev pub IsJudgement : ℕ → List Called → Judgement → Type 0
 IsJudgement budget calls (Possible journal) = IsExplainedBy calls journal.items
 IsJudgement budget calls (Impossible call front is_shortest reason) =
-    IsImpossibleFront budget calls call front.items is_shortest reason
+    IsImpossibleFront (front_budget budget (length calls)) calls call front.items is_shortest reason
 IsJudgement budget calls OutOfBudget = UsesUp budget calls

@@ -3,7 +3,7 @@ ghost use Rattle.std.specs.Prelude.{◌≡◌, ◌≤◌, ◌<◌, IfOk, IfSome,
 ghost use Rattle.history_judge.specs.Seen.{AreSameCalls};
 ghost use Rattle.history_judge.specs.Fronts.{front_part};
 ghost use Rattle.history_judge.specs.Processes.{AreOfProcesses};
-ghost use Rattle.history_judge.specs.Verdicts.{AreHistoriesOf, HasContradiction, IsAnswer, IsImpossible, IsJudgement, are_pending};
+ghost use Rattle.history_judge.specs.Verdicts.{AreHistoriesOf, HasContradiction, IsAnswer, IsImpossible, IsJudgement, are_pending, front_budget};
 
 use crate::descriptors::rename;
 use crate::first_contradiction::{first_excess, first_passed};
@@ -92,8 +92,10 @@ pub enum Judgement {
     OutOfBudget,
 }
 
-/// Checks a history of processes from 1 to 32, and each prefix that it tries, within `budget` steps
-/// each. Fails if memory was refused.
+/// Checks a history of processes from 1 to 32 within `budget` steps. If it is not linearizable, a
+/// shorter prefix that is not is looked for, within a part of `budget` for each prefix: all of it for
+/// fewer than 50 calls, half for fewer than 100, a third for fewer than 150. Fails if memory was
+/// refused.
 pub fn judge_calls(alloc: Global, calls: &[Called], budget: u64) -> Result<Judgement, AllocError>
     requires { AreOfProcesses calls.now }
     ensures { IfOk result (IsJudgement budget calls.now) }
@@ -107,6 +109,13 @@ pub fn judge_calls(alloc: Global, calls: &[Called], budget: u64) -> Result<Judge
     }
 }
 
+// The budget for each prefix of a history of this number of calls.
+fn front_budget(budget: u64, count: usize) -> u64
+    ensures { result ≡ front_budget budget count }
+{
+    budget / (1 + count as u64 / 50)
+}
+
 // The shortest prefix that is not linearizable, of a history that is not.
 fn shortest(alloc: Global, calls: &[Called], budget: u64) -> Result<Judgement, AllocError>
     requires processes { AreOfProcesses calls.now }
@@ -116,6 +125,7 @@ fn shortest(alloc: Global, calls: &[Called], budget: u64) -> Result<Judgement, A
 {
     let returns = returns_of(alloc, calls)?;
     let guess = guess(alloc, calls, &returns)?;
+    let share = front_budget(budget, calls.len());
     // The prefix `bad` is not linearizable, and no prefix before `good` is known not to be. The
     // prefix after the last return is the whole history.
     let mut good = 0;
@@ -123,7 +133,7 @@ fn shortest(alloc: Global, calls: &[Called], budget: u64) -> Result<Judgement, A
     let mut is_shortest = true;
     while good < bad {
         let middle = next_to_try(good, bad, guess);
-        let answer = judge_front(alloc, calls, &returns, middle, budget)?;
+        let answer = judge_front(alloc, calls, &returns, middle, share)?;
         match answer {
             Answer::Impossible => bad = middle,
             Answer::Possible(_) => good = middle + 1,

@@ -2,7 +2,7 @@ use Rattle.std.proofs.Common.{rules, arith, ◌≡◌, ◌≤◌, ◌<◌, ℕ, 
 use Rattle.std.proofs.lemmas.Grind.{common_steps}
 use Rattle.std.proofs.lemmas.Option.{slice_get_read}
 use Rattle.history_judge.specs.Fronts.{Return, front_part}
-use Rattle.history_judge.specs.Verdicts.{IsImpossible}
+use Rattle.history_judge.specs.Verdicts.{IsImpossible, UsesUp}
 use Rattle.history_judge.proofs.Narrowing.{impossible-part, impossible-whole, possible-before, used-up-at}
 use Rattle.history_judge.proofs.judgement.shortest.Goals.{in-Impossible, in-Possible, in-OutOfBudget}
 use Rattle.history_judge.proofs.Pending.{has-return}
@@ -29,7 +29,7 @@ loop-good-preserved-after-answer c =
       | in-Impossible w ↦ record {
         order = omega (arith, w.good-is, w.bad-is, from);
         within = omega (arith, w.bad-is, to, was.within);
-        impossible = impossible-part c.args.budget calls returns middle c.match-answer.bad c.in_ok-answer.answer w.in-Impossible.is c.in_ok-answer.ensures w.bad-is;
+        impossible = impossible-part c.front_budget-share.result calls returns middle c.match-answer.bad c.in_ok-answer.answer w.in-Impossible.is c.in_ok-answer.ensures w.bad-is;
         shortest = λ t before next. was.shortest (sym w.is_shortest-is ∙ t) before (next ∙ w.good-is);
         unsure = λ f. let old = was.unsure (sym w.is_shortest-is ∙ f) in let below = old.1 in (old.0, omega (arith, below, w.good-is), old.2);
       }
@@ -37,7 +37,7 @@ loop-good-preserved-after-answer c =
         order = omega (arith, w.good-is, w.bad-is, to);
         within = omega (arith, w.bad-is, was.within);
         impossible = subst (λ n. IsImpossible (front_part calls returns n)) (sym w.bad-is) was.impossible;
-        shortest = λ t before next. possible-before c.args.budget calls returns middle c.in_ok-answer.answer _ w.in-Possible.is c.in_ok-answer.ensures before (next ∙ w.good-is);
+        shortest = λ t before next. possible-before c.front_budget-share.result calls returns middle c.in_ok-answer.answer _ w.in-Possible.is c.in_ok-answer.ensures before (next ∙ w.good-is);
         unsure = λ f. let old = was.unsure (sym w.is_shortest-is ∙ f) in let below = old.1 in (old.0, omega (arith, below, from, w.good-is), old.2);
       }
       | in-OutOfBudget w ↦ record {
@@ -45,7 +45,7 @@ loop-good-preserved-after-answer c =
         within = omega (arith, w.bad-is, was.within);
         impossible = subst (λ n. IsImpossible (front_part calls returns n)) (sym w.bad-is) was.impossible;
         shortest = λ t before next. absurd (let e : false ≡ true = sym w.is_shortest-is ∙ t in let no : ⊥ = cc in no);
-        unsure = λ f. (middle, omega (arith, w.good-is), used-up-at c.args.budget calls returns middle c.in_ok-answer.answer w.in-OutOfBudget.is c.in_ok-answer.ensures);
+        unsure = λ f. (middle, omega (arith, w.good-is), used-up-at c.front_budget-share.result calls returns middle c.in_ok-answer.answer w.in-OutOfBudget.is c.in_ok-answer.ensures);
       }
     ]
 
@@ -59,7 +59,7 @@ loop-good-preserved c =
       | in-Impossible w ↦ record {
         order = omega (arith, w.good-is, w.bad-is, from);
         within = omega (arith, w.bad-is, to, was.within);
-        impossible = impossible-part c.args.budget calls returns middle c.match-answer.bad c.in_ok-answer.answer w.in-Impossible.is c.in_ok-answer.ensures w.bad-is;
+        impossible = impossible-part c.front_budget-share.result calls returns middle c.match-answer.bad c.in_ok-answer.answer w.in-Impossible.is c.in_ok-answer.ensures w.bad-is;
         shortest = λ t before next. was.shortest (sym w.is_shortest-is ∙ t) before (next ∙ w.good-is);
         unsure = λ f. let old = was.unsure (sym w.is_shortest-is ∙ f) in let below = old.1 in (old.0, omega (arith, below, w.good-is), old.2);
       }
@@ -67,7 +67,7 @@ loop-good-preserved c =
         order = omega (arith, w.good-is, w.bad-is, to);
         within = omega (arith, w.bad-is, was.within);
         impossible = subst (λ n. IsImpossible (front_part calls returns n)) (sym w.bad-is) was.impossible;
-        shortest = λ t before next. possible-before c.args.budget calls returns middle c.in_ok-answer.answer _ w.in-Possible.is c.in_ok-answer.ensures before (next ∙ w.good-is);
+        shortest = λ t before next. possible-before c.front_budget-share.result calls returns middle c.in_ok-answer.answer _ w.in-Possible.is c.in_ok-answer.ensures before (next ∙ w.good-is);
         unsure = λ f. let old = was.unsure (sym w.is_shortest-is ∙ f) in let below = old.1 in (old.0, omega (arith, below, from, w.good-is), old.2);
       }
       | in-OutOfBudget w ↦ record {
@@ -75,7 +75,7 @@ loop-good-preserved c =
         within = omega (arith, w.bad-is, was.within);
         impossible = subst (λ n. IsImpossible (front_part calls returns n)) (sym w.bad-is) was.impossible;
         shortest = λ t before next. absurd (let e : false ≡ true = sym w.is_shortest-is ∙ t in let no : ⊥ = cc in no);
-        unsure = λ f. (middle, omega (arith, w.good-is), used-up-at c.args.budget calls returns middle c.in_ok-answer.answer w.in-OutOfBudget.is c.in_ok-answer.ensures);
+        unsure = λ f. (middle, omega (arith, w.good-is), used-up-at c.front_budget-share.result calls returns middle c.in_ok-answer.answer w.in-OutOfBudget.is c.in_ok-answer.ensures);
       }
     ]
 
@@ -95,7 +95,7 @@ returns c =
       part = c.in_ok-front.ensures;
       impossible = was.impossible;
       reason = c.in_ok-reason.ensures;
-      unsure = λ f. let old = was.unsure f in let below = old.1 in (old.0, omega (arith, below, was.order), old.2);
+      unsure = λ f. let old = was.unsure f in let below = old.1 in (old.0, omega (arith, below, was.order), subst (λ b. UsesUp b (front_part c.args.calls.now returns old.0)) c.front_budget-share.ensures old.2);
       shortest = λ t before next. was.shortest t before (let e : before + 1 ≡ c.loop-good.good = omega (arith, next, was.order) in e);
     }
 
