@@ -6,7 +6,7 @@ use Rattle.mq_model.specs.declared.bounds.Bounds.{Bounds}
 use Rattle.mq_state.specs.Buffers.{with_front}
 use Rattle.mq_state.specs.Room.{NobodyCanCall, room_left}
 use Rattle.journal_format.specs.Text.{line_text}
-use Rattle.mq.specs.Calls.{Calls, bounds_of, stored_in}
+use Rattle.mq.specs.Calls.{Calls, KeepsAnswered, bounds_of, stored_in}
 use Rattle.c_handles.specs.declared.requests.Room.{Room}
 
 -- the journal of the system that a process belongs to is stored
@@ -16,11 +16,15 @@ IsStored t = stored_in t.lock.fixed ≡ true
 abbrev pub IsUnstored : Ticket Record → Type 0
 IsUnstored t = stored_in t.lock.fixed ≡ false
 
+-- No call was made. If a poll has told the process that its wait is answered, it still is.
+abbrev pub Reads : Ticket Record → Ticket Record → Type 0
+Reads old new = Calls old new [] × KeepsAnswered old new
+
 -- A check that acquired the lock returns 0, which means that the journal is legal, and made no
 -- call. It is 27 if the journal is not stored.
 abbrev pub Checks : Option (Ticket Record) → Option (Ticket Record) → ℕ → Type 0
 Checks None None code = code ≡ 18
-Checks (Some old) (Some new) code = ((code ≡ 0) × Calls old new [] × IsStored old) ⊎ ((code ≡ 16) × (new ≡ old) × IsStored old) ⊎ ((code ≡ 27) × (new ≡ old) × IsUnstored old)
+Checks (Some old) (Some new) code = ((code ≡ 0) × Reads old new × IsStored old) ⊎ ((code ≡ 16) × (new ≡ old) × IsStored old) ⊎ ((code ≡ 27) × (new ≡ old) × IsUnstored old)
 Checks None (Some new) code = ⊥
 Checks (Some old) None code = ⊥
 
@@ -55,7 +59,7 @@ WritesRecord place (Some r) w = WritesLine (line_text place r) w
 abbrev pub ReadsAt : ℕ → Option (Ticket Record) → Option (Ticket Record) → Wrote → Type 0
 ReadsAt place None None w = IsUntouched w 18
 ReadsAt place (Some old) (Some new) w =
-    (Calls old new [] × WritesRecord place (record_at new.left place) w × IsStored old) ⊎ (Calls old new [] × IsUntouched w 11 × IsStored old) ⊎ ((new ≡ old) × IsUntouched w 16 × IsStored old)
+    (Reads old new × WritesRecord place (record_at new.left place) w × IsStored old) ⊎ (Reads old new × IsUntouched w 11 × IsStored old) ⊎ ((new ≡ old) × IsUntouched w 16 × IsStored old)
     ⊎ ((new ≡ old) × IsUntouched w 27 × IsUnstored old)
 ReadsAt place None (Some new) w = ⊥
 ReadsAt place (Some old) None w = ⊥
@@ -69,7 +73,7 @@ room_shown (Some b) = record { entries = b.entries; bytes = b.bytes }
 abbrev pub GivesRoom : Option (Ticket Record) → Option (Ticket Record) → Room → Room → ℕ → Type 0
 GivesRoom None None before after code = (code ≡ 18) × (after ≡ before)
 GivesRoom (Some old) (Some new) before after code =
-    ((code ≡ 0) × Calls old new [] × (after ≡ room_shown (room_left (bounds_of old) new.left))) ⊎ ((code ≡ 16) × (new ≡ old) × (after ≡ before))
+    ((code ≡ 0) × Reads old new × (after ≡ room_shown (room_left (bounds_of old) new.left))) ⊎ ((code ≡ 16) × (new ≡ old) × (after ≡ before))
 GivesRoom None (Some new) before after code = ⊥
 GivesRoom (Some old) None before after code = ⊥
 
@@ -78,6 +82,6 @@ GivesRoom (Some old) None before after code = ⊥
 abbrev pub GivesNobody : Option (Ticket Record) → Option (Ticket Record) → ℕ → Type 0
 GivesNobody None None code = code ≡ 18
 GivesNobody (Some old) (Some new) code =
-    ((code ≡ 0) × Calls old new [] × NobodyCanCall (bounds_of old) new.left old.lock.count) ⊎ ((code ≡ 26) × Calls old new [] × (NobodyCanCall (bounds_of old) new.left old.lock.count → ⊥)) ⊎ ((code ≡ 16) × (new ≡ old))
+    ((code ≡ 0) × Reads old new × NobodyCanCall (bounds_of old) new.left old.lock.count) ⊎ ((code ≡ 26) × Reads old new × (NobodyCanCall (bounds_of old) new.left old.lock.count → ⊥)) ⊎ ((code ≡ 16) × (new ≡ old))
 GivesNobody None (Some new) code = ⊥
 GivesNobody (Some old) None code = ⊥

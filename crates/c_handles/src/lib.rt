@@ -6,7 +6,6 @@
 #![tactic(auto)]
 
 pub mod handle;
-pub mod journals;
 pub mod member;
 pub mod numbers;
 pub mod parts;

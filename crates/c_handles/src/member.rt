@@ -179,14 +179,15 @@ impl Member {
 }
 
 impl Member {
-    ghost use Rattle.std.specs.Prelude.{◌≡◌, ◌↔◌, true, None, Some, IfNone, IfSome, OnSome, IfOk, IsOk, IsTrue, []};
+    ghost use Rattle.std.specs.Prelude.{◌≡◌, ◌↔◌, true, None, Some, IfNone, IfSome, OnSome, IfOk, IsOk, IsTrue};
     ghost use Rattle.std.specs.Option.{option_map};
     ghost use Rattle.mq_model.specs.Record.{record_at};
     ghost use Rattle.mq_state.specs.Room.{NobodyCanCall, room_left};
-    ghost use Rattle.mq.specs.Calls.{Calls, bounds_of, stored_in};
+    ghost use Rattle.mq.specs.Calls.{bounds_of, stored_in};
     ghost use Rattle.mq.specs.Readings.{record_of};
     ghost use Rattle.c_handles.specs.Standings.{ticket_of, is_under_way};
     ghost use Rattle.c_handles.specs.Endings.{Ends, Looks};
+    ghost use Rattle.c_handles.specs.Readings.{Reads};
 
     /// Whether the journal of the system is stored.
     pub fn is_stored(&self) -> bool
@@ -200,7 +201,7 @@ impl Member {
         requires stored { stored_in (ticket_of self.old.standing).lock.fixed ≡ true }
         ensures none { IfNone result (ticket_of self.new.standing ≡ ticket_of self.old.standing) }
         ensures legal { IfSome result (λ checked. IsOk checked ×
-            Calls (ticket_of self.old.standing) (ticket_of self.new.standing) []) }
+            Reads (ticket_of self.old.standing) (ticket_of self.new.standing)) }
     {
         let guard = arrive(&self.mq, &mut self.standing)?;
         let (process, checked) = guard.check(alloc, &self.mq);
@@ -219,8 +220,8 @@ impl Member {
         ensures none { IfNone result (ticket_of self.new.standing ≡ ticket_of self.old.standing) }
         ensures record { IfSome result (λ read. IfOk read (λ found. option_map record_of found ≡
             record_at (ticket_of self.new.standing).left place)) }
-        ensures calls { OnSome result (Calls (ticket_of self.old.standing)
-            (ticket_of self.new.standing) []) }
+        ensures calls { OnSome result (Reads (ticket_of self.old.standing)
+            (ticket_of self.new.standing)) }
     {
         let guard = arrive(&self.mq, &mut self.standing)?;
         let (process, read) = guard.record(alloc, &self.mq, place);
@@ -235,8 +236,8 @@ impl Member {
         ensures room { IfSome result (λ room.
             room ≡ room_left (bounds_of (ticket_of self.old.standing))
             (ticket_of self.new.standing).left) }
-        ensures calls { OnSome result (Calls (ticket_of self.old.standing)
-            (ticket_of self.new.standing) []) }
+        ensures calls { OnSome result (Reads (ticket_of self.old.standing)
+            (ticket_of self.new.standing)) }
     {
         let guard = arrive(&self.mq, &mut self.standing)?;
         let (process, room) = guard.room(&self.mq);
@@ -251,8 +252,8 @@ impl Member {
         ensures nobody { IfSome result (λ nobody.
             IsTrue nobody ↔ NobodyCanCall (bounds_of (ticket_of self.old.standing))
             (ticket_of self.new.standing).left (ticket_of self.old.standing).lock.count) }
-        ensures calls { OnSome result (Calls (ticket_of self.old.standing)
-            (ticket_of self.new.standing) []) }
+        ensures calls { OnSome result (Reads (ticket_of self.old.standing)
+            (ticket_of self.new.standing)) }
     {
         let guard = arrive(&self.mq, &mut self.standing)?;
         let (process, nobody) = guard.nobody_can_call(&self.mq);

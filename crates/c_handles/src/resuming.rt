@@ -8,13 +8,14 @@ ghost use Rattle.c_handles.specs.Resumes.{IsNoStart, IsRefused, IsTextOf, Resume
 ghost use Rattle.c_handles.specs.Systems.{Fills, is_empty};
 
 use crate::handle::Handle;
-use crate::journals::{equivalent_short, wait_deadline};
 use crate::numbers::{BAD_LINE, FOREIGN, FULL, ILLEGAL};
 use crate::system::{Deadlines, are_empty, count_of, hand_out};
 use journal_format::fault::JournalFault;
 use journal_format::text::read_journal;
 use mq::{Deadline, FastMq, Fault};
 use mq_equivalence::equivalence_is_reflexive;
+use mq_equivalence::scans::wait_deadline;
+use mq_equivalence::short::equivalent_short;
 use mq_model::bounds::Bounds;
 use mq_model::journals::Journal;
 use mq_state::books::Books;

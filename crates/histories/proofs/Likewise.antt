@@ -235,5 +235,5 @@ stages-key from x y key to_x to_y key_x key_y =
     record {
       differ = ap (λ (s : Stage). with_past s y.past) first;
       begun = told.0;
-      journals = same-key x.past y.past legal_x legal_y told.1;
+      journals = same-key true x.past y.past legal_x legal_y told.1;
     }

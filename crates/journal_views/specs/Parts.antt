@@ -7,8 +7,8 @@ use Rattle.mq_model.specs.declared.entries.Description.{Description}
 use Rattle.journal_format.specs.Text.{access_letter}
 use Rattle.journal_views.specs.State.{message, receiver, sender, true_or_false}
 use Rattle.journal_views.specs.declared.form.Form.{Form}
-use Rattle.journal_views.specs.declared.places.Kind.{Kind}
-use Rattle.journal_views.specs.declared.places.Kind.TheVariants.{Messages, Senders, Receivers}
+use Rattle.mq_equivalence.specs.declared.standing.Kind.{Kind}
+use Rattle.mq_equivalence.specs.declared.standing.Kind.TheVariants.{Messages, Senders, Receivers}
 
 abbrev pub part : Kind → Form → Place → Record → List ℕ
 part Messages = message

@@ -8,28 +8,19 @@ use Rattle.mq_model.specs.Limits.{most_descriptors, most_processes}
 use Rattle.mq_model.specs.Record.{Record, Past, Descriptor, Message, Place, Process, Queue, record_at}
 use Rattle.mq_model.specs.Names.{attributes, name_of}
 use Rattle.mq_model.specs.Descriptors.{alive, held, is_named, numbers_from}
-use Rattle.mq_model.specs.Messages.{goes_first, present, priority_given, waiting_receives, waiting_sends}
+use Rattle.mq_model.specs.Messages.{present, priority, priority_given, waiting_receives, waiting_sends}
 use Rattle.mq_model.specs.Notices.{notices, registered}
 use Rattle.mq_model.specs.Waits.{answered_by, open_wait}
 use Rattle.mq_model.specs.declared.entries.Attr.{Attr}
 use Rattle.mq_model.specs.declared.entries.Description.{Description}
 use Rattle.mq_model.specs.declared.entries.Registration.{Registration}
+use Rattle.mq_equivalence.specs.Views.{lined}
 use Rattle.journal_format.specs.Text.{access_letter, escaped, letter_if, payload_text}
 use Rattle.journal_views.specs.declared.form.Form.{Form}
 use Rattle.journal_views.specs.declared.form.Form.TheVariants.{Text, Json}
 
 -- what a state has, in the order in which it is written
 -- ----------------------------------------------
-
--- a message inserted before those that are received after it
-abbrev pub with_message : Past → Message → List Message → List Message
-with_message past m [] = m ∷ []
-with_message past m (n ∷ ns) = if goes_first past m n then m ∷ (n ∷ ns) else n ∷ with_message past m ns
-
--- messages in the order in which they are received
-abbrev pub by_turn : Past → List Message → List Message
-by_turn past [] = []
-by_turn past (m ∷ ms) = with_message past m (by_turn past ms)
 
 -- the processes with an entry
 abbrev pub callers : Past → List Process
@@ -133,7 +124,7 @@ queue_head Json q name named limits = codes "{\"queue\":" ++ (decimal q ++ (code
 abbrev pub queue : Form → Past → Queue → List ℕ
 queue form past q =
     queue_head form q (name_of past q) (is_named past q) (attributes past q)
-    ++ (label form (codes "messages") ++ (listed form (map (at (message form) past) (by_turn past (present past q)))
+    ++ (label form (codes "messages") ++ (listed form (map (at (message form) past) (lined (priority past) (present past q)))
     ++ (label form (codes "senders") ++ (listed form (map (at (sender form) past) (reverse (waiting_sends past q)))
     ++ (label form (codes "receivers") ++ (listed form (map (at (receiver form) past) (reverse (waiting_receives past q)))
     ++ (label form (codes "registration") ++ (registration form (registered past q)

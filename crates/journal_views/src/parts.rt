@@ -7,8 +7,8 @@ ghost use Rattle.journal_views.specs.declared.form.Form.TheVariants.{Json, Text}
 ghost use Rattle.journal_views.specs.State.{descriptor, first_bytes, message, name_string, notice, number_or_null, process_head, queue_head, receiver, registration, sender, sent, state_head, string_byte, true_or_false, unless_named, wait};
 
 use crate::form::Form;
-use crate::places::Kind;
 use journal_format::payload::{ESCAPED, payload_text};
+use mq_equivalence::standing::Kind;
 use mq_model::entries::{Access, Attr, Description, Entry, Registration};
 use percent_encoding::percent_encode;
 use std::alloc::{AllocError, Global};

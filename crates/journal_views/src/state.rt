@@ -21,7 +21,8 @@ use crate::form::Form;
 use crate::parts::{
     descriptor, notice, part, process_head, push_queue_head, registration, state_head, wait,
 };
-use crate::places::{Kind, ordered};
+use crate::places::ordered;
+use mq_equivalence::standing::Kind;
 use mq_model::entries::Attr;
 use mq_model::error_order::{DEFAULT_ATTRIBUTES, attributes_given};
 use mq_model::journals::Journal;

@@ -14,7 +14,7 @@ use Rattle.mq_model.proofs.HeldQueues.{called-alive}
 use Rattle.mq_model.proofs.LegalReplies.{legal_says}
 use Rattle.mq_model.proofs.NamedWaits.{blocked-once}
 use Rattle.mq_equivalence.specs.Views.{Message}
-use Rattle.mq_equivalence.proofs.Falling.{pick, top}
+use Rattle.mq_equivalence.proofs.Falling.{foremost}
 use Rattle.mq_equivalence.specs.Outline.{outline}
 use Rattle.mq_equivalence.specs.Runs.{Request}
 use Rattle.mq_equivalence.proofs.Structure.{alive-below}
@@ -128,7 +128,7 @@ module _ (past : Past) (a b : Request) (t : Two past a b) where
     reply = same-b;
     notified_registration = told-b;
     answered = answered-b;
-    message = message-same past between t.legal legal-between b.process b.call (reply_of past b) (reply_of between b) (paid past b) (paid between b) says-b (reply_says between b.process b.call b.given) called-b same-b (λ k e. ap (λ (cs : List (Option Message)). pick (top cs) cs) (at-b k e).messages);
+    message = message-same past between t.legal legal-between b.process b.call (reply_of past b) (reply_of between b) (paid past b) (paid between b) says-b (reply_says between b.process b.call b.given) called-b same-b (λ k e. ap (λ (cs : List (Option Message)). foremost cs) (at-b k e).messages);
   }
 
   abbrev noted_by_call : Request → ℕ → List ℕ → List ℕ

@@ -25,7 +25,8 @@ use Rattle.mq_equivalence.specs.Views.{Message, answer}
 use Rattle.mq_equivalence.specs.Steps.{message_given}
 use Rattle.mq_equivalence.proofs.Calls.{collected-alike}
 use Rattle.mq_equivalence.proofs.Alike.{payload-alike, refused-alike}
-use Rattle.mq_equivalence.specs.Structure.{renumbered}
+use Rattle.mq_equivalence.specs.Structure.{Corresponds, renumbered}
+use Rattle.mq_equivalence.proofs.Correspondence.{corresponds-self}
 use Rattle.mq_equivalence.specs.Outline.{outline}
 use Rattle.mq_equivalence.specs.Runs.{Request, after_calls}
 use Rattle.mq_equivalence.proofs.Going.{room-step}
@@ -150,10 +151,6 @@ queue-back u u' v w back e = by (queue-cases u v w e)
 option-id : {X : Type 0} (f : X → X) → ((v : X) → f v ≡ v) → (o : Option X) → o ≡ option_map f o
 option-id f same None = refl
 option-id f same (Some v) = ap Some (sym (same v))
-
-map-id : (ks : List ℕ) → ks ≡ map (λ (q : ℕ). q) ks
-map-id [] = refl
-map-id (k ∷ ks) = ap (λ (js : List ℕ). k ∷ js) (map-id ks)
 
 pub the-place : (k : ℕ) (o : Option ℕ) → is_place k o ≡ true → o ≡ Some k
 the-place k None e = absurd (cc)
@@ -344,7 +341,7 @@ commute-by past a b t s at-each noting-two one-answer =
           structure = record {
             names = λ name. names-two past b a s name ∙ sym (names-two past a b t name) ∙ option-id (λ (q : ℕ). q) (λ v. refl) (bound_queue x name);
             descriptors = λ k d. held-same past a b t s k d ∙ option-id (renumbered (λ (q : ℕ). q)) (λ v. refl) (held x k d);
-            queues = alive-two past a b t s ∙ map-id (alive x);
+            queues = subst (λ (qs : List ℕ). Corresponds (λ (q : ℕ). q) (alive x) qs) (sym (alive-two past a b t s)) (corresponds-self (alive x));
             limits = λ q h. (at q h).limits;
           };
           messages = λ q h. (at q h).messages;

@@ -19,10 +19,10 @@ use Rattle.mq_model.proofs.Cases.{Says, reply_says}
 use Rattle.mq_model.proofs.HeldQueues.{called-alive}
 use Rattle.mq_model.proofs.LegalReplies.{legal_says}
 use Rattle.mq_model.proofs.Alive.{rec}
-use Rattle.mq_equivalence.specs.Views.{Message, Registered, Sender, at, author, contents, receivers, registered_as, sender, senders, sent}
-use Rattle.mq_equivalence.proofs.Effects.{after_contents, after_receivers, after_senders, contents-step, is-best, message_of, receivers-step, senders-step}
-use Rattle.mq_equivalence.proofs.Falling.{any, any-least, has, pick, prio_of, top, top-best, unpicked}
-use Rattle.mq_equivalence.proofs.Changes.{got-all}
+use Rattle.mq_equivalence.specs.Views.{Message, Registered, Sender, at, author, contents, joined, prio_of, receivers, registered_as, sender, senders, sent}
+use Rattle.mq_equivalence.proofs.Effects.{after_contents, after_receivers, after_senders, contents-step, is-best, message_of, prio-is, receivers-step, senders-step}
+use Rattle.mq_equivalence.proofs.Falling.{any, any-joined, any-least, any-line, best-first, foremost, joined-behind, others}
+use Rattle.mq_equivalence.proofs.Changes.{falls-present, got-all}
 use Rattle.mq_equivalence.proofs.Registrations.{after_registered, registered-step}
 use Rattle.mq_model.proofs.Frames.{attributes-older}
 use Rattle.mq_model.specs.ErrorOrder.{is_full_with}
@@ -31,8 +31,8 @@ use Rattle.std.proofs.lemmas.Bool.Decides.{nat_tests}
 use Rattle.mq_equivalence.specs.Outline.{outline}
 use Rattle.mq_equivalence.specs.Runs.{Request, after_calls}
 use Rattle.mq_equivalence.proofs.Structure.{alive-below}
-use Rattle.mq_equivalence.proofs.Replies.{any-map, best-any, placed-some, timed-shape}
-use Rattle.mq_equivalence.proofs.Waiting.{is_got}
+use Rattle.mq_equivalence.proofs.Replies.{best-contents, count-contents, placed-some, timed-shape}
+use Rattle.mq_equivalence.proofs.Seen.{is_got}
 use Rattle.mq_commutation.specs.Independence.{stays_filled, reply_of, notified_registration}
 use Rattle.mq_commutation.specs.Commuting.{Commute, is_covered, record_for}
 use Rattle.mq_commutation.proofs.Replies.{SameAt, called-same, receive-any, send-any, same-back, same-on}
@@ -44,37 +44,9 @@ use Rattle.mq_commutation.proofs.Steps.{no-message, message-same}
 
 -- lists of messages -----------------------------------------------------------------------------------------------------------------
 
-prio-is : (past : Past) (k : ℕ) → prio_of (at sent past k) ≡ priority past k
-prio-is past k = by (record_at past k)
-  where
-    by : (o : Option Record) → prio_of (option_map sent o) ≡ unwrap_or (option_map (λ (r : Record). priority_given r.entry.call) o) 0
-    by None = refl
-    by (Some r) = refl
-
-has-top : (c : Option Message) (cs : List (Option Message)) → has (top (c ∷ cs)) (c ∷ cs) ≡ true
-has-top c [] = let same : prio_of c ≡ top (c ∷ []) = omega arith in rw (eq-eqb (prio_of c) (top (c ∷ [])) same) refl
-has-top c (d ∷ ds) = split (prio_of c == top (c ∷ (d ∷ ds)))
-    (λ t. rw t refl)
-    (λ f. let ne : prio_of c ≡ top (c ∷ (d ∷ ds)) → ⊥ = eqb-false _ _ f in
-    let same : top (c ∷ (d ∷ ds)) ≡ top (d ∷ ds) = omega (arith, ne) in
-    rw f (ap (λ (n : ℕ). has n (d ∷ ds)) same ∙ has-top d ds))
-
-rest-length : (n : ℕ) (c : Option Message) (cs : List (Option Message)) → length (unpicked n (c ∷ cs)) ≡ length cs
-rest-length n c [] = refl
-rest-length n c (d ∷ ds) = split (has n (d ∷ ds)) (λ t. rw t (ap suc (rest-length n d ds))) (λ f. rw f refl)
-
--- the best message stays the best when a message is added after it
-pub record Behind (m : Option Message) (cs : List (Option Message)) : Type 0 where
-  pub rest : unpicked (top (m ∷ cs)) (m ∷ cs) ≡ m ∷ unpicked (top cs) cs
-  pub best : pick (top (m ∷ cs)) (m ∷ cs) ≡ pick (top cs) cs
-
-behind : (m c : Option Message) (cs : List (Option Message)) → prio_of m ≤ top (c ∷ cs) → Behind m (c ∷ cs)
-behind m c cs low =
-    let same : top (m ∷ (c ∷ cs)) ≡ top (c ∷ cs) = omega (arith, low) in
-    record {
-      rest = ap (λ (n : ℕ). unpicked n (m ∷ (c ∷ cs))) same ∙ ap (λ (b : Bool). if b then m ∷ unpicked (top (c ∷ cs)) (c ∷ cs) else c ∷ cs) (has-top c cs);
-      best = ap (λ (n : ℕ). pick n (m ∷ (c ∷ cs))) same ∙ ap (λ (b : Bool). if b then pick (top (c ∷ cs)) (c ∷ cs) else m) (has-top c cs);
-    }
+others-length : (cs : List (Option Message)) → any cs ≡ true → suc (length (others cs)) ≡ length cs
+others-length [] e = absurd (cc)
+others-length (c ∷ cs) e = refl
 
 full-less : (a : ℤ) (n : ℕ) → int_le a (pos (suc n)) ≡ false → int_le a (pos n) ≡ false
 full-less (pos k) n e = split (nat_le k n)
@@ -189,15 +161,6 @@ pub record Passing (past : Past) (a b : Request) : Type 0 where
   pub filled : stays_filled past (Some queue) ≡ true
 
 -- a queue with messages
-record Filled (cs : List (Option Message)) : Type 0 where
-  head : Option Message
-  tail : List (Option Message)
-  is : cs ≡ head ∷ tail
-
-filled-in : (f : ℕ → Option Message) (ks : List ℕ) (m : ℕ) → is_in ks m ≡ true → Filled (map f ks)
-filled-in f [] m h = absurd (cc)
-filled-in f (k ∷ ks) m h = record { head = f k; tail = map f ks; is = refl }
-
 -- what a receive, and a send, find at a queue of two journals
 record FoundFull (x y : Past) (q : ℕ) : Type 0 where
   limits : attributes y q ≡ attributes x q
@@ -344,17 +307,18 @@ module _ (past : Past) (a b : Request) (t : Passing past a b) where
   says-k : QueuedSays past k
   says-k = queued-says past a.process a.call k t.sends queued-a t.on_a
 
-  filled-k : Filled cs
-  filled-k = filled-in (at sent past) (present past k) t.message (is-best past k t.message best-k).inside
+  any-k : any cs ≡ true
+  any-k = any-line (at sent past) (present past k) t.message (is-best past k t.message best-k).inside
 
-  low-k : prio_of new ≤ top cs
+  low-k : prio_of new ≤ prio_of (foremost cs)
   low-k =
-      let best = top-best (at sent past) (present past k) t.message (is-best past k t.message best-k) ∙ prio-is past t.message in
+      let first = (best-first (at sent past) (present past k) t.message (falls-present past t.legal k) (is-best past k t.message best-k)).0 in
+      let best : prio_of (foremost cs) ≡ priority past t.message = ap prio_of (sym first) ∙ prio-is past t.message in
       let le : priority_given a.call ≤ priority past t.message = grind (arith, nat_tests, t.low) in
       omega (arith, le, best)
 
-  behind-k : Behind new cs
-  behind-k = subst (Behind new) (sym filled-k.is) (behind new filled-k.head filled-k.tail (subst (λ (l : List (Option Message)). prio_of new ≤ top l) filled-k.is low-k))
+  behind-k : (foremost (joined prio_of new cs) ≡ foremost cs) × (others (joined prio_of new cs) ≡ joined prio_of new (others cs))
+  behind-k = joined-behind new cs any-k low-k
 
   kept-a : (q : ℕ) → KeptAt past (record_for past a) q
   kept-a q = kept-at past a.process a.call (reply_of past a) (paid past a) t.legal t.first t.calls.0 calm-a q
@@ -362,13 +326,13 @@ module _ (past : Past) (a b : Request) (t : Passing past a b) where
   kept-b : (q : ℕ) → KeptAt past (record_for past b) q
   kept-b q = kept-at past b.process b.call (reply_of past b) (paid past b) t.legal t.second t.calls.1 calm-b q
 
-  contents-sent : contents sent_first k ≡ new ∷ cs
+  contents-sent : contents sent_first k ≡ joined prio_of new cs
   contents-sent =
       contents-step past t.legal a.process a.call (reply_of past a) (paid past a) k says-a
       ∙ (λ i. after_contents a.call (paid past a) (on-a i) (t.queued i) (senders past k) cs)
-      ∙ ap (λ (s : Bool). if s then new ∷ cs else cs) t.sends
+      ∙ ap (λ (s : Bool). if s then joined prio_of new cs else cs) t.sends
 
-  contents-got : contents got_first k ≡ unpicked (top cs) cs
+  contents-got : contents got_first k ≡ others cs
   contents-got =
       contents-step past t.legal b.process b.call (reply_of past b) (paid past b) k says-b
       ∙ (λ i. after_contents b.call (paid past b) (on-b i) (t.gets i) (senders past k) cs)
@@ -376,13 +340,10 @@ module _ (past : Past) (a b : Request) (t : Passing past a b) where
   low-queue : k < length past
   low-queue = alive-below past k (called-alive past t.legal a.process a.call k t.on_a)
 
-  counted : (past : Past) (q : ℕ) → length (present past q) ≡ length (contents past q)
-  counted past q = sym (length-map (present past q) (at sent past))
-
   count-got : suc (length (present got_first k)) ≡ length (present past k)
   count-got =
-      ap suc (counted got_first k ∙ ap (λ (l : List (Option Message)). length l) contents-got ∙ ap (λ (l : List (Option Message)). length (unpicked (top l) l)) filled-k.is ∙ rest-length (top (filled-k.head ∷ filled-k.tail)) filled-k.head filled-k.tail)
-      ∙ sym (ap (λ (l : List (Option Message)). length l) filled-k.is) ∙ sym (counted past k)
+      ap suc (count-contents got_first k ∙ ap (λ (l : List (Option Message)). length l) contents-got)
+      ∙ others-length cs any-k ∙ sym (count-contents past k)
 
   -- the receive after the send
   held-b : (d : ℕ) → held sent_first b.process d ≡ held past b.process d
@@ -394,8 +355,8 @@ module _ (past : Past) (a b : Request) (t : Passing past a b) where
     free_x = free-k;
     free_y = no-least-sends past sent_first k (kept-a k).senders free-k;
     best =
-        best-any sent_first k ∙ sym (any-map (at sent sent_first) (present sent_first k)) ∙ ap (λ (l : List (Option Message)). any l) contents-sent
-        ∙ sym (ap (λ (l : List (Option Message)). any l) filled-k.is) ∙ any-map (at sent past) (present past k) ∙ sym (best-any past k);
+        best-contents sent_first k ∙ ap (λ (l : List (Option Message)). any l) contents-sent
+        ∙ any-joined prio_of new cs ∙ sym any-k ∙ sym (best-contents past k);
   }
 
   reply-b : outline (reply_of sent_first b) ≡ outline (reply_of past b)
@@ -472,8 +433,8 @@ module _ (past : Past) (a b : Request) (t : Passing past a b) where
     answered = calm-later-b.answers sent_first b.process b.call ∙ sym (calm-b.answers past b.process b.call);
     message = message-same past sent_first t.legal (t.legal, t.first) b.process b.call (reply_of past b) (reply_of sent_first b) (paid past b) (paid sent_first b) says-b (reply_says sent_first b.process b.call b.given) called-b reply-b
         (λ j e. let some : Some j ≡ Some k = sym e ∙ t.on_b in let same : j ≡ k = cc in
-        subst (λ (q : ℕ). pick (top (contents sent_first q)) (contents sent_first q) ≡ pick (top (contents past q)) (contents past q)) (sym same)
-        (ap (λ (l : List (Option Message)). pick (top l) l) contents-sent ∙ behind-k.best));
+        subst (λ (q : ℕ). foremost (contents sent_first q) ≡ foremost (contents past q)) (sym same)
+        (ap (λ (l : List (Option Message)). foremost l) contents-sent ∙ behind-k.0));
   }
 
   order-a : Order past b a
@@ -503,10 +464,10 @@ module _ (past : Past) (a b : Request) (t : Passing past a b) where
     messages =
         contents-step got_first (legal-mid past b a order-a) a.process a.call (reply_of got_first a) (paid got_first a) k (reply_says got_first a.process a.call a.given)
         ∙ (λ i. after_contents a.call (paid-b past b a order-a i) ((ap (is_place k) called-a ∙ on-a) i) (queued-is i) (senders got_first k) (contents-got i))
-        ∙ ap (λ (s : Bool). if s then new ∷ unpicked (top cs) cs else unpicked (top cs) cs) t.sends
+        ∙ ap (λ (s : Bool). if s then joined prio_of new (others cs) else others cs) t.sends
         ∙ sym (contents-step sent_first (legal-mid past a b order-b) b.process b.call (reply_of sent_first b) (paid sent_first b) k (reply_says sent_first b.process b.call b.given)
         ∙ (λ i. after_contents b.call (paid sent_first b) ((ap (is_place k) called-b ∙ on-b) i) (got-is.1 i) (senders sent_first k) (contents-sent i))
-        ∙ behind-k.rest);
+        ∙ behind-k.1);
     sending = late-a.senders ∙ (kept-b k).senders ∙ sym (late-b.senders ∙ (kept-a k).senders);
     receiving = late-a.receivers ∙ (kept-b k).receivers ∙ sym (late-b.receivers ∙ (kept-a k).receivers);
     registration = late-a.registered ∙ (kept-b k).registered ∙ sym (late-b.registered ∙ (kept-a k).registered);

@@ -23,7 +23,7 @@ use Rattle.mq_equivalence.specs.Views.{Message, Registered, Sender, at, author, 
 use Rattle.mq_equivalence.specs.Outline.{outline}
 use Rattle.mq_equivalence.proofs.Falling.{any, any-least}
 use Rattle.mq_equivalence.proofs.Replies.{registered-some}
-use Rattle.mq_equivalence.proofs.Replies.{SameQueue, any-map, best-any, found-shape, hidden-same, placed-some, receive-shape, receive_with, send-shape, send_with, shape-if, timed-shape}
+use Rattle.mq_equivalence.proofs.Replies.{SameQueue, best-contents, count-contents, found-shape, hidden-same, placed-some, receive-shape, receive_with, send-shape, send_with, shape-if, timed-shape}
 use Rattle.mq_commutation.specs.Commuting.{is_covered}
 
 -- a receive when no send waits
@@ -61,8 +61,8 @@ same-on x y z k s t = record { limits = t.limits ∙ s.limits; messages = t.mess
 same-queue : (x y : Past) (k : ℕ) → SameAt x y k → SameQueue x y k k
 same-queue x y k s = record {
   limits = s.limits;
-  count = sym (length-map (present y k) (at sent y)) ∙ ap (λ (cs : List (Option Message)). length cs) s.messages ∙ length-map (present x k) (at sent x);
-  best = best-any y k ∙ sym (any-map (at sent y) (present y k)) ∙ ap (λ (cs : List (Option Message)). any cs) s.messages ∙ any-map (at sent x) (present x k) ∙ sym (best-any x k);
+  count = count-contents y k ∙ ap (λ (cs : List (Option Message)). length cs) s.messages ∙ sym (count-contents x k);
+  best = best-contents y k ∙ ap (λ (cs : List (Option Message)). any cs) s.messages ∙ sym (best-contents x k);
   sending = any-least (at sender y) (waiting_sends y k) ∙ ap (λ (ss : List (Option Sender)). any ss) s.sending ∙ sym (any-least (at sender x) (waiting_sends x k));
   receiving = any-least (at author y) (waiting_receives y k) ∙ ap (λ (rs : List (Option ℕ)). any rs) s.receiving ∙ sym (any-least (at author x) (waiting_receives x k));
   registration = s.registration;

@@ -17,7 +17,7 @@ use Rattle.mq_model.proofs.LegalReplies.{legal_says}
 use Rattle.mq_model.proofs.Alive.{rec}
 use Rattle.mq_equivalence.specs.Views.{contents, receivers, registered_as, senders}
 use Rattle.mq_equivalence.specs.Steps.{message_given, shape}
-use Rattle.mq_equivalence.proofs.Falling.{pick, top}
+use Rattle.mq_equivalence.proofs.Falling.{foremost}
 use Rattle.mq_equivalence.proofs.Changes.{got-all}
 use Rattle.mq_equivalence.proofs.Effects.{after_contents, after_receivers, after_senders, called, contents-step, receivers-step, senders-step}
 use Rattle.mq_equivalence.proofs.Alike.{contents-shape, receivers-shape, senders-shape, wait-shape}
@@ -26,7 +26,8 @@ use Rattle.mq_equivalence.specs.Outline.{outline}
 use Rattle.mq_equivalence.proofs.Registrations.{after_registered, registered-step}
 use Rattle.mq_equivalence.proofs.Going.{shape-outline}
 use Rattle.mq_equivalence.proofs.Going.{registered-outline, told-outline}
-use Rattle.mq_equivalence.proofs.Waiting.{is_got, none-given, the-got}
+use Rattle.mq_equivalence.proofs.Seen.{is_got}
+use Rattle.mq_equivalence.proofs.Waiting.{none-given, the-got}
 use Rattle.mq_commutation.specs.Commuting.{is_covered}
 use Rattle.mq_commutation.proofs.Replies.{SameAt}
 use Rattle.mq_commutation.proofs.Frames.{not-withdrawn}
@@ -59,11 +60,11 @@ both-wait a b same = sym (wait-shape b) ∙ ap is_wait (shapes a b same) ∙ wai
 
 -- messages given
 
-pub got-in : (past : Past) → Legal past → (p : ℕ) (call : Call) (m : ℕ) (a n : Option ℕ) (payload : List ℕ) → Says past p call (Got m a n) → (q : ℕ) × (called_queue past p call ≡ Some q) × (message_given (rec p call (Got m a n) payload ∷ past) (Got m a n) ≡ pick (top (contents past q)) (contents past q))
+pub got-in : (past : Past) → Legal past → (p : ℕ) (call : Call) (m : ℕ) (a n : Option ℕ) (payload : List ℕ) → Says past p call (Got m a n) → (q : ℕ) × (called_queue past p call ≡ Some q) × (message_given (rec p call (Got m a n) payload ∷ past) (Got m a n) ≡ foremost (contents past q))
 got-in past legal p call m a n payload says =
     let got = got-all past p call m a n says in
     let at : called past p call ≡ got.queue = ap (λ (o : Option ℕ). unwrap_or o 0) got.on in
-    (got.queue, got.on, got-message past legal p call m a n payload says ∙ ap (λ (q : ℕ). pick (top (contents past q)) (contents past q)) at)
+    (got.queue, got.on, got-message past legal p call m a n payload says ∙ ap (λ (q : ℕ). foremost (contents past q)) at)
 
 module _ (x y : Past) (legal_x : Legal x) (legal_y : Legal y) (p : ℕ) (call : Call) (a b : Reply) (px py : List ℕ)
     (next_x : IsLegalNext x (rec p call a px)) (next_y : IsLegalNext y (rec p call b py)) (on : is_covered call ≡ true)
@@ -128,13 +129,13 @@ got-outline Done = refl
 got-outline (Refused f) = refl
 
 both-got : (x y : Past) → Legal x → Legal y → (p : ℕ) (call : Call) (m : ℕ) (a n : Option ℕ) (j : ℕ) (c l : Option ℕ) (px py : List ℕ) → Says x p call (Got m a n) → Says y p call (Got j c l) → called_queue y p call ≡ called_queue x p call →
-    ((k : ℕ) → called_queue x p call ≡ Some k → pick (top (contents y k)) (contents y k) ≡ pick (top (contents x k)) (contents x k)) → message_given (rec p call (Got j c l) py ∷ y) (Got j c l) ≡ message_given (rec p call (Got m a n) px ∷ x) (Got m a n)
+    ((k : ℕ) → called_queue x p call ≡ Some k → foremost (contents y k) ≡ foremost (contents x k)) → message_given (rec p call (Got j c l) py ∷ y) (Got j c l) ≡ message_given (rec p call (Got m a n) px ∷ x) (Got m a n)
 both-got x y legal_x legal_y p call m a n j c l px py says_x says_y called at =
     let gx = got-in x legal_x p call m a n px says_x in
     let gy = got-in y legal_y p call j c l py says_y in
     let some : Some gy.0 ≡ Some gx.0 = sym gy.1 ∙ called ∙ gx.1 in
     let one : gy.0 ≡ gx.0 = cc in
-    gy.2 ∙ ap (λ (q : ℕ). pick (top (contents y q)) (contents y q)) one ∙ at gx.0 gx.1 ∙ sym gx.2
+    gy.2 ∙ ap (λ (q : ℕ). foremost (contents y q)) one ∙ at gx.0 gx.1 ∙ sym gx.2
 
 -- a reply with the same outline as one that returns no message returns none
 pub no-message : (past : Past) (a b : Reply) → outline b ≡ outline a → is_got a ≡ false → message_given past b ≡ None
@@ -142,7 +143,7 @@ no-message past a b same e = none-given past b (sym (got-outline b) ∙ ap is_go
 
 -- replies with the same outline that return a message return the same one
 pub message-same : (x y : Past) → Legal x → Legal y → (p : ℕ) (call : Call) (a b : Reply) (px py : List ℕ) → Says x p call a → Says y p call b → called_queue y p call ≡ called_queue x p call → outline b ≡ outline a →
-    ((k : ℕ) → called_queue x p call ≡ Some k → pick (top (contents y k)) (contents y k) ≡ pick (top (contents x k)) (contents x k)) → message_given (rec p call b py ∷ y) b ≡ message_given (rec p call a px ∷ x) a
+    ((k : ℕ) → called_queue x p call ≡ Some k → foremost (contents y k) ≡ foremost (contents x k)) → message_given (rec p call b py ∷ y) b ≡ message_given (rec p call a px ∷ x) a
 message-same x y legal_x legal_y p call a b px py says_x says_y called same at =
     let both : is_got b ≡ is_got a = sym (got-outline b) ∙ ap is_got same ∙ got-outline a in
     split (is_got a)

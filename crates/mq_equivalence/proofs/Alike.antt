@@ -1,35 +1,15 @@
 -- What depends on the shape of a reply alone.
-use Rattle.std.proofs.Common.{◌≡◌, ℕ, ◌==◌, Bool, true, false, ◌&&◌, not, List, [], ◌∷◌, length, map, Option, Some, None, is_some, is_none, if◌then◌else◌, refl, sym, ◌∙◌, ap, nat_le}
-use Rattle.std.proofs.lemmas.List.{length-map}
-use Rattle.std.specs.Prelude.{int_lt, pos}
-use Rattle.std.specs.Option.{option_map}
-use Rattle.mq_model.specs.Record.{Past}
-use Rattle.mq_model.specs.Names.{attributes}
-use Rattle.mq_model.specs.Descriptors.{after_open, created, held, held_after}
-use Rattle.mq_model.specs.Messages.{best, is_in, least, present, waiting_receives, waiting_sends}
-use Rattle.mq_model.specs.Notices.{registered_place}
-use Rattle.mq_model.specs.Limits.{most_priorities}
-use Rattle.mq_model.specs.ErrorOrder.{accepted_reply, close_reply, found_reply, is_full_with, is_read_only, is_write_only, receive_reply, send_reply, timed_reply}
-use Rattle.mq_model.specs.Deadlines.{has_passed, is_moment}
-use Rattle.mq_model.specs.Waits.{answered_by, is_wait, open_wait}
-use Rattle.mq_model.specs.Legality.{is_refused, may_call, payload_of, reply_to, reply_to_attributes, reply_to_receive, reply_to_send}
-use Rattle.mq_model.specs.declared.error_order.SendFacts.{SendFacts}
-use Rattle.mq_model.specs.declared.error_order.ReceiveFacts.{ReceiveFacts}
-use Rattle.mq_model.specs.declared.entries.Attr.{Attr}
-use Rattle.mq_model.specs.declared.entries.Deadline.{Deadline}
-use Rattle.mq_model.specs.declared.entries.Description.{Description}
+use Rattle.std.proofs.Common.{◌≡◌, ℕ, Bool, List, [], Option, Some, None, if◌then◌else◌, refl, sym, ◌∙◌, ap}
+use Rattle.mq_model.specs.Descriptors.{created}
+use Rattle.mq_model.specs.Waits.{is_wait}
+use Rattle.mq_model.specs.Legality.{is_refused, payload_of}
 use Rattle.mq_model.specs.declared.entries.Call.{Call}
 use Rattle.mq_model.specs.declared.entries.Call.TheVariants.{MqOpen, MqClose, MqUnlink, MqSend, MqReceive, MqTimedSend, MqTimedReceive, MqGetattr, MqSetattr, MqNotify, NextNotice, Collect, Withdraw}
-use Rattle.mq_model.specs.declared.faults.Fault.TheVariants.{Again}
 use Rattle.mq_model.specs.declared.entries.Reply.{Reply}
 use Rattle.mq_model.specs.declared.entries.Reply.TheVariants.{Opened, Queued, Handed, Waits, Got, Collected, Attrs, Notice, Done, Refused, Withdrawn}
-use Rattle.mq_model.proofs.Places.{split}
-use Rattle.mq_model.proofs.Best.{best-none}
-use Rattle.mq_model.proofs.HeldQueues.{created-held}
-use Rattle.mq_equivalence.specs.Views.{Message, Sender, at, author, sender, sent, told}
+use Rattle.mq_equivalence.specs.Views.{Message, Sender}
 use Rattle.mq_equivalence.specs.Steps.{shape}
-use Rattle.mq_equivalence.proofs.Falling.{any, any-least}
-use Rattle.mq_equivalence.proofs.Effects.{after_answer, after_contents, after_receivers, after_senders, is-best}
+use Rattle.mq_equivalence.proofs.Effects.{after_answer, after_contents, after_receivers, after_senders}
 
 -- what depends on a reply's shape alone -----------------------------------------------------------------------------------
 

@@ -1,5 +1,5 @@
 -- A key that grows part by part, and what is to be said of the record at a place.
-use Rattle.std.proofs.Common.{◌≡◌, ℕ, ◌+◌, ◌<◌, ◌≤◌, List, [], ◌∷◌, ◌++◌, length, Option, Some, None, refl, sym, ◌∙◌, ap, arith, append_assoc, ◌-◌, suc, drop, get_or, map, add-one}
+use Rattle.std.proofs.Common.{◌≡◌, ℕ, ◌+◌, ◌<◌, ◌≤◌, Bool, true, false, List, [], ◌∷◌, ◌++◌, length, Option, Some, None, refl, sym, ◌∙◌, ap, arith, append_assoc, ◌-◌, suc, drop, get_or, map, add-one}
 use Rattle.std.proofs.Math.Seq.{drop-cons}
 use Rattle.std.proofs.lemmas.List.{append-nil, drop_all, length-map}
 use Rattle.std.specs.Option.{option_map}
@@ -7,9 +7,11 @@ use Rattle.mq_model.specs.Record.{Record, Past, first, record_at}
 use Rattle.mq_model.proofs.Prefixes.{first-all, record_at-below, record_at-of_first}
 use Rattle.mq_model.specs.Descriptors.{numbers_from}
 use Rattle.mq_equivalence.proofs.Codes.{length-numbers}
+use Rattle.mq_equivalence.proofs.Effects.{prio-is}
+use Rattle.mq_equivalence.proofs.Falling.{map-lined}
 use Rattle.mq_equivalence.specs.Key.{codes, listed, message_code, number, optional, sender_code}
-use Rattle.mq_equivalence.specs.Kinds.{kind_code, place_code, standing}
-use Rattle.mq_equivalence.specs.Views.{at, author, sender, sent}
+use Rattle.mq_equivalence.specs.Kinds.{in_order, kind_code, place_code, standing}
+use Rattle.mq_equivalence.specs.Views.{at, author, contents, lined, prio_of, seen, sender, sent, unsent}
 use Rattle.mq_equivalence.specs.declared.standing.Kind.{Kind}
 use Rattle.mq_equivalence.specs.declared.standing.Kind.TheVariants.{Messages, Senders, Receivers}
 
@@ -25,13 +27,35 @@ codes-map code f (x ∷ xs) = ap (λ (ns : List ℕ). code (f x) ++ ns) (codes-m
 pub listed-map : {X Y : Type 0} (code : Y → List ℕ) (f : X → Y) (xs : List X) → listed code (map f xs) ≡ length xs ∷ codes (λ (x : X). code (f x)) xs
 listed-map code f xs = rw (length-map xs f, codes-map code f xs) refl
 
-kind-places : (kind : Kind) (past : Past) (q : ℕ) → kind_code kind past q ≡ length (standing kind past q) ∷ codes (place_code kind past) (standing kind past q)
-kind-places Messages past q = listed-map (optional message_code) (at sent past) (standing Messages past q)
-kind-places Senders past q = listed-map (optional sender_code) (at sender past) (standing Senders past q)
-kind-places Receivers past q = listed-map (optional number) (at author past) (standing Receivers past q)
+-- messages in line are the places in line
+lined-places : (past : Past) (ks : List ℕ) → lined prio_of (map (at sent past) ks) ≡ map (at sent past) (in_order Messages past ks)
+lined-places past ks = sym (map-lined prio_of (at sent past) ks) ∙ (λ i. map (at sent past) (lined (λ k. prio-is past k i) ks))
 
-pub kind-done : (kind : Kind) (past : Past) (q : ℕ) (xs : List ℕ) → xs ≡ standing kind past q → listed (place_code kind past) xs ≡ kind_code kind past q
-kind-done kind past q xs is = ap (λ (ks : List ℕ). listed (place_code kind past) ks) is ∙ sym (kind-places kind past q)
+unseen-code : (past : Past) (ks : List ℕ) → codes (optional message_code) (seen false (lined prio_of (map (at sent past) ks))) ≡ codes (λ (m : ℕ). 0 ∷ []) (in_order Messages past ks)
+unseen-code past ks =
+    ap (λ cs. codes (optional message_code) (seen false cs)) (lined-places past ks)
+    ∙ codes-map (optional message_code) (λ m. None) (map (at sent past) (in_order Messages past ks))
+    ∙ codes-map (λ m. 0 ∷ []) (at sent past) (in_order Messages past ks)
+
+kind-places : (received : Bool) (kind : Kind) (past : Past) (q : ℕ) →
+    kind_code received kind past q ≡ length (in_order kind past (standing kind past q)) ∷ codes (place_code received kind past) (in_order kind past (standing kind past q))
+kind-places true Messages past q =
+    ap (λ cs. listed (optional message_code) cs) (lined-places past (standing Messages past q))
+    ∙ listed-map (optional message_code) (at sent past) (in_order Messages past (standing Messages past q))
+kind-places false Messages past q =
+    let ks = standing Messages past q in
+    let count : length (seen false (contents past q)) ≡ length (in_order Messages past ks) =
+    length-map (contents past q) (λ m. None) ∙ ap (λ cs. length cs) (lined-places past ks) ∙ length-map (in_order Messages past ks) (at sent past) in
+    λ i. count i ∷ unseen-code past ks i
+kind-places true Senders past q = listed-map (optional sender_code) (at sender past) (standing Senders past q)
+kind-places false Senders past q =
+    listed-map (optional sender_code) (option_map unsent) (map (at sender past) (standing Senders past q))
+    ∙ (λ i. length-map (standing Senders past q) (at sender past) i ∷ codes-map (λ s. optional sender_code (option_map unsent s)) (at sender past) (standing Senders past q) i)
+kind-places true Receivers past q = listed-map (optional number) (at author past) (standing Receivers past q)
+kind-places false Receivers past q = listed-map (optional number) (at author past) (standing Receivers past q)
+
+pub kind-done : (received : Bool) (kind : Kind) (past : Past) (q : ℕ) (xs : List ℕ) → xs ≡ in_order kind past (standing kind past q) → listed (place_code received kind past) xs ≡ kind_code received kind past q
+kind-done received kind past q xs is = ap (λ (ks : List ℕ). listed (place_code received kind past) ks) is ∙ sym (kind-places received kind past q)
 
 numbers-more : (d n : ℕ) → d < n → numbers_from d (n - d) ≡ d ∷ numbers_from (d + 1) (n - (d + 1))
 numbers-more d n lt = let less : n - d ≡ suc (n - (d + 1)) = omega arith in rw less refl

@@ -1,7 +1,6 @@
 -- Above the bounds there is nothing: no descriptor, no wait and no notice.
-use Rattle.std.proofs.Common.{◌≡◌, ℕ, ◌+◌, ◌<◌, ◌≤◌, ◌==◌, Bool, false, List, [], ◌∷◌, ◌++◌, drop, length, zero, suc, Option, Some, None, refl, sym, ◌∙◌, ap, arith, ne_eqb}
-use Rattle.std.specs.Option.{option_map, option_to_list}
-use Rattle.mq_model.specs.Record.{Record, Past, record_at}
+use Rattle.std.proofs.Common.{◌≡◌, ℕ, ◌<◌, ◌≤◌, ◌==◌, Bool, false, List, [], ◌∷◌, drop, length, zero, suc, Option, Some, None, refl, ◌∙◌, ap, arith, ne_eqb}
+use Rattle.mq_model.specs.Record.{Past, record_at}
 use Rattle.mq_model.specs.Descriptors.{after_open, held, held_after}
 use Rattle.mq_model.specs.Notices.{notices, notices_given, notified, value_given, value_notified, values_notified}
 use Rattle.mq_model.specs.Waits.{answered_by, open_wait, wait_deadline}

@@ -17,7 +17,7 @@ use Rattle.mq_state.specs.Trails.{can_call}
 use Rattle.mq_equivalence.specs.Steps.{message_collected, message_given, shape}
 use Rattle.mq_equivalence.specs.Views.{Message, answer, at, contents, sent, told}
 use Rattle.mq_equivalence.proofs.Alike.{payload-alike, refused-alike}
-use Rattle.mq_equivalence.proofs.Falling.{pick, pick-best, top, top-best}
+use Rattle.mq_equivalence.proofs.Falling.{best-first, foremost}
 use Rattle.mq_equivalence.proofs.Changes.{at-older, falls-present, got-all, rec}
 use Rattle.mq_equivalence.proofs.Effects.{answer-older, called, is-best, is_collected}
 
@@ -101,17 +101,14 @@ message-older past p call given r =
 
 -- the message that a receive gets
 pub got-message : (past : Past) → Legal past → (p : ℕ) (call : Call) (m : ℕ) (a n : Option ℕ) (payload : List ℕ) → Says past p call (Got m a n) →
-    at sent (rec p call (Got m a n) payload ∷ past) m ≡ pick (top (contents past (called past p call))) (contents past (called past p call))
+    at sent (rec p call (Got m a n) payload ∷ past) m ≡ foremost (contents past (called past p call))
 got-message past legal p call m a n payload says =
     let got = got-all past p call m a n says in
     let same : called past p call ≡ got.queue = ap (λ (o : Option ℕ). unwrap_or o 0) got.on in
     let b = is-best past got.queue m got.best in
     let below : m < length past = below-present past got.queue m b.inside in
-    let is : at sent past m ≡ pick (top (contents past got.queue)) (contents past got.queue) =
-    pick-best (at sent past) (present past got.queue) m (falls-present past legal got.queue) b
-    ∙ ap (λ (n : ℕ). pick n (contents past got.queue)) (sym (top-best (at sent past) (present past got.queue) m b))
-    in
-    at-older sent past (rec p call (Got m a n) payload) m below ∙ is ∙ ap (λ (q : ℕ). pick (top (contents past q)) (contents past q)) (sym same)
+    let is = (best-first (at sent past) (present past got.queue) m (falls-present past legal got.queue) b).0 in
+    at-older sent past (rec p call (Got m a n) payload) m below ∙ is ∙ ap (λ (q : ℕ). foremost (contents past q)) (sym same)
   where
     below-present : (past : Past) (q m : ℕ) → is_in (present past q) m ≡ true → m < length past
     below-present past q m h = present-below past q m h

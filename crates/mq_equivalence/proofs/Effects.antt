@@ -21,8 +21,8 @@ use Rattle.mq_model.proofs.OpenWaits.{open_wait-process, same-waiter}
 use Rattle.mq_model.proofs.Presence.{GotFacts, present-below, present-got_elsewhere, present-got_here, present-handed, without-absent}
 use Rattle.mq_model.proofs.Steps.{Below, filter-both, present-queued, present-queued_elsewhere, without}
 use Rattle.mq_model.proofs.Waiters.{unnamed, waiter}
-use Rattle.mq_equivalence.specs.Views.{Message, Sender, answer, at, author, contents, receivers, sender, senders, sent, told}
-use Rattle.mq_equivalence.proofs.Falling.{Falls, IsBest, least-newer, least-oldest, map-newer, newer, oldest, prio_of, top, top-best, unpicked, unpicked-best}
+use Rattle.mq_equivalence.specs.Views.{Message, Sender, answer, at, author, contents, joined, lined, prio_of, receivers, sender, senders, sent, told}
+use Rattle.mq_equivalence.proofs.Falling.{Falls, IsBest, best-first, least-newer, least-oldest, map-newer, newer, oldest, others}
 use Rattle.mq_equivalence.proofs.Changes.{at-newest, at-older, falls-present, falls-receivers, falls-senders, got-all, handed-all, map-older, rec, waiting_receives-below, waiting_sends-below}
 
 -- the best message -------------------------------------------------------------------------------------------------------
@@ -35,7 +35,7 @@ all-in t (x ∷ xs) m all h =
     (λ e. subst (λ (k : ℕ). t k ≡ true) (eqb-true x m e) parts.0)
     (λ f. let rest : is_in xs m ≡ true = rw f at h in all-in t xs m parts.1 rest)
 
-prio-is : (past : Past) (k : ℕ) → prio_of (at sent past k) ≡ priority past k
+pub prio-is : (past : Past) (k : ℕ) → prio_of (at sent past k) ≡ priority past k
 prio-is past k =
     let goes : (o : Option Record) → prio_of (option_map sent o) ≡ unwrap_or (option_map (λ (r : Record). priority_given r.entry.call) o) 0 =
     λ (o : Option Record). elim o as (λ o. prio_of (option_map sent o) ≡ unwrap_or (option_map (λ (r : Record). priority_given r.entry.call) o) 0) [ None ↦ refl | Some r ↦ refl ]
@@ -64,17 +64,20 @@ is-best past q m e =
 abbrev pub message_of : Call → List ℕ → Message
 message_of call payload = record { prio = priority_given call; bytes = payload }
 
-abbrev pub with_first : Option ℕ → List (Option Sender) → List (Option Message) → List (Option Message)
-with_first None ss cs = cs
-with_first (Some w) ss cs = option_map (λ (x : Sender). x.message) (oldest ss) ∷ cs
+-- a send that waited is admitted
+abbrev pub with_admitted : Option ℕ → List (Option Sender) → List (Option Message) → List (Option Message)
+with_admitted None ss cs = cs
+with_admitted (Some w) ss cs = joined prio_of (option_map (λ (x : Sender). x.message) (oldest ss)) cs
 
 abbrev pub after_contents : Call → List ℕ → Bool → Reply → List (Option Sender) → List (Option Message) → List (Option Message)
-after_contents call payload on (Queued n) ss cs = if on && is_send call then Some (message_of call payload) ∷ cs else cs
-after_contents call payload on (Got m a n) ss cs = if on then with_first a ss (unpicked (top cs) cs) else cs
+after_contents call payload on (Queued n) ss cs = if on && is_send call then joined prio_of (Some (message_of call payload)) cs else cs
+after_contents call payload on (Got m a n) ss cs = if on then with_admitted a ss (others cs) else cs
 after_contents call payload on reply ss cs = cs
 
 contents-same : (past : Past) (r : Record) (q : ℕ) → present (r ∷ past) q ≡ present past q → contents (r ∷ past) q ≡ contents past q
-contents-same past r q same = ap (λ (ks : List ℕ). map (at sent (r ∷ past)) ks) same ∙ map-older sent past r (present past q) (present-below past q)
+contents-same past r q same =
+    ap (λ (ks : List ℕ). lined prio_of (map (at sent (r ∷ past)) ks)) same
+    ∙ ap (λ (cs : List (Option Message)). lined prio_of cs) (map-older sent past r (present past q) (present-below past q))
 
 contents-queued : (past : Past) → Legal past → (p : ℕ) (call : Call) (n : Option ℕ) (payload : List ℕ) (q : ℕ) →
     contents (rec p call (Queued n) payload ∷ past) q ≡ after_contents call payload (is_place q (called_queue past p call)) (Queued n) (senders past q) (contents past q)
@@ -101,14 +104,15 @@ at-sender past w =
     in
     goes (record_at past w)
 
-map-first : (past : Past) (r : Record) (q : ℕ) (a : Option ℕ) (ks : List ℕ) → a ≡ least (waiting_sends past q) → map (at sent (r ∷ past)) (with_place a ks) ≡ with_first a (senders past q) (map (at sent (r ∷ past)) ks)
-map-first past r q None ks e = refl
-map-first past r q (Some w) ks e =
+lined-admitted : (past : Past) (r : Record) (q : ℕ) (a : Option ℕ) (ks : List ℕ) → a ≡ least (waiting_sends past q) →
+    lined prio_of (map (at sent (r ∷ past)) (with_place a ks)) ≡ with_admitted a (senders past q) (lined prio_of (map (at sent (r ∷ past)) ks))
+lined-admitted past r q None ks e = refl
+lined-admitted past r q (Some w) ks e =
     let below : w < length past = waiting_sends-below past q w (least-in (waiting_sends past q) w (sym e)) in
     let first : at sent (r ∷ past) w ≡ option_map (λ (x : Sender). x.message) (oldest (senders past q)) =
     at-older sent past r w below ∙ at-sender past w ∙ ap (λ (o : Option Sender). option_map (λ (x : Sender). x.message) o) (least-oldest (at sender past) (waiting_sends past q) w (falls-senders past q) (sym e))
     in
-    ap (λ (c : Option Message). c ∷ map (at sent (r ∷ past)) ks) first
+    ap (λ (c : Option Message). joined prio_of c (lined prio_of (map (at sent (r ∷ past)) ks))) first
 
 contents-got : (past : Past) → Legal past → (p : ℕ) (call : Call) (m : ℕ) (a n : Option ℕ) (payload : List ℕ) (q : ℕ) → Says past p call (Got m a n) →
     contents (rec p call (Got m a n) payload ∷ past) q ≡ after_contents call payload (is_place q (called_queue past p call)) (Got m a n) (senders past q) (contents past q)
@@ -126,13 +130,11 @@ contents-got past legal p call m a n payload q says =
     let mine : GotFacts past q m a = subst (λ (k : ℕ). GotFacts past k m a) same facts in
     let best_here : best past q ≡ Some m = subst (λ (k : ℕ). best past k ≡ Some m) same got.best in
     let b = is-best past q m best_here in
-    let rest : map f (without m (present past q)) ≡ unpicked (top (contents past q)) (contents past q) =
-    unpicked-best f (present past q) m (falls-present past legal q) b ∙ ap (λ (n : ℕ). unpicked n (contents past q)) (sym (top-best f (present past q) m b))
-    in
+    let rest = (best-first f (present past q) m (falls-present past legal q) b).1 in
     rw on
-    (ap (λ (ks : List ℕ). map (at sent (r ∷ past)) ks) (present-got_here past legal p call m a n payload q mine)
-    ∙ map-first past r q a (without m (present past q)) mine.admitted
-    ∙ ap (λ (cs : List (Option Message)). with_first a (senders past q) cs) (old ∙ rest)))
+    (ap (λ (ks : List ℕ). lined prio_of (map (at sent (r ∷ past)) ks)) (present-got_here past legal p call m a n payload q mine)
+    ∙ lined-admitted past r q a (without m (present past q)) mine.admitted
+    ∙ ap (λ (cs : List (Option Message)). with_admitted a (senders past q) cs) (ap (λ (cs : List (Option Message)). lined prio_of cs) old ∙ rest)))
     (λ d. let off : is_place q (called_queue past p call) ≡ false = rw got.on d in
     rw off (contents-same past r q (present-got_elsewhere past p call m a n payload got.queue q facts (λ is. eqb-false got.queue q d (sym is)))))
 

@@ -1,13 +1,14 @@
 -- Lists of places, the latest first, and the records at these places.
-use Rattle.std.proofs.Common.{◌≡◌, ℕ, ◌<◌, ◌≤◌, ◌==◌, Bool, true, false, List, [], ◌∷◌, map, Option, Some, None, is_some, if◌then◌else◌, refl, sym, ◌∙◌, ap, arith, eqb-true, eq-eqb, ne_eqb, ◌⊎◌, inl, inr, min, max}
-use Rattle.std.specs.List.{filter, list_any}
-use Rattle.std.specs.Option.{option_map, unwrap_or}
+use Rattle.std.proofs.Common.{◌≡◌, ℕ, ◌<◌, ◌≤◌, ◌==◌, Bool, true, false, List, [], ◌∷◌, map, Option, Some, None, is_some, refl, sym, ◌∙◌, ap, arith, eqb-true, eq-eqb, ne_eqb, ◌⊎◌, inl, inr, min, nat_le, length, suc, subst}
+use Rattle.std.specs.List.{filter}
+use Rattle.std.specs.Option.{unwrap_or}
 use Rattle.std.proofs.lemmas.Bool.{eqb-false}
+use Rattle.std.proofs.lemmas.Bool.Decides.{nat_tests}
 use Rattle.mq_model.specs.Messages.{is_in, least}
 use Rattle.mq_model.proofs.Places.{split, is_in-filter}
 use Rattle.mq_model.proofs.Steps.{without}
 use Rattle.mq_model.proofs.Presence.{without-absent}
-use Rattle.mq_equivalence.specs.Views.{Message}
+use Rattle.mq_equivalence.specs.Views.{Message, joined, lined, prio_of}
 
 -- each place is above all after it
 abbrev pub Falls : List ℕ → Type 0
@@ -75,73 +76,87 @@ least-newer (k ∷ (l ∷ ks)) w falls e =
     let other : (w == k) ≡ false = ne_eqb w k (λ is. omega (arith, is, same, lower, below)) in
     rw other (ap (λ (xs : List ℕ). k ∷ xs) (ap (λ (x : ℕ). without x (l ∷ ks)) same ∙ rest))
 
--- the best of some messages ---------------------------------------------------------------------------------------------
+-- items in line -------------------------------------------------------------------------------------------------------
 
-abbrev pub prio_of : Option Message → ℕ
-prio_of o = unwrap_or (option_map (λ m. m.prio) o) 0
+abbrev pub foremost : {X : Type 0} → List (Option X) → Option X
+foremost [] = None
+foremost (x ∷ line) = x
 
--- the highest priority
-abbrev pub top : List (Option Message) → ℕ
-top [] = 0
-top (c ∷ cs) = max (prio_of c) (top cs)
+abbrev pub others : {X : Type 0} → List X → List X
+others [] = []
+others (x ∷ line) = line
 
-abbrev pub has : ℕ → List (Option Message) → Bool
-has n cs = list_any (λ c. prio_of c == n) cs
+map-joined : {X Y : Type 0} (rank : Y → ℕ) (f : X → Y) (x : X) (line : List X) → map f (joined (λ z. rank (f z)) x line) ≡ joined rank (f x) (map f line)
+map-joined rank f x [] = refl
+map-joined rank f x (y ∷ line) = split (nat_le (rank (f x)) (rank (f y)))
+    (λ t. rw t (ap (λ ys. f y ∷ ys) (map-joined rank f x line)))
+    (λ n. rw n refl)
 
--- the last message of a priority, and the others
-abbrev pub pick : ℕ → List (Option Message) → Option Message
-pick n [] = None
-pick n (c ∷ cs) = if has n cs then pick n cs else c
+pub map-lined : {X Y : Type 0} (rank : Y → ℕ) (f : X → Y) (xs : List X) → map f (lined (λ z. rank (f z)) xs) ≡ lined rank (map f xs)
+map-lined rank f [] = refl
+map-lined rank f (x ∷ xs) = map-joined rank f x (lined (λ z. rank (f z)) xs) ∙ ap (λ line. joined rank (f x) line) (map-lined rank f xs)
 
-abbrev pub unpicked : ℕ → List (Option Message) → List (Option Message)
-unpicked n [] = []
-unpicked n (c ∷ cs) = if has n cs then c ∷ unpicked n cs else cs
+length-joined : {X : Type 0} (rank : X → ℕ) (x : X) (line : List X) → length (joined rank x line) ≡ suc (length line)
+length-joined rank x [] = refl
+length-joined rank x (y ∷ line) = split (nat_le (rank x) (rank y)) (λ t. rw t (ap suc (length-joined rank x line))) (λ n. rw n refl)
+
+pub length-lined : {X : Type 0} (rank : X → ℕ) (xs : List X) → length (lined rank xs) ≡ length xs
+length-lined rank [] = refl
+length-lined rank (x ∷ xs) = length-joined rank x (lined rank xs) ∙ ap suc (length-lined rank xs)
+
+pub any-joined : {X : Type 0} (rank : X → ℕ) (x : X) (line : List X) → any (joined rank x line) ≡ true
+any-joined rank x [] = refl
+any-joined rank x (y ∷ line) = split (nat_le (rank x) (rank y)) (λ t. rw t refl) (λ n. rw n refl)
+
+pub any-lined : {X : Type 0} (rank : X → ℕ) (xs : List X) → any (lined rank xs) ≡ any xs
+any-lined rank [] = refl
+any-lined rank (x ∷ xs) = any-joined rank x (lined rank xs)
+
+-- the foremost has a lower priority, if there is one
+abbrev IsBelow : ℕ → List (Option Message) → Type 0
+IsBelow n [] = Unit {0}
+IsBelow n (c ∷ line) = prio_of c < n
+
+below-joined : (n : ℕ) (c : Option Message) (line : List (Option Message)) → prio_of c < n → IsBelow n line → IsBelow n (joined prio_of c line)
+below-joined n c [] lt below = lt
+below-joined n c (d ∷ line) lt below = split (nat_le (prio_of c) (prio_of d)) (λ t. rw t below) (λ f. rw f lt)
+
+joined-first : (c : Option Message) (line : List (Option Message)) → IsBelow (prio_of c) line → joined prio_of c line ≡ c ∷ line
+joined-first c [] below = refl
+joined-first c (d ∷ line) below = split (nat_le (prio_of c) (prio_of d))
+    (λ t. let k : ⊥ = grind (arith, nat_tests) in absurd k)
+    (λ f. rw f refl)
+
+-- what joins behind the foremost leaves it where it is
+pub joined-behind : (c : Option Message) (line : List (Option Message)) → any line ≡ true → prio_of c ≤ prio_of (foremost line) →
+    (foremost (joined prio_of c line) ≡ foremost line) × (others (joined prio_of c line) ≡ joined prio_of c (others line))
+joined-behind c [] some le = absurd (cc)
+joined-behind c (d ∷ line) some le = split (nat_le (prio_of c) (prio_of d))
+    (λ t. rw t (refl, refl))
+    (λ f. let k : ⊥ = grind (arith, nat_tests) in absurd k)
 
 -- of these places b has the best message: of the highest priority the oldest
 pub record IsBest (f : ℕ → Option Message) (ks : List ℕ) (b : ℕ) : Type 0 where
   pub inside : is_in ks b ≡ true
   pub first : (k : ℕ) → is_in ks k ≡ true → (prio_of (f k) < prio_of (f b)) ⊎ ((prio_of (f k) ≡ prio_of (f b)) × (b ≤ k))
 
-in-cons : (k : ℕ) (ks : List ℕ) (j : ℕ) → is_in ks j ≡ true → is_in (k ∷ ks) j ≡ true
+pub in-cons : (k : ℕ) (ks : List ℕ) (j : ℕ) → is_in ks j ≡ true → is_in (k ∷ ks) j ≡ true
 in-cons k ks j h = split (k == j) (λ t. rw t refl) (λ f. rw (f, h) refl)
 
-in-first : (k : ℕ) (ks : List ℕ) → is_in (k ∷ ks) k ≡ true
+pub in-first : (k : ℕ) (ks : List ℕ) → is_in (k ∷ ks) k ≡ true
 in-first k ks = rw (eq-eqb k k refl) refl
 
 in-later : (k : ℕ) (ks : List ℕ) (j : ℕ) → is_in (k ∷ ks) j ≡ true → (k == j) ≡ false → is_in ks j ≡ true
 in-later k ks j h f = rw f at h
 
-top-le : (f : ℕ → Option Message) (ks : List ℕ) (n : ℕ) → ((k : ℕ) → is_in ks k ≡ true → prio_of (f k) ≤ n) → top (map f ks) ≤ n
-top-le f [] n low = omega arith
-top-le f (k ∷ ks) n low =
-    let rest = top-le f ks n (λ j h. low j (in-cons k ks j h)) in
-    let here = low k (in-first k ks) in
-    omega (arith, rest, here)
+pub any-line : (f : ℕ → Option Message) (ks : List ℕ) (b : ℕ) → is_in ks b ≡ true → any (lined prio_of (map f ks)) ≡ true
+any-line f [] b h = absurd (cc)
+any-line f (k ∷ ks) b h = any-joined prio_of (f k) (lined prio_of (map f ks))
 
-top-ge : (f : ℕ → Option Message) (ks : List ℕ) (b : ℕ) → is_in ks b ≡ true → prio_of (f b) ≤ top (map f ks)
-top-ge f [] b h = absurd (cc)
-top-ge f (k ∷ ks) b h = split (k == b)
-    (λ t. let same : prio_of (f k) ≡ prio_of (f b) = ap (λ (x : ℕ). prio_of (f x)) (eqb-true k b t) in omega (arith, same))
-    (λ n. let rest = top-ge f ks b (in-later k ks b h n) in omega (arith, rest))
-
-pub top-best : (f : ℕ → Option Message) (ks : List ℕ) (b : ℕ) → IsBest f ks b → top (map f ks) ≡ prio_of (f b)
-top-best f ks b best =
-    let low : top (map f ks) ≤ prio_of (f b) = top-le f ks (prio_of (f b)) (λ k h. elim (best.first k h) [ inl lt ↦ omega (arith, lt) | inr e ↦ omega (arith, e.0) ]) in
-    let high = top-ge f ks b best.inside in
-    omega (arith, low, high)
-
-has-in : (f : ℕ → Option Message) (ks : List ℕ) (b : ℕ) → is_in ks b ≡ true → has (prio_of (f b)) (map f ks) ≡ true
-has-in f [] b h = absurd (cc)
-has-in f (k ∷ ks) b h = split (k == b)
-    (λ t. let same : prio_of (f k) ≡ prio_of (f b) = ap (λ (x : ℕ). prio_of (f x)) (eqb-true k b t) in rw (eq-eqb (prio_of (f k)) (prio_of (f b)) same) refl)
-    (λ n. split (prio_of (f k) == prio_of (f b)) (λ t. rw t refl) (λ u. rw (u, has-in f ks b (in-later k ks b h n)) refl))
-
-has-none : (f : ℕ → Option Message) (ks : List ℕ) (n : ℕ) → ((k : ℕ) → is_in ks k ≡ true → prio_of (f k) < n) → has n (map f ks) ≡ false
-has-none f [] n low = refl
-has-none f (k ∷ ks) n low =
-    let here = low k (in-first k ks) in
-    let other : (prio_of (f k) == n) ≡ false = ne_eqb (prio_of (f k)) n (λ is. omega (arith, is, here)) in
-    rw (other, has-none f ks n (λ j h. low j (in-cons k ks j h))) refl
+all-below : (f : ℕ → Option Message) (ks : List ℕ) (n : ℕ) → ((k : ℕ) → is_in ks k ≡ true → prio_of (f k) < n) → IsBelow n (lined prio_of (map f ks))
+all-below f [] n below = tt
+all-below f (k ∷ ks) n below =
+    below-joined n (f k) (lined prio_of (map f ks)) (below k (in-first k ks)) (all-below f ks n (λ j h. below j (in-cons k ks j h)))
 
 best-rest : (f : ℕ → Option Message) (k : ℕ) (ks : List ℕ) (b : ℕ) → IsBest f (k ∷ ks) b → (k == b) ≡ false → IsBest f ks b
 best-rest f k ks b best other = record {
@@ -149,26 +164,29 @@ best-rest f k ks b best other = record {
   first = λ j h. best.first j (in-cons k ks j h);
 }
 
--- after the best message none has its priority
-alone : (f : ℕ → Option Message) (k : ℕ) (ks : List ℕ) (b : ℕ) → Falls (k ∷ ks) → IsBest f (k ∷ ks) b → (k == b) ≡ true → has (prio_of (f b)) (map f ks) ≡ false
-alone f k ks b falls best is =
-    has-none f ks (prio_of (f b)) (λ j h.
+-- a later message with the best priority would be behind the best one
+best-alone : (f : ℕ → Option Message) (k : ℕ) (ks : List ℕ) → Falls (k ∷ ks) → IsBest f (k ∷ ks) k → IsBelow (prio_of (f k)) (lined prio_of (map f ks))
+best-alone f k ks falls best = all-below f ks (prio_of (f k)) (λ j h.
     let below = falls.0 j h in
-    let same : k ≡ b = eqb-true k b is in
-    elim (best.first j (in-cons k ks j h)) [ inl lt ↦ lt | inr e ↦ let k : ⊥ = omega (arith, e.1, below, same) in absurd k ])
+    elim (best.first j (in-cons k ks j h)) [ inl lt ↦ lt | inr e ↦ let k : ⊥ = omega (arith, e.1, below) in absurd k ])
 
-pub pick-best : (f : ℕ → Option Message) (ks : List ℕ) (b : ℕ) → Falls ks → IsBest f ks b → f b ≡ pick (prio_of (f b)) (map f ks)
-pick-best f [] b falls best = let h = best.inside in absurd (cc)
-pick-best f (k ∷ ks) b falls best = split (k == b)
-    (λ t. let same : k ≡ b = eqb-true k b t in rw (alone f k ks b falls best t) (ap f (sym same)))
-    (λ n. let rest = best-rest f k ks b best n in rw (has-in f ks b rest.inside) (pick-best f ks b falls.1 rest))
+no-less : (f : ℕ → Option Message) (k : ℕ) (ks : List ℕ) (b : ℕ) → IsBest f (k ∷ ks) b → prio_of (f k) ≤ prio_of (f b)
+no-less f k ks b best = elim (best.first k (in-first k ks)) [ inl lt ↦ omega (arith, lt) | inr e ↦ omega (arith, e.0) ]
 
-pub unpicked-best : (f : ℕ → Option Message) (ks : List ℕ) (b : ℕ) → Falls ks → IsBest f ks b → map f (without b ks) ≡ unpicked (prio_of (f b)) (map f ks)
-unpicked-best f [] b falls best = refl
-unpicked-best f (k ∷ ks) b falls best = split (k == b)
+-- The best message is the foremost in line, and the others stand behind it.
+pub best-first : (f : ℕ → Option Message) (ks : List ℕ) (b : ℕ) → Falls ks → IsBest f ks b →
+    (f b ≡ foremost (lined prio_of (map f ks))) × (lined prio_of (map f (without b ks)) ≡ others (lined prio_of (map f ks)))
+best-first f [] b falls best = let h = best.inside in absurd (cc)
+best-first f (k ∷ ks) b falls best = split (k == b)
     (λ t. let same : k ≡ b = eqb-true k b t in
+    let mine : IsBest f (k ∷ ks) k = subst (λ (j : ℕ). IsBest f (k ∷ ks) j) (sym same) best in
+    let front = joined-first (f k) (lined prio_of (map f ks)) (best-alone f k ks falls mine) in
     let gone : is_in ks b ≡ false = split (is_in ks b) (λ y. let below = falls.0 b y in let k : ⊥ = omega (arith, below, same) in absurd k) (λ n. n) in
-    rw (alone f k ks b falls best t, eq-eqb b k (sym same)) (ap (λ (xs : List ℕ). map f xs) (without-absent b ks gone)))
+    rw (front, eq-eqb b k (sym same)) (ap f (sym same), ap (λ (xs : List ℕ). lined prio_of (map f xs)) (without-absent b ks gone)))
     (λ n. let rest = best-rest f k ks b best n in
     let other : (b == k) ≡ false = ne_eqb b k (λ is. eqb-false k b n (sym is)) in
-    rw (has-in f ks b rest.inside, other) (ap (λ (xs : List (Option Message)). f k ∷ xs) (unpicked-best f ks b falls.1 rest)))
+    let is = best-first f ks b falls.1 rest in
+    let less = no-less f k ks b best in
+    let least : prio_of (f k) ≤ prio_of (foremost (lined prio_of (map f ks))) = subst (λ (o : Option Message). prio_of (f k) ≤ prio_of o) is.0 less in
+    let behind = joined-behind (f k) (lined prio_of (map f ks)) (any-line f ks b rest.inside) least in
+    rw other (is.0 ∙ sym behind.0, ap (λ (line : List (Option Message)). joined prio_of (f k) line) is.1 ∙ sym behind.1))

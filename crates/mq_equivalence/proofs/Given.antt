@@ -1,5 +1,5 @@
 -- The notices that are left, value by value.
-use Rattle.std.proofs.Common.{◌≡◌, ℕ, zero, suc, ◌<◌, ◌≤◌, List, [], ◌∷◌, ◌++◌, drop, length, refl, ap, arith}
+use Rattle.std.proofs.Common.{◌≡◌, ℕ, zero, suc, ◌<◌, ◌≤◌, List, [], ◌∷◌, ◌++◌, drop, length, refl, arith}
 
 pub drop-last : (n v : ℕ) (xs : List ℕ) → n ≤ length xs → drop n (xs ++ (v ∷ [])) ≡ drop n xs ++ (v ∷ [])
 drop-last zero v xs le = refl

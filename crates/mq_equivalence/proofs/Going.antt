@@ -1,5 +1,5 @@
 -- Equivalent journals remain equivalent: contents, registrations, notices and waits.
-use Rattle.std.proofs.Common.{◌≡◌, ℕ, ◌<◌, ◌≤◌, ◌==◌, Bool, true, false, ◌&&◌, not, List, [], ◌∷◌, length, map, Option, Some, None, is_some, if◌then◌else◌, refl, sym, ◌∙◌, ap, subst, arith, eqb-true, eq-eqb, ne_eqb}
+use Rattle.std.proofs.Common.{◌||◌, ◌≡◌, ℕ, ◌<◌, ◌≤◌, ◌==◌, Bool, true, false, ◌&&◌, not, List, [], ◌∷◌, length, map, Option, Some, None, is_some, if◌then◌else◌, refl, sym, ◌∙◌, ap, subst, arith, eqb-true, eq-eqb, ne_eqb}
 use Rattle.std.specs.List.{filter}
 use Rattle.std.specs.Option.{option_map, option_and_then, unwrap_or}
 use Rattle.std.proofs.lemmas.Bool.{eqb-false}
@@ -25,15 +25,15 @@ use Rattle.mq_model.proofs.Cases.{Says}
 use Rattle.mq_model.proofs.PresentFew.{present-new}
 use Rattle.mq_model.proofs.Alive.{needed-alive, rec}
 use Rattle.mq_state.specs.Buffers.{room_of, waiting_room}
-use Rattle.mq_equivalence.specs.Views.{Registered, at, author, contents, receivers, registered_as, sender, senders, sent}
+use Rattle.mq_equivalence.specs.Views.{Registered, at, author, contents, lined, prio_of, receivers, registered_as, seen, seen_senders, sender, senders, sent}
 use Rattle.mq_equivalence.specs.Steps.{record_of, shape}
-use Rattle.mq_equivalence.proofs.Falling.{Falls}
-use Rattle.mq_equivalence.proofs.Effects.{after_contents, contents-step}
+use Rattle.mq_equivalence.proofs.Effects.{contents-step}
 use Rattle.mq_equivalence.proofs.Alike.{contents-shape, payload-alike, wait-shape}
 use Rattle.mq_equivalence.specs.Structure.{SameStructure, extended, renumbered}
 use Rattle.mq_equivalence.specs.Outline.{unnumbered, outline}
-use Rattle.mq_equivalence.specs.Equivalence.{EquivalentUnder}
-use Rattle.mq_equivalence.proofs.Structure.{alive-below, falls-alive, fewer-needed, needed-in, new-number, old-number, one-number, structure-stays}
+use Rattle.mq_equivalence.specs.Equivalence.{AgreeUnder, may_come}
+use Rattle.mq_equivalence.proofs.Seen.{after_seen, got-shape, is_got, no-got, seen-after}
+use Rattle.mq_equivalence.proofs.Structure.{alive-below, fewer-needed, needed-in, new-number, old-number, structure-stays}
 use Rattle.mq_equivalence.proofs.Replies.{reply-equivalent}
 use Rattle.mq_equivalence.proofs.Notified.{after_notices, notices-step, notified_as, viewed}
 use Rattle.mq_equivalence.proofs.Registrations.{after_registered, registered-step}
@@ -71,7 +71,7 @@ registered-new (r ∷ past) legal q le =
     by (Some n) = refl
 
 contents-new : (past : Past) → Legal past → contents past (length past) ≡ []
-contents-new past legal = ap (λ (ks : List ℕ). map (at sent past) ks) (present-new past legal (length past) (omega arith))
+contents-new past legal = ap (λ (ks : List ℕ). lined prio_of (map (at sent past) ks)) (present-new past legal (length past) (omega arith))
 
 senders-new : (past : Past) → Legal past → senders past (length past) ≡ []
 senders-new past legal = ap (λ (ks : List ℕ). map (at sender past) (filter (λ m. not (is_in (ended_sends past) m)) ks)) (blocked_sends-new past legal (length past) (omega arith))
@@ -165,7 +165,7 @@ room-step past p call reply payload k = split (p == k)
 
 -- the step -----------------------------------------------------------------------------------------------------------------
 
-module _ (to : ℕ → ℕ) (x y : Past) (equivalent : EquivalentUnder to x y) (p : ℕ) (call : Call) (given : List ℕ) (next_x : IsLegalNext x (record_of x p call given)) (next_y : IsLegalNext y (record_of y p call given)) where
+module _ {received : Bool} (to : ℕ → ℕ) (x y : Past) (equivalent : AgreeUnder received to x y) (p : ℕ) (call : Call) (given : List ℕ) (next_x : IsLegalNext x (record_of x p call given)) (next_y : IsLegalNext y (record_of y p call given)) where
   abbrev a : Reply
   a = reply_to x p call given
 
@@ -223,7 +223,7 @@ module _ (to : ℕ → ℕ) (x y : Past) (equivalent : EquivalentUnder to x y) (
       by (Some d) = ap (option_map (λ (h : Description). h.queue)) (equivalent.structure.descriptors p d) ∙ queue-of (held x p d)
 
   to-once : (i j : ℕ) → is_in (alive x) i ≡ true → is_in (alive x) j ≡ true → to i ≡ to j → i ≡ j
-  to-once = one-number to (alive x) (subst Falls equivalent.structure.queues (falls-alive y))
+  to-once = equivalent.structure.queues.once
 
   on-old : (q : ℕ) → is_in (alive x) q ≡ true → is_place (to q) (called_queue y p call) ≡ is_place q (called_queue x p call)
   on-old q inside = ap (is_place (to q)) called-both ∙ by (called_queue x p call) refl
@@ -237,8 +237,8 @@ module _ (to : ℕ → ℕ) (x y : Past) (equivalent : EquivalentUnder to x y) (
   -- all that the entry finds at a queue
   pub record SameAt (q k : ℕ) : Type 0 where
     pub on : is_place k (called_queue y p call) ≡ is_place q (called_queue x p call)
-    pub messages : contents y k ≡ contents x q
-    pub sending : senders y k ≡ senders x q
+    pub messages : seen received (contents y k) ≡ seen received (contents x q)
+    pub sending : seen_senders received (senders y k) ≡ seen_senders received (senders x q)
     pub receiving : receivers y k ≡ receivers x q
     pub registration : registered_as y k ≡ registered_as x q
 
@@ -248,8 +248,8 @@ module _ (to : ℕ → ℕ) (x y : Past) (equivalent : EquivalentUnder to x y) (
   same-new : SameAt (length x) (length y)
   same-new = record {
     on = off-new y equivalent.legal.1 ry.entry (length y) (omega arith) ∙ sym (off-new x equivalent.legal.0 rx.entry (length x) (omega arith));
-    messages = contents-new y equivalent.legal.1 ∙ sym (contents-new x equivalent.legal.0);
-    sending = senders-new y equivalent.legal.1 ∙ sym (senders-new x equivalent.legal.0);
+    messages = ap (seen received) (contents-new y equivalent.legal.1 ∙ sym (contents-new x equivalent.legal.0));
+    sending = ap (seen_senders received) (senders-new y equivalent.legal.1 ∙ sym (senders-new x equivalent.legal.0));
     receiving = receivers-new y equivalent.legal.1 ∙ sym (receivers-new x equivalent.legal.0);
     registration = ap (option_map viewed) (registered-new y equivalent.legal.1 (length y) (omega arith) ∙ sym (registered-new x equivalent.legal.0 (length x) (omega arith)));
   }
@@ -270,14 +270,17 @@ module _ (to : ℕ → ℕ) (x y : Past) (equivalent : EquivalentUnder to x y) (
   pub says_y : Says y p call b
   says_y = legal_says y ry next_y
 
-  pub contents-go : (q : ℕ) → is_in (alive (rx ∷ x)) q ≡ true → contents (ry ∷ y) (onto q) ≡ contents (rx ∷ x) q
-  contents-go q h =
+  pub contents-go : may_come received call ≡ true → (q : ℕ) → is_in (alive (rx ∷ x)) q ≡ true → seen received (contents (ry ∷ y) (onto q)) ≡ seen received (contents (rx ∷ x) q)
+  contents-go may q h =
       let s = same-at q h in
-      contents-step y equivalent.legal.1 p call b py (onto q) says_y
-      ∙ sym (contents-shape call py (is_place (onto q) (called_queue y p call)) b (senders y (onto q)) (contents y (onto q)))
-      ∙ (λ i. after_contents call (payloads i) (s.on i) (shapes i) (s.sending i) (s.messages i))
-      ∙ contents-shape call px (is_place q (called_queue x p call)) a (senders x q) (contents x q)
-      ∙ sym (contents-step x equivalent.legal.0 p call a px q says_x)
+      let no : (r : Reply) → (received || not (is_got r)) ≡ true → (received || not (is_got (shape r))) ≡ true = λ r e. ap (λ (g : Bool). received || not g) (got-shape r) ∙ e in
+      ap (seen received) (contents-step y equivalent.legal.1 p call b py (onto q) says_y
+      ∙ sym (contents-shape call py (is_place (onto q) (called_queue y p call)) b (senders y (onto q)) (contents y (onto q))))
+      ∙ seen-after received call py (is_place (onto q) (called_queue y p call)) (shape b) (senders y (onto q)) (contents y (onto q)) (no b (no-got received y p call b may says_y))
+      ∙ (λ i. after_seen received call (payloads i) (s.on i) (shapes i) (s.sending i) (s.messages i))
+      ∙ sym (seen-after received call px (is_place q (called_queue x p call)) (shape a) (senders x q) (contents x q) (no a (no-got received x p call a may says_x)))
+      ∙ ap (seen received) (contents-shape call px (is_place q (called_queue x p call)) a (senders x q) (contents x q)
+      ∙ sym (contents-step x equivalent.legal.0 p call a px q says_x))
 
   pub registrations-go : (q : ℕ) → is_in (alive (rx ∷ x)) q ≡ true → registered_as (ry ∷ y) (onto q) ≡ registered_as (rx ∷ x) q
   registrations-go q h =

@@ -1,5 +1,5 @@
 -- No queue has a number that no place has.
-use Rattle.std.proofs.Common.{◌≡◌, ℕ, ◌≤◌, true, false, length, None, refl, arith}
+use Rattle.std.proofs.Common.{◌≡◌, ℕ, ◌≤◌, length, None, refl, arith}
 use Rattle.mq_model.specs.Record.{Past}
 use Rattle.mq_model.specs.Names.{name_of}
 use Rattle.mq_model.specs.Descriptors.{is_named}

@@ -1,5 +1,5 @@
 -- Equivalence is an equivalence relation.
-use Rattle.std.proofs.Common.{◌≡◌, ℕ, ◌==◌, true, false, List, [], ◌∷◌, map, Option, Some, None, if◌then◌else◌, refl, sym, ◌∙◌, ap, subst, eqb-true, eq-eqb, ne_eqb}
+use Rattle.std.proofs.Common.{◌≡◌, ℕ, ◌==◌, true, false, List, [], ◌∷◌, Option, Some, None, if◌then◌else◌, refl, sym, ◌∙◌, ap, subst, eqb-true, eq-eqb, ne_eqb}
 use Rattle.std.specs.Option.{option_map}
 use Rattle.std.proofs.lemmas.Bool.{eqb-false}
 use Rattle.mq_model.specs.Record.{Past}
@@ -11,20 +11,12 @@ use Rattle.mq_model.specs.declared.entries.Description.{Description}
 use Rattle.mq_model.proofs.Places.{split}
 use Rattle.mq_model.proofs.HeldQueues.{held-alive}
 use Rattle.mq_equivalence.specs.Views.{contents, receivers, registered_as, senders}
-use Rattle.mq_equivalence.proofs.Falling.{Falls}
 use Rattle.mq_equivalence.specs.Structure.{renumbered}
 use Rattle.mq_equivalence.specs.Equivalence.{Equivalent}
-use Rattle.mq_equivalence.proofs.Structure.{falls-alive, in-map, named-by, needed-in, one-number}
+use Rattle.mq_equivalence.proofs.Correspondence.{corresponds-on, corresponds-self}
+use Rattle.mq_equivalence.proofs.Structure.{named-by, needed-in}
 
 -- renumberings -------------------------------------------------------------------------------------------------------------
-
-map-self : (ks : List ℕ) → map (λ q. q) ks ≡ ks
-map-self [] = refl
-map-self (k ∷ ks) = ap (λ (js : List ℕ). k ∷ js) (map-self ks)
-
-map-twice : (f g : ℕ → ℕ) (ks : List ℕ) → map g (map f ks) ≡ map (λ q. g (f q)) ks
-map-twice f g [] = refl
-map-twice f g (k ∷ ks) = ap (λ (js : List ℕ). g (f k) ∷ js) (map-twice f g ks)
 
 some-self : (o : Option ℕ) → option_map (λ q. q) o ≡ o
 some-self None = refl
@@ -59,15 +51,6 @@ origin-is to (j ∷ qs) once q h = split (to j == to q)
     older : (i : ℕ) → is_in qs i ≡ true → is_in (j ∷ qs) i ≡ true
     older i hi = split (j == i) (λ t. rw t refl) (λ f. rw (f, hi) refl)
 
--- each number is that of a queue
-pub numbered : (to : ℕ → ℕ) (qs : List ℕ) (k : ℕ) → is_in (map to qs) k ≡ true → (q : ℕ) × (is_in qs q ≡ true) × (to q ≡ k)
-numbered to [] k h = absurd (cc)
-numbered to (j ∷ qs) k h = split (to j == k)
-    (λ t. (j, rw (eq-eqb j j refl) refl, eqb-true _ _ t))
-    (λ f. let rest : is_in (map to qs) k ≡ true = rw f at h in
-    let found = numbered to qs k rest in
-    (found.0, split (j == found.0) (λ t. rw t refl) (λ n. rw (n, found.1) refl), found.2))
-
 -- the relation -------------------------------------------------------------------------------------------------------------
 
 pub equivalent-self : (x : Past) → Legal x → Equivalent x x
@@ -78,7 +61,7 @@ equivalent-self x legal = record {
     structure = record {
       names = λ name. sym (some-self (bound_queue x name));
       descriptors = λ p d. sym (held-self (held x p d));
-      queues = sym (map-self (alive x));
+      queues = corresponds-self (alive x);
       limits = λ q inside. refl;
     };
     messages = λ q inside. refl;
@@ -101,7 +84,7 @@ equivalent-both x y z f g = record {
     structure = record {
       names = λ name. g.equivalent.structure.names name ∙ ap (option_map g.to) (f.equivalent.structure.names name) ∙ some-twice f.to g.to (bound_queue x name);
       descriptors = λ p d. g.equivalent.structure.descriptors p d ∙ ap (option_map (renumbered g.to)) (f.equivalent.structure.descriptors p d) ∙ held-twice f.to g.to (held x p d);
-      queues = g.equivalent.structure.queues ∙ ap (map g.to) f.equivalent.structure.queues ∙ map-twice f.to g.to (alive x);
+      queues = corresponds-on f.to g.to (alive x) (alive y) (alive z) f.equivalent.structure.queues g.equivalent.structure.queues;
       limits = λ q inside. g.equivalent.structure.limits (f.to q) (there q inside) ∙ f.equivalent.structure.limits q inside;
     };
     messages = λ q inside. g.equivalent.messages (f.to q) (there q inside) ∙ f.equivalent.messages q inside;
@@ -117,7 +100,7 @@ equivalent-both x y z f g = record {
 }
   where
     there : (q : ℕ) → is_in (alive x) q ≡ true → is_in (alive y) (f.to q) ≡ true
-    there q inside = subst (λ (qs : List ℕ). is_in qs (f.to q) ≡ true) (sym f.equivalent.structure.queues) (in-map f.to (alive x) q inside)
+    there = f.equivalent.structure.queues.each
 
 module _ (x y : Past) (f : Equivalent x y) where
   back : ℕ → ℕ
@@ -125,12 +108,12 @@ module _ (x y : Past) (f : Equivalent x y) where
 
   back-is : (q : ℕ) → is_in (alive x) q ≡ true → back (f.to q) ≡ q
   unfolding back
-  back-is q inside = origin-is f.to (alive x) (one-number f.to (alive x) (subst Falls f.equivalent.structure.queues (falls-alive y))) q inside
+  back-is q inside = origin-is f.to (alive x) f.equivalent.structure.queues.once q inside
 
   -- queue k of y is queue `back k` of x, and has its number there
   from : (k : ℕ) → is_in (alive y) k ≡ true → (is_in (alive x) (back k) ≡ true) × (f.to (back k) ≡ k)
   from k inside =
-      let n = numbered f.to (alive x) k (subst (λ (qs : List ℕ). is_in qs k ≡ true) f.equivalent.structure.queues inside) in
+      let n = f.equivalent.structure.queues.every k inside in
       let is : back k ≡ n.0 = ap back (sym n.2) ∙ back-is n.0 n.1 in
       (subst (λ (q : ℕ). is_in (alive x) q ≡ true) (sym is) n.1, ap f.to is ∙ n.2)
 
@@ -151,13 +134,6 @@ module _ (x y : Past) (f : Equivalent x y) where
       by None is = refl
       by (Some h) is = λ i. Some (record { queue = sym (back-is h.queue (held-alive x f.equivalent.legal.0 p d h is)) i; access = h.access; nonblock = h.nonblock })
 
-  all-back : (qs : List ℕ) → ((q : ℕ) → is_in qs q ≡ true → is_in (alive x) q ≡ true) → qs ≡ map back (map f.to qs)
-  all-back [] some = refl
-  all-back (q ∷ qs) some =
-      let first : back (f.to q) ≡ q = back-is q (some q (rw (eq-eqb q q refl) refl)) in
-      let rest : qs ≡ map back (map f.to qs) = all-back qs (λ j h. some j (split (q == j) (λ t. rw t refl) (λ n. rw (n, h) refl))) in
-      λ i. sym first i ∷ rest i
-
   pub equivalent-back : Equivalent y x
   equivalent-back = record {
     to = back;
@@ -166,7 +142,11 @@ module _ (x y : Past) (f : Equivalent x y) where
       structure = record {
         names = name-back;
         descriptors = held-back;
-        queues = all-back (alive x) (λ q h. h) ∙ sym (ap (map back) f.equivalent.structure.queues);
+        queues = record {
+          each = λ k h. (from k h).0;
+          every = λ q h. (f.to q, f.equivalent.structure.queues.each q h, back-is q h);
+          once = λ j k hj hk e. sym (from j hj).1 ∙ ap f.to e ∙ (from k hk).1;
+        };
         limits = back-fact (attributes x) (attributes y) f.equivalent.structure.limits;
       };
       messages = back-fact (contents x) (contents y) f.equivalent.messages;

@@ -29,12 +29,15 @@ use Rattle.mq_model.specs.declared.entries.Reply.TheVariants.{Opened, Queued, Ha
 use Rattle.mq_model.proofs.Places.{split}
 use Rattle.mq_model.proofs.Best.{best-none}
 use Rattle.mq_model.proofs.HeldQueues.{held-alive}
-use Rattle.mq_equivalence.specs.Views.{Message, Registered, Sender, at, author, registered_as, sender, sent, told}
+use Rattle.mq_equivalence.specs.Views.{Message, Registered, Sender, at, author, contents, prio_of, registered_as, sender, senders, sent, told}
 use Rattle.mq_equivalence.specs.Outline.{unnumbered, outline}
-use Rattle.mq_equivalence.proofs.Falling.{any, any-least}
+use Rattle.mq_equivalence.proofs.Falling.{any, any-least, any-lined, length-lined}
 use Rattle.mq_equivalence.proofs.Effects.{is-best}
 use Rattle.mq_equivalence.specs.Structure.{renumbered}
-use Rattle.mq_equivalence.specs.Equivalence.{EquivalentUnder}
+use Rattle.mq_equivalence.proofs.Correspondence.{as-many}
+use Rattle.mq_equivalence.proofs.Structure.{falls-alive}
+use Rattle.mq_equivalence.specs.Equivalence.{AgreeUnder}
+use Rattle.mq_equivalence.proofs.Seen.{any-seen, any-seen_senders, length-seen}
 
 pub shape-if : (b : Bool) (u v u' v' : Reply) → outline u ≡ outline u' → outline v ≡ outline v' → outline (if b then u else v) ≡ outline (if b then u' else v')
 shape-if true u v u' v' d e = d
@@ -138,6 +141,12 @@ none-some : {X : Type 0} (o : Option X) → is_none o ≡ not (is_some o)
 none-some None = refl
 none-some (Some x) = refl
 
+pub count-contents : (past : Past) (q : ℕ) → length (present past q) ≡ length (contents past q)
+count-contents past q = sym (length-map (present past q) (at sent past)) ∙ sym (length-lined prio_of (map (at sent past) (present past q)))
+
+pub best-contents : (past : Past) (q : ℕ) → is_some (best past q) ≡ any (contents past q)
+best-contents past q = best-any past q ∙ sym (any-map (at sent past) (present past q)) ∙ sym (any-lined prio_of (map (at sent past) (present past q)))
+
 -- a queue of two equivalent journals, under its two numbers
 pub record SameQueue (x y : Past) (q k : ℕ) : Type 0 where
   pub limits : attributes y k ≡ attributes x q
@@ -153,15 +162,19 @@ registered-some x y q k e = sym (some-map (λ (n : Registration). record { proce
 pub placed-some : (x y : Past) (q k : ℕ) → registered_as y k ≡ registered_as x q → is_some (registered_place y k) ≡ is_some (registered_place x q)
 placed-some x y q k e = some-map (λ (n : Registration). n.place) (registered y k) ∙ registered-some x y q k e ∙ sym (some-map (λ (n : Registration). n.place) (registered x q))
 
-module _ (to : ℕ → ℕ) (x y : Past) (equivalent : EquivalentUnder to x y) where
+module _ {received : Bool} (to : ℕ → ℕ) (x y : Past) (equivalent : AgreeUnder received to x y) where
   same-queue : (q : ℕ) → is_in (alive x) q ≡ true → SameQueue x y q (to q)
   same-queue q inside = record {
     limits = equivalent.structure.limits q inside;
-    count = sym (length-map (present y (to q)) (at sent y)) ∙ ap (λ (cs : List (Option Message)). length cs) (equivalent.messages q inside) ∙ length-map (present x q) (at sent x);
+    count =
+        count-contents y (to q) ∙ sym (length-seen received (contents y (to q))) ∙ ap (λ (cs : List (Option Message)). length cs) (equivalent.messages q inside)
+        ∙ length-seen received (contents x q) ∙ sym (count-contents x q);
     best =
-        best-any y (to q) ∙ sym (any-map (at sent y) (present y (to q))) ∙ ap (λ (cs : List (Option Message)). any cs) (equivalent.messages q inside) ∙ any-map (at sent x) (present x q)
-        ∙ sym (best-any x q);
-    sending = any-least (at sender y) (waiting_sends y (to q)) ∙ ap (λ (ss : List (Option Sender)). any ss) (equivalent.sending q inside) ∙ sym (any-least (at sender x) (waiting_sends x q));
+        best-contents y (to q) ∙ sym (any-seen received (contents y (to q))) ∙ ap (λ (cs : List (Option Message)). any cs) (equivalent.messages q inside)
+        ∙ any-seen received (contents x q) ∙ sym (best-contents x q);
+    sending =
+        any-least (at sender y) (waiting_sends y (to q)) ∙ sym (any-seen_senders received (senders y (to q))) ∙ ap (λ (ss : List (Option Sender)). any ss) (equivalent.sending q inside)
+        ∙ any-seen_senders received (senders x q) ∙ sym (any-least (at sender x) (waiting_sends x q));
     receiving = any-least (at author y) (waiting_receives y (to q)) ∙ ap (λ (rs : List (Option ℕ)). any rs) (equivalent.receiving q inside) ∙ sym (any-least (at author x) (waiting_receives x q));
     registration = equivalent.registrations q inside;
   }
@@ -216,7 +229,7 @@ module _ (to : ℕ → ℕ) (x y : Past) (equivalent : EquivalentUnder to x y) w
   same-free p = λ i. find (λ d. none-held p d i) descriptor_numbers
 
   same-count : length (alive y) ≡ length (alive x)
-  same-count = ap (λ (qs : List ℕ). length qs) equivalent.structure.queues ∙ length-map (alive x) to
+  same-count = as-many to (alive x) (alive y) (falls-alive x) (falls-alive y) equivalent.structure.queues
 
   of-open : (p : ℕ) (flags : OpenFlags) (attr : Option Attr) (name : List ℕ) → reply_to_open y p flags attr name ≡ reply_to_open x p flags attr name
   of-open p flags attr name = λ i. open_reply flags attr (record { bound = some-bound name i; free = same-free p i; queues = same-count i })

@@ -1,6 +1,6 @@
 -- The buffer of the call in which a process waits, by its latest entry.
-use Rattle.std.proofs.Common.{◌≡◌, ℕ, ◌<◌, ◌==◌, true, false, [], ◌∷◌, length, Option, Some, None, if◌then◌else◌, refl, ap, ◌∙◌, eq-eqb, ne_eqb, arith}
-use Rattle.mq_model.specs.Record.{Record, Past, record_at}
+use Rattle.std.proofs.Common.{◌≡◌, ℕ, ◌<◌, ◌==◌, true, false, [], ◌∷◌, length, Option, Some, None, if◌then◌else◌, refl, eq-eqb, ne_eqb, arith}
+use Rattle.mq_model.specs.Record.{Record, Past}
 use Rattle.mq_model.specs.Waits.{is_wait, open_wait}
 use Rattle.mq_model.proofs.Places.{split}
 use Rattle.mq_state.specs.Buffers.{room_of, waiting_room}

@@ -1,5 +1,5 @@
 -- Runs of calls after equivalent journals.
-use Rattle.std.proofs.Common.{◌≡◌, ℕ, ◌==◌, Bool, List, [], ◌∷◌, length, if◌then◌else◌, refl, sym, ◌∙◌, ap, subst}
+use Rattle.std.proofs.Common.{◌≡◌, ℕ, ◌==◌, Bool, true, List, [], ◌∷◌, length, if◌then◌else◌, refl, sym, ◌∙◌, ap, subst}
 use Rattle.std.specs.Prelude.{IsTrue}
 use Rattle.mq_model.specs.Record.{Past}
 use Rattle.mq_model.specs.Legality.{IsLegalNext, Legal, is_payload, is_refused, payload_of, reply_to}
@@ -12,7 +12,7 @@ use Rattle.mq_equivalence.proofs.Calls.{collected-alike}
 use Rattle.mq_equivalence.proofs.Alike.{payload-alike, refused-alike}
 use Rattle.mq_equivalence.specs.Structure.{extended}
 use Rattle.mq_equivalence.specs.Outline.{outline}
-use Rattle.mq_equivalence.specs.Equivalence.{Equivalent, EquivalentUnder, StepsEquivalent}
+use Rattle.mq_equivalence.specs.Equivalence.{AgreeUnder, Equivalent, EquivalentUnder, StepsAgree, StepsEquivalent, may_come}
 use Rattle.mq_equivalence.specs.Runs.{Request, after_calls}
 use Rattle.mq_equivalence.proofs.Replies.{reply-equivalent, turn-equivalent}
 use Rattle.mq_equivalence.proofs.Going.{shape-outline}
@@ -34,7 +34,7 @@ payload-by Collect a b payload e = refl
 payload-by (Withdraw now) a b payload e = refl
 
 -- an entry that may follow the one journal may follow the other
-pub next-equivalent : (to : ℕ → ℕ) (x y : Past) → EquivalentUnder to x y → (p : ℕ) (call : Call) (given : List ℕ) → IsLegalNext x (record_of x p call given) → IsLegalNext y (record_of y p call given)
+pub next-equivalent : {received : Bool} (to : ℕ → ℕ) (x y : Past) → AgreeUnder received to x y → (p : ℕ) (call : Call) (given : List ℕ) → IsLegalNext x (record_of x p call given) → IsLegalNext y (record_of y p call given)
 next-equivalent to x y equivalent p call given next =
     let a = reply_to x p call given in
     let b = reply_to y p call given in
@@ -63,9 +63,9 @@ next-equivalent to x y equivalent p call given next =
     same-reply Collect given = refl
     same-reply (Withdraw now) given = refl
 
--- one call after equivalent journals
-pub steps-equivalent : (to : ℕ → ℕ) (x y : Past) → EquivalentUnder to x y → (p : ℕ) (call : Call) (given : List ℕ) → StepsEquivalent to x y p call given
-steps-equivalent to x y equivalent p call given =
+-- one call after journals that agree
+pub steps-agree : {received : Bool} (to : ℕ → ℕ) (x y : Past) → AgreeUnder received to x y → (p : ℕ) (call : Call) (given : List ℕ) → may_come received call ≡ true → StepsAgree received to x y p call given
+steps-agree to x y equivalent p call given may =
     let a = reply_to x p call given in
     let b = reply_to y p call given in
     let same : outline b ≡ outline a = reply-equivalent to x y equivalent p call given in
@@ -73,15 +73,18 @@ steps-equivalent to x y equivalent p call given =
     record {
       turn = turn-equivalent to x y equivalent p call;
       reply = same;
-      message = message-equivalent to x y equivalent p call a b _ _ shaped (reply_says x p call given) (reply_says y p call given);
+      message = message-equivalent to x y equivalent p call may a b _ _ shaped (reply_says x p call given) (reply_says y p call given);
       collected = collected-alike x y p call a b _ _ shaped (λ _. equivalent.answered p) (turn-equivalent to x y equivalent p call) (reply_says x p call given) (reply_says y p call given);
       legal = next-equivalent to x y equivalent p call given;
-      next = λ next_x. goes-equivalent to x y equivalent p call given next_x (next-equivalent to x y equivalent p call given next_x);
+      next = λ next_x. goes-equivalent to x y equivalent p call given next_x (next-equivalent to x y equivalent p call given next_x) may;
     }
+
+pub steps-equivalent : (to : ℕ → ℕ) (x y : Past) → EquivalentUnder to x y → (p : ℕ) (call : Call) (given : List ℕ) → StepsEquivalent to x y p call given
+steps-equivalent to x y equivalent p call given = steps-agree to x y equivalent p call given refl
 
 pub runs-equivalent : (x y : Past) → Equivalent x y → (calls : List Request) → Legal (after_calls x calls) → Equivalent (after_calls x calls) (after_calls y calls)
 runs-equivalent x y go [] legal = go
 runs-equivalent x y go (c ∷ calls) legal =
     let before = runs-equivalent x y go calls legal.0 in
     let next = next-equivalent before.to (after_calls x calls) (after_calls y calls) before.equivalent c.process c.call c.given legal.1 in
-    record { to = extended before.to (length (after_calls x calls)) (length (after_calls y calls)); equivalent = goes-equivalent before.to (after_calls x calls) (after_calls y calls) before.equivalent c.process c.call c.given legal.1 next }
+    record { to = extended before.to (length (after_calls x calls)) (length (after_calls y calls)); equivalent = goes-equivalent before.to (after_calls x calls) (after_calls y calls) before.equivalent c.process c.call c.given legal.1 next refl }

@@ -1,5 +1,5 @@
 -- Journals with one key are equivalent.
-use Rattle.std.proofs.Common.{◌≡◌, ℕ, zero, suc, ◌<◌, ◌≤◌, ◌==◌, Bool, true, false, List, [], ◌∷◌, ◌++◌, length, map, Option, Some, None, is_some, if◌then◌else◌, refl, sym, ◌∙◌, ap, subst, arith, append_assoc, eqb-true, eq-eqb, ne_eqb, leb-true, leb-false}
+use Rattle.std.proofs.Common.{◌≡◌, ℕ, suc, ◌≤◌, ◌==◌, Bool, true, false, ◌||◌, List, [], ◌∷◌, ◌++◌, map, Option, Some, None, is_some, if◌then◌else◌, refl, sym, ◌∙◌, ap, subst, arith, append_assoc, eqb-true, eq-eqb, ne_eqb, leb-true, leb-false}
 use Rattle.std.specs.Prelude.{nat_le}
 use Rattle.std.specs.Option.{option_map}
 use Rattle.std.proofs.lemmas.Bool.{eqb-false}
@@ -8,24 +8,91 @@ use Rattle.mq_model.specs.Names.{attributes, bound_queue, name_of}
 use Rattle.mq_model.specs.Descriptors.{alive, held, is_named, numbers_from}
 use Rattle.mq_model.specs.Messages.{is_in}
 use Rattle.mq_model.specs.Notices.{notices}
-use Rattle.mq_model.specs.Waits.{answered_by, open_wait, wait_deadline}
+use Rattle.mq_model.specs.Waits.{open_wait, wait_deadline}
 use Rattle.mq_model.specs.Legality.{Legal}
-use Rattle.mq_model.specs.declared.entries.Access.{Access}
 use Rattle.mq_model.specs.declared.entries.Description.{Description}
 use Rattle.mq_model.proofs.Alive.{bound-name, bound-named, named-bound}
 use Rattle.mq_model.proofs.HeldQueues.{held-alive}
 use Rattle.mq_model.proofs.Places.{split}
 use Rattle.mq_state.specs.Buffers.{room_of, waiting_call, waiting_room}
-use Rattle.mq_equivalence.specs.Views.{answer, at, bound_name, contents, receivers, registered_as, senders, told}
-use Rattle.mq_equivalence.specs.Key.{bytes_code, deadline_code, description_code, index_of, key_of, key_within, limits_code, listed, message_code, number, number_bound, optional, process_bound, process_code, queue_code, registered_code, sender_code}
+use Rattle.mq_equivalence.specs.Views.{answer, at, bound_name, contents, joined, lined, receivers, registered_as, seen, seen_senders, senders, told}
+use Rattle.mq_equivalence.specs.Key.{bytes_code, deadline_code, description_code, index_of, key_if, key_within, limits_code, listed, message_code, name_rank, number, number_bound, optional, process_bound, process_code, queue_code, queues_by_name, registered_code, sender_code}
 use Rattle.mq_equivalence.proofs.Appends.{listed-map}
 use Rattle.mq_equivalence.proofs.Bounds.{IsIdle, held-above, idle-above}
-use Rattle.mq_equivalence.proofs.Codes.{Pairs, SameDescription, SameHeld, length-numbers, listed-numbered, decodable-bytes_code, decodable-deadline, told-held, decodable-limits, decodable-listed, decodable-message, decodable-number, decodable-optional, told-pairs, decodable-registered, decodable-sender}
+use Rattle.mq_equivalence.proofs.Codes.{Pairs, SameHeld, listed-numbered, decodable-bytes_code, decodable-deadline, told-held, decodable-limits, decodable-listed, decodable-message, decodable-number, decodable-optional, told-pairs, decodable-registered, decodable-sender}
 use Rattle.mq_equivalence.proofs.Falling.{Falls}
-use Rattle.mq_equivalence.specs.Equivalence.{Equivalent}
-use Rattle.mq_equivalence.specs.Structure.{renumbered}
-use Rattle.mq_equivalence.proofs.Relation.{numbered}
-use Rattle.mq_equivalence.proofs.Structure.{falls-alive, map-same, named-by, needed-in}
+use Rattle.mq_equivalence.specs.Equivalence.{Agree}
+use Rattle.mq_equivalence.specs.Structure.{Corresponds, renumbered}
+use Rattle.mq_equivalence.proofs.Structure.{falls-alive, in-map, map-same, named-by, needed-in}
+
+-- lists without duplicates --------------------------------------------------------------------------
+
+abbrev Differ : List ℕ → Type 0
+Differ [] = Unit {0}
+Differ (k ∷ ks) = (is_in ks k ≡ false) × Differ ks
+
+falls-differ : (ks : List ℕ) → Falls ks → Differ ks
+falls-differ [] falls = tt
+falls-differ (k ∷ ks) falls = (
+  split (is_in ks k) (λ y. let lt = falls.0 k y in let bad : ⊥ = omega (arith, lt) in absurd bad) (λ n. n),
+  falls-differ ks falls.1,
+)
+
+in-joined : (rank : ℕ → ℕ) (m : ℕ) (line : List ℕ) (k : ℕ) → is_in (joined rank m line) k ≡ is_in (m ∷ line) k
+in-joined rank m [] k = refl
+in-joined rank m (j ∷ line) k = split (nat_le (rank m) (rank j))
+    (λ t. rw t (ap (λ (b : Bool). j == k || b) (in-joined rank m line k) ∙ swapped (j == k) (m == k) (is_in line k)))
+    (λ f. rw f refl)
+  where
+    swapped : (a b c : Bool) → (a || (b || c)) ≡ (b || (a || c))
+    swapped true true c = refl
+    swapped true false c = refl
+    swapped false true c = refl
+    swapped false false c = refl
+
+in-lined : (rank : ℕ → ℕ) (ks : List ℕ) (k : ℕ) → is_in (lined rank ks) k ≡ is_in ks k
+in-lined rank [] k = refl
+in-lined rank (m ∷ ks) k = in-joined rank m (lined rank ks) k ∙ ap (λ (b : Bool). m == k || b) (in-lined rank ks k)
+
+joined-differ : (rank : ℕ → ℕ) (m : ℕ) (line : List ℕ) → is_in line m ≡ false → Differ line → Differ (joined rank m line)
+joined-differ rank m [] out differ = (refl, tt)
+joined-differ rank m (j ∷ line) out differ =
+    split (j == m)
+    (λ e. let bad : true ≡ false = rw e at out in absurd (cc))
+    (λ ne. let later : is_in line m ≡ false = rw ne at out in
+    let other : (m == j) ≡ false = ne_eqb m j (λ is. eqb-false j m ne (sym is)) in
+    split (nat_le (rank m) (rank j))
+    (λ t. let new : is_in (m ∷ line) j ≡ false = rw (other, differ.0) refl in
+    rw t (in-joined rank m line j ∙ new, joined-differ rank m line later differ.1))
+    (λ f. rw f (out, differ)))
+
+lined-differ : (rank : ℕ → ℕ) (ks : List ℕ) → Differ ks → Differ (lined rank ks)
+lined-differ rank [] differ = tt
+lined-differ rank (m ∷ ks) differ = joined-differ rank m (lined rank ks) (in-lined rank ks m ∙ differ.0) (lined-differ rank ks differ.1)
+
+-- numbers that differ are given once
+one-number : (f : ℕ → ℕ) (ks : List ℕ) → Differ (map f ks) → (i j : ℕ) → is_in ks i ≡ true → is_in ks j ≡ true → f i ≡ f j → i ≡ j
+one-number f [] differ i j hi hj e = absurd (cc)
+one-number f (k ∷ ks) differ i j hi hj e =
+    let not-again : (l : ℕ) → is_in ks l ≡ true → f k ≡ f l → ⊥ =
+    λ l h is. let there : is_in (map f ks) (f k) ≡ true = subst (λ (n : ℕ). is_in (map f ks) n ≡ true) (sym is) (in-map f ks l h) in
+    let bad : false ≡ true = sym differ.0 ∙ there in cc in
+    split (k == i)
+    (λ a. let ki : k ≡ i = eqb-true _ _ a in split (k == j)
+    (λ b. sym ki ∙ eqb-true _ _ b)
+    (λ b. let rest : is_in ks j ≡ true = rw b at hj in absurd (not-again j rest (ap f ki ∙ e))))
+    (λ a. let resti : is_in ks i ≡ true = rw a at hi in split (k == j)
+    (λ b. let kj : k ≡ j = eqb-true _ _ b in absurd (not-again i resti (ap f kj ∙ sym e)))
+    (λ b. let restj : is_in ks j ≡ true = rw b at hj in one-number f ks differ.1 i j resti restj e))
+
+-- each number is that of a queue
+numbered : (to : ℕ → ℕ) (qs : List ℕ) (k : ℕ) → is_in (map to qs) k ≡ true → (q : ℕ) × (is_in qs q ≡ true) × (to q ≡ k)
+numbered to [] k h = absurd (cc)
+numbered to (j ∷ qs) k h = split (to j == k)
+    (λ t. (j, rw (eq-eqb j j refl) refl, eqb-true _ _ t))
+    (λ f. let rest : is_in (map to qs) k ≡ true = rw f at h in
+    let found = numbered to qs k rest in
+    (found.0, split (j == found.0) (λ t. rw t refl) (λ n. rw (n, found.1) refl), found.2))
 
 -- the queue of y at the index of queue q of x
 -- ------------------------------------------------------
@@ -43,17 +110,17 @@ pairs-at P (x ∷ xs) (y ∷ ys) q pairs h = split (x == q)
     (λ t. rw t (subst (λ (k : ℕ). P k y) (eqb-true x q t) pairs.0))
     (λ f. let rest : is_in xs q ≡ true = rw f at h in rw f (pairs-at P xs ys q pairs.1 rest))
 
-all-found : (P : ℕ → ℕ → Type 0) (xs ys : List ℕ) → Falls xs → Pairs P xs ys → map (lookup xs ys) xs ≡ ys
+all-found : (P : ℕ → ℕ → Type 0) (xs ys : List ℕ) → Differ xs → Pairs P xs ys → map (lookup xs ys) xs ≡ ys
 unfolding lookup
-all-found P [] [] falls pairs = refl
-all-found P [] (y ∷ ys) falls pairs = absurd pairs
-all-found P (x ∷ xs) [] falls pairs = absurd pairs
-all-found P (x ∷ xs) (y ∷ ys) falls pairs =
+all-found P [] [] differ pairs = refl
+all-found P [] (y ∷ ys) differ pairs = absurd pairs
+all-found P (x ∷ xs) [] differ pairs = absurd pairs
+all-found P (x ∷ xs) (y ∷ ys) differ pairs =
     let here : lookup (x ∷ xs) (y ∷ ys) x ≡ y = rw (eq-eqb x x refl) refl in
     let later : (k : ℕ) → is_in xs k ≡ true → lookup (x ∷ xs) (y ∷ ys) k ≡ lookup xs ys k =
-    λ k h. let lt = falls.0 k h in let other : (x == k) ≡ false = ne_eqb x k (λ e. omega arith) in rw other refl
+    λ k h. let other : (x == k) ≡ false = ne_eqb x k (λ e. let there : is_in xs x ≡ true = subst (λ (n : ℕ). is_in xs n ≡ true) (sym e) h in let bad : false ≡ true = sym differ.0 ∙ there in cc) in rw other refl
     in
-    let rest : map (lookup (x ∷ xs) (y ∷ ys)) xs ≡ ys = map-same _ _ xs later ∙ all-found P xs ys falls.1 pairs.1 in
+    let rest : map (lookup (x ∷ xs) (y ∷ ys)) xs ≡ ys = map-same _ _ xs later ∙ all-found P xs ys differ.1 pairs.1 in
     λ i. here i ∷ rest i
 
 by-index : (P : ℕ → ℕ → Type 0) (xs ys : List ℕ) (q k : ℕ) → Pairs P xs ys → is_in xs q ≡ true → is_in ys k ≡ true → index_of xs q ≡ index_of ys k → lookup xs ys q ≡ k
@@ -73,26 +140,26 @@ by-index P (x ∷ xs) (y ∷ ys) q k pairs hq hk e = split (x == q)
 
 -- parts of the key ---------------------------------------------------------------------------------
 
-record SameQueue (x y : Past) (q k : ℕ) : Type 0 where
+record SameQueue (received : Bool) (x y : Past) (q k : ℕ) : Type 0 where
   name : bound_name x q ≡ bound_name y k
   limits : attributes x q ≡ attributes y k
-  messages : contents x q ≡ contents y k
-  sending : senders x q ≡ senders y k
+  messages : seen received (contents x q) ≡ seen received (contents y k)
+  sending : seen_senders received (senders x q) ≡ seen_senders received (senders y k)
   receiving : receivers x q ≡ receivers y k
   registered : registered_as x q ≡ registered_as y k
 
-told-queue : (x y : Past) (q k : ℕ) (u v : List ℕ) → queue_code x q ++ u ≡ queue_code y k ++ v → SameQueue x y q k × (u ≡ v)
-told-queue x y q k u v e =
+told-queue : (received : Bool) (x y : Past) (q k : ℕ) (u v : List ℕ) → queue_code received x q ++ u ≡ queue_code received y k ++ v → SameQueue received x y q k × (u ≡ v)
+told-queue received x y q k u v e =
     let n = optional bytes_code (bound_name x q) in
     let a = limits_code (attributes x q) in
-    let b = listed (optional message_code) (contents x q) in
-    let c = listed (optional sender_code) (senders x q) in
+    let b = listed (optional message_code) (seen received (contents x q)) in
+    let c = listed (optional sender_code) (seen_senders received (senders x q)) in
     let d = listed (optional number) (receivers x q) in
     let r = optional registered_code (registered_as x q) in
     let n2 = optional bytes_code (bound_name y k) in
     let a2 = limits_code (attributes y k) in
-    let b2 = listed (optional message_code) (contents y k) in
-    let c2 = listed (optional sender_code) (senders y k) in
+    let b2 = listed (optional message_code) (seen received (contents y k)) in
+    let c2 = listed (optional sender_code) (seen_senders received (senders y k)) in
     let d2 = listed (optional number) (receivers y k) in
     let r2 = optional registered_code (registered_as y k) in
     let flat : n ++ (a ++ (b ++ (c ++ (d ++ (r ++ u))))) ≡ n2 ++ (a2 ++ (b2 ++ (c2 ++ (d2 ++ (r2 ++ v))))) =
@@ -100,8 +167,8 @@ told-queue x y q k u v e =
     in
     let name = decodable-optional bytes_code decodable-bytes_code (bound_name x q) (bound_name y k) _ _ flat in
     let limits = decodable-limits (attributes x q) (attributes y k) _ _ name.1 in
-    let messages = decodable-listed (optional message_code) (decodable-optional message_code decodable-message) (contents x q) (contents y k) _ _ limits.1 in
-    let sending = decodable-listed (optional sender_code) (decodable-optional sender_code decodable-sender) (senders x q) (senders y k) _ _ messages.1 in
+    let messages = decodable-listed (optional message_code) (decodable-optional message_code decodable-message) (seen received (contents x q)) (seen received (contents y k)) _ _ limits.1 in
+    let sending = decodable-listed (optional sender_code) (decodable-optional sender_code decodable-sender) (seen_senders received (senders x q)) (seen_senders received (senders y k)) _ _ messages.1 in
     let receiving = decodable-listed (optional number) (decodable-optional number decodable-number) (receivers x q) (receivers y k) _ _ sending.1 in
     let registered = decodable-optional registered_code decodable-registered (registered_as x q) (registered_as y k) u v receiving.1 in (
       record {
@@ -123,7 +190,7 @@ record SameProcess (x y : Past) (p : ℕ) : Type 0 where
   deadline : wait_deadline x p ≡ wait_deadline y p
   answered : answer x p ≡ answer y p
   notices : notices x p ≡ notices y p
-  holds : (d : ℕ) → SameHeld (alive x) (alive y) (held x p d) (held y p d)
+  holds : (d : ℕ) → SameHeld (queues_by_name x) (queues_by_name y) (held x p d) (held y p d)
 
 -- what a process holds, number by number
 holdings : List ℕ → Past → ℕ → ℕ → List ℕ
@@ -138,17 +205,17 @@ none-held qs ks None None e f = tt
 none-held qs ks (Some g) p e f = absurd (cc)
 none-held qs ks None (Some h) e f = absurd (cc)
 
-holds-same : (x y : Past) (p w v : ℕ) (us vs : List ℕ) → number_bound x ≤ w → number_bound y ≤ v → holdings (alive x) x p w ++ us ≡ holdings (alive y) y p v ++ vs →
-    ((d : ℕ) → SameHeld (alive x) (alive y) (held x p d) (held y p d)) × (us ≡ vs)
+holds-same : (x y : Past) (p w v : ℕ) (us vs : List ℕ) → number_bound x ≤ w → number_bound y ≤ v → holdings (queues_by_name x) x p w ++ us ≡ holdings (queues_by_name y) y p v ++ vs →
+    ((d : ℕ) → SameHeld (queues_by_name x) (queues_by_name y) (held x p d) (held y p d)) × (us ≡ vs)
 holds-same x y p w v us vs wide_x wide_y e =
-    let f : ℕ → List ℕ = λ d. optional (description_code (alive x)) (held x p d) in
-    let g : ℕ → List ℕ = λ d. optional (description_code (alive y)) (held y p d) in
+    let f : ℕ → List ℕ = λ d. optional (description_code (queues_by_name x)) (held x p d) in
+    let g : ℕ → List ℕ = λ d. optional (description_code (queues_by_name y)) (held y p d) in
     let both : listed f (numbers_from 0 w) ++ us ≡ listed g (numbers_from 0 v) ++ vs =
-    ap (λ (ns : List ℕ). ns ++ us) (sym (by-number (alive x) x p w)) ∙ e ∙ ap (λ (ns : List ℕ). ns ++ vs) (by-number (alive y) y p v)
+    ap (λ (ns : List ℕ). ns ++ us) (sym (by-number (queues_by_name x) x p w)) ∙ e ∙ ap (λ (ns : List ℕ). ns ++ vs) (by-number (queues_by_name y) y p v)
     in
-    let told = listed-numbered f g (λ d. SameHeld (alive x) (alive y) (held x p d) (held y p d)) (λ d u v e. told-held (alive x) (alive y) (held x p d) (held y p d) u v e) w v us vs both in (
+    let told = listed-numbered f g (λ d. SameHeld (queues_by_name x) (queues_by_name y) (held x p d) (held y p d)) (λ d u v e. told-held (queues_by_name x) (queues_by_name y) (held x p d) (held y p d) u v e) w v us vs both in (
       (λ d. split (nat_le w d)
-          (λ t. none-held (alive x) (alive y) (held x p d) (held y p d) (held-above x p d (omega (arith, leb-true _ _ t, wide_x))) (held-above y p d (omega (arith, leb-true _ _ t, told.count, wide_y))))
+          (λ t. none-held (queues_by_name x) (queues_by_name y) (held x p d) (held y p d) (held-above x p d (omega (arith, leb-true _ _ t, wide_x))) (held-above y p d (omega (arith, leb-true _ _ t, told.count, wide_y))))
           (λ l. told.each d (omega (arith, leb-false _ _ l)))),
       told.rest,
     )
@@ -160,12 +227,12 @@ told-process x y n m wide_x wide_y p u v e =
     let b = optional deadline_code (wait_deadline x p) in
     let c = optional (optional (optional message_code)) (answer x p) in
     let d = listed number (notices x p) in
-    let h = holdings (alive x) x p n in
+    let h = holdings (queues_by_name x) x p n in
     let a2 = optional number (waiting_room y p) in
     let b2 = optional deadline_code (wait_deadline y p) in
     let c2 = optional (optional (optional message_code)) (answer y p) in
     let d2 = listed number (notices y p) in
-    let h2 = holdings (alive y) y p m in
+    let h2 = holdings (queues_by_name y) y p m in
     let flat : a ++ (b ++ (c ++ (d ++ (h ++ u)))) ≡ a2 ++ (b2 ++ (c2 ++ (d2 ++ (h2 ++ v)))) = sym (flatten a b c d h u) ∙ e ∙ flatten a2 b2 c2 d2 h2 v in
     let room = decodable-optional number decodable-number (waiting_room x p) (waiting_room y p) _ _ flat in
     let deadline = decodable-optional deadline_code decodable-deadline (wait_deadline x p) (wait_deadline y p) _ _ room.1 in
@@ -192,10 +259,19 @@ idle-same x y p i j = record {
   deadline = i.deadline ∙ sym j.deadline;
   answered = ap (λ (o : Option ℕ). option_map (at told x) o) i.answered ∙ sym (ap (λ (o : Option ℕ). option_map (at told y) o) j.answered);
   notices = i.notices ∙ sym j.notices;
-  holds = λ d. none-held (alive x) (alive y) (held x p d) (held y p d) (i.held d) (j.held d);
+  holds = λ d. none-held (queues_by_name x) (queues_by_name y) (held x p d) (held y p d) (i.held d) (j.held d);
 }
 
 -- the whole key ------------------------------------------------------------------------------------
+
+by-name : (past : Past) (q : ℕ) → is_in (alive past) q ≡ true → is_in (queues_by_name past) q ≡ true
+by-name past q h = in-lined (name_rank past) (alive past) q ∙ h
+
+existing : (past : Past) (q : ℕ) → is_in (queues_by_name past) q ≡ true → is_in (alive past) q ≡ true
+existing past q h = sym (in-lined (name_rank past) (alive past) q) ∙ h
+
+names-differ : (past : Past) → Differ (queues_by_name past)
+names-differ past = lined-differ (name_rank past) (alive past) (falls-differ (alive past) (falls-alive past))
 
 some-map : {X Y : Type 0} (f : X → Y) (o : Option X) → is_some (option_map f o) ≡ is_some o
 some-map f None = refl
@@ -212,17 +288,26 @@ named-of past q name e = split (is_named past q)
 name-of : (past : Past) (q : ℕ) (name : List ℕ) → bound_queue past name ≡ Some q → bound_name past q ≡ Some name
 name-of past q name e = rw (bound-named past name q e, bound-name past name q e) refl
 
-module _ (x y : Past) (legal_x : Legal x) (legal_y : Legal y) (pairs : Pairs (SameQueue x y) (alive x) (alive y)) where
+module _ (received : Bool) (x y : Past) (legal_x : Legal x) (legal_y : Legal y) (pairs : Pairs (SameQueue received x y) (queues_by_name x) (queues_by_name y)) where
   to : ℕ → ℕ
-  to = lookup (alive x) (alive y)
+  to = lookup (queues_by_name x) (queues_by_name y)
 
-  same-at : (q : ℕ) → is_in (alive x) q ≡ true → SameQueue x y q (to q)
+  same-at : (q : ℕ) → is_in (alive x) q ≡ true → SameQueue received x y q (to q)
   unfolding to
-  same-at q inside = pairs-at (SameQueue x y) (alive x) (alive y) q pairs inside
+  same-at q inside = pairs-at (SameQueue received x y) (queues_by_name x) (queues_by_name y) q pairs (by-name x q inside)
 
-  queues-to : alive y ≡ map to (alive x)
+  queues-are : queues_by_name y ≡ map to (queues_by_name x)
   unfolding to
-  queues-to = sym (all-found (SameQueue x y) (alive x) (alive y) (falls-alive x) pairs)
+  queues-are = sym (all-found (SameQueue received x y) (queues_by_name x) (queues_by_name y) (names-differ x) pairs)
+
+  queues-to : Corresponds to (alive x) (alive y)
+  queues-to = record {
+    each = λ q h. existing y (to q) (subst (λ (ks : List ℕ). is_in ks (to q) ≡ true) (sym queues-are) (in-map to (queues_by_name x) q (by-name x q h)));
+    every = λ k h.
+        let found = numbered to (queues_by_name x) k (subst (λ (ks : List ℕ). is_in ks k ≡ true) queues-are (by-name y k h)) in
+        (found.0, existing x found.0 found.1, found.2);
+    once = λ p q hp hq e. one-number to (queues_by_name x) (subst Differ queues-are (names-differ y)) p q (by-name x p hp) (by-name x q hq) e;
+  }
 
   names-to : (name : List ℕ) → bound_queue y name ≡ option_map to (bound_queue x name)
   names-to name = by (bound_queue x name) refl
@@ -230,8 +315,7 @@ module _ (x y : Past) (legal_x : Legal x) (legal_y : Legal y) (pairs : Pairs (Sa
       none : (o : Option ℕ) → bound_queue y name ≡ o → bound_queue x name ≡ None → o ≡ None
       none None e was = refl
       none (Some k) e was =
-          let inside : is_in (map to (alive x)) k ≡ true = subst (λ (ks : List ℕ). is_in ks k ≡ true) queues-to (needed-in y legal_y k (named-by y name k e)) in
-          let found = numbered to (alive x) k inside in
+          let found = queues-to.every k (needed-in y legal_y k (named-by y name k e)) in
           let there : bound_name y (to found.0) ≡ Some name = name-of y (to found.0) name (e ∙ ap (λ (j : ℕ). Some j) (sym found.2)) in
           let here : bound_queue x name ≡ Some found.0 = named-of x found.0 name ((same-at found.0 found.1).name ∙ there) in
           absurd (let bad : None ≡ Some found.0 = sym was ∙ here in cc)
@@ -240,16 +324,16 @@ module _ (x y : Past) (legal_x : Legal x) (legal_y : Legal y) (pairs : Pairs (Sa
       by None e = none (bound_queue y name) refl e
       by (Some q) e = named-of y (to q) name (sym (same-at q (needed-in x legal_x q (named-by x name q e))).name ∙ name-of x q name e)
 
-  held-to : (p d : ℕ) (o n : Option Description) → held x p d ≡ o → held y p d ≡ n → SameHeld (alive x) (alive y) o n → n ≡ option_map (renumbered to) o
+  held-to : (p d : ℕ) (o n : Option Description) → held x p d ≡ o → held y p d ≡ n → SameHeld (queues_by_name x) (queues_by_name y) o n → n ≡ option_map (renumbered to) o
   unfolding to
   held-to p d None None e f same = refl
   held-to p d None (Some h) e f same = absurd same
   held-to p d (Some g) None e f same = absurd same
   held-to p d (Some g) (Some h) e f same =
-      let queue : to g.queue ≡ h.queue = by-index (SameQueue x y) (alive x) (alive y) g.queue h.queue pairs (held-alive x legal_x p d g e) (held-alive y legal_y p d h f) same.queue in
+      let queue : to g.queue ≡ h.queue = by-index (SameQueue received x y) (queues_by_name x) (queues_by_name y) g.queue h.queue pairs (by-name x g.queue (held-alive x legal_x p d g e)) (by-name y h.queue (held-alive y legal_y p d h f)) same.queue in
       λ i. Some (record { queue = sym queue i; access = sym same.access i; nonblock = sym same.nonblock i })
 
-  equivalent-by : ((p : ℕ) → SameProcess x y p) → Equivalent x y
+  equivalent-by : ((p : ℕ) → SameProcess x y p) → Agree received x y
   equivalent-by process = record {
     to = to;
     equivalent = record {
@@ -272,19 +356,19 @@ module _ (x y : Past) (legal_x : Legal x) (legal_y : Legal y) (pairs : Pairs (Sa
     };
   }
 
-pub same-within : (x y : Past) (n m w v : ℕ) → Legal x → Legal y → process_bound x ≤ n → process_bound y ≤ m → number_bound x ≤ w → number_bound y ≤ v →
-    key_within n w x ≡ key_within m v y → Equivalent x y
-same-within x y n m w v legal_x legal_y high_x high_y wide_x wide_y e =
+pub same-within : (received : Bool) (x y : Past) (n m w v : ℕ) → Legal x → Legal y → process_bound x ≤ n → process_bound y ≤ m → number_bound x ≤ w → number_bound y ≤ v →
+    key_within received n w x ≡ key_within received m v y → Agree received x y
+same-within received x y n m w v legal_x legal_y high_x high_y wide_x wide_y e =
     let us = listed (process_code w x) (numbers_from 0 n) in
     let vs = listed (process_code v y) (numbers_from 0 m) in
-    let queues = told-pairs (queue_code x) (queue_code y) (SameQueue x y) (told-queue x y) (alive x) (alive y) us vs e in
+    let queues = told-pairs (queue_code received x) (queue_code received y) (SameQueue received x y) (told-queue received x y) (queues_by_name x) (queues_by_name y) us vs e in
     let ends : us ++ [] ≡ vs ++ [] = ap (λ (ws : List ℕ). ws ++ []) queues.1 in
     let processes = listed-numbered (process_code w x) (process_code v y) (SameProcess x y) (told-process x y w v wide_x wide_y) n m [] [] ends in
-    equivalent-by x y legal_x legal_y queues.0
+    equivalent-by received x y legal_x legal_y queues.0
     (λ p. split (nat_le n p)
     (λ t. idle-same x y p (idle-above x p (omega (arith, leb-true _ _ t, high_x))) (idle-above y p (omega (arith, leb-true _ _ t, processes.count, high_y))))
     (λ f. processes.each p (omega (arith, leb-false _ _ f))))
 
-pub same-key : (x y : Past) → Legal x → Legal y → key_of x ≡ key_of y → Equivalent x y
-same-key x y legal_x legal_y e =
-    same-within x y (process_bound x) (process_bound y) (number_bound x) (number_bound y) legal_x legal_y (omega arith) (omega arith) (omega arith) (omega arith) e
+pub same-key : (received : Bool) (x y : Past) → Legal x → Legal y → key_if received x ≡ key_if received y → Agree received x y
+same-key received x y legal_x legal_y e =
+    same-within received x y (process_bound x) (process_bound y) (number_bound x) (number_bound y) legal_x legal_y (omega arith) (omega arith) (omega arith) (omega arith) e

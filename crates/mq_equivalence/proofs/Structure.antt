@@ -1,6 +1,6 @@
 -- Names, descriptors and the queues that exist remain the same up to their numbers, under each call
 -- whose replies differ only in sequence numbers.
-use Rattle.std.proofs.Common.{◌≡◌, ℕ, suc, ◌<◌, ◌==◌, Bool, true, false, ◌&&◌, ◌||◌, not, List, [], ◌∷◌, length, map, Option, Some, None, is_some, if◌then◌else◌, refl, sym, ◌∙◌, ap, subst, arith, eqb-true, eq-eqb, ne_eqb}
+use Rattle.std.proofs.Common.{◌≡◌, ℕ, ◌<◌, ◌==◌, Bool, true, false, ◌&&◌, ◌||◌, not, List, [], ◌∷◌, length, map, Option, Some, None, is_some, if◌then◌else◌, refl, sym, ◌∙◌, ap, subst, arith, eqb-true, eq-eqb, ne_eqb}
 use Rattle.std.specs.List.{filter}
 use Rattle.std.specs.Str.{bytes_eq}
 use Rattle.std.specs.Option.{option_map, unwrap_or}
@@ -18,12 +18,12 @@ use Rattle.mq_model.specs.declared.entries.Call.TheVariants.{MqOpen, MqClose, Mq
 use Rattle.mq_model.specs.declared.entries.Reply.{Reply}
 use Rattle.mq_model.specs.declared.entries.Reply.TheVariants.{Opened, Queued, Handed, Waits, Got, Collected, Attrs, Notice, Done, Refused, Withdrawn}
 use Rattle.mq_model.proofs.Places.{split, is_in-filter}
-use Rattle.mq_model.proofs.Frames.{attributes-older, created-below, filter-same}
+use Rattle.mq_model.proofs.Frames.{attributes-older, created-below}
 use Rattle.mq_model.proofs.HeldQueues.{after-cases, bound-created, created-held}
 use Rattle.mq_model.proofs.Alive.{bound-named, held-is_held, is_held-holder, is_needed, named-bound, named-newest, needed-alive, rec, same-tests}
 use Rattle.mq_model.proofs.OpenReplies.{opened-says}
 use Rattle.mq_equivalence.specs.Steps.{shape}
-use Rattle.mq_equivalence.proofs.Falling.{Falls, falls-filter}
+use Rattle.mq_equivalence.proofs.Falling.{Falls, falls-filter, in-first}
 use Rattle.mq_equivalence.specs.Structure.{SameStructure, extended, renumbered}
 
 -- options and lists ------------------------------------------------------------------------------------------------------
@@ -32,7 +32,7 @@ pub option-same : {X Y : Type 0} (f g : X → Y) (o : Option X) → ((v : X) →
 option-same f g None same = refl
 option-same f g (Some v) same = ap Some (same v refl)
 
-in-filter : (t : ℕ → Bool) (xs : List ℕ) (m : ℕ) → is_in xs m ≡ true → t m ≡ true → is_in (filter t xs) m ≡ true
+pub in-filter : (t : ℕ → Bool) (xs : List ℕ) (m : ℕ) → is_in xs m ≡ true → t m ≡ true → is_in (filter t xs) m ≡ true
 in-filter t [] m h passes = absurd (cc)
 in-filter t (x ∷ xs) m h passes = split (x == m)
     (λ e. let same : x ≡ m = eqb-true _ _ e in let pass : t x ≡ true = rw same passes in rw (pass, e) refl)
@@ -47,10 +47,6 @@ in-map f (k ∷ ks) j h = split (k == j)
 pub map-same : (f g : ℕ → ℕ) (ks : List ℕ) → ((k : ℕ) → is_in ks k ≡ true → f k ≡ g k) → map f ks ≡ map g ks
 map-same f g [] same = refl
 map-same f g (k ∷ ks) same = (λ i. same k (rw (eq-eqb k k refl) refl) i ∷ map-same f g ks (λ j h. same j (split (k == j) (λ y. rw y refl) (λ z. rw (z, h) refl))) i)
-
-filter-map : (f : ℕ → ℕ) (t : ℕ → Bool) (ks : List ℕ) → filter t (map f ks) ≡ map f (filter (λ k. t (f k)) ks)
-filter-map f t [] = refl
-filter-map f t (k ∷ ks) = split (t (f k)) (λ y. rw (y, filter-map f t ks) refl) (λ n. rw (n, filter-map f t ks) refl)
 
 -- what passes the second test passes the first
 filter-twice : (s t : ℕ → Bool) (xs : List ℕ) → ((k : ℕ) → is_in xs k ≡ true → t k ≡ true → s k ≡ true) → filter t xs ≡ filter t (filter s xs)
@@ -69,17 +65,6 @@ falls-created (r ∷ past) = split (creates r.entry.call r.entry.reply)
 
 pub falls-alive : (past : Past) → Falls (alive past)
 falls-alive past = falls-filter _ (created past) (falls-created past)
-
--- numbers that fall are given once
-pub one-number : (f : ℕ → ℕ) (ks : List ℕ) → Falls (map f ks) → (i j : ℕ) → is_in ks i ≡ true → is_in ks j ≡ true → f i ≡ f j → i ≡ j
-one-number f [] falls i j hi hj e = absurd (cc)
-one-number f (k ∷ ks) falls i j hi hj e = split (k == i)
-    (λ a. let ki : k ≡ i = eqb-true _ _ a in split (k == j)
-    (λ b. sym ki ∙ eqb-true _ _ b)
-    (λ b. let rest : is_in ks j ≡ true = rw b at hj in let less : f j < f k = falls.0 (f j) (in-map f ks j rest) in let same : f k ≡ f i = ap f ki in absurd (omega arith)))
-    (λ a. let resti : is_in ks i ≡ true = rw a at hi in split (k == j)
-    (λ b. let kj : k ≡ j = eqb-true _ _ b in let less : f i < f k = falls.0 (f i) (in-map f ks i resti) in let same : f k ≡ f j = ap f kj in absurd (omega arith))
-    (λ b. let restj : is_in ks j ≡ true = rw b at hj in one-number f ks falls.1 i j resti restj e))
 
 -- numbers of queues ------------------------------------------------------------------------------------------------------
 
@@ -334,55 +319,97 @@ module _ (to : ℕ → ℕ) (x y : Past) (p : ℕ) (call : Call) (payload : List
       (λ t. rw t (subst (λ (j : ℕ). held_after y call payload b d (held y j d) ≡ option_map (renumbered onto) (held_after x call payload a d (held x j d))) (eqb-true _ _ t) (own-held d)))
       (λ f. rw f (held-before k d))
 
-  -- numbers of needed queues
+  -- the queues
   number-below : (q : ℕ) → is_in (alive x) q ≡ true → to q < length y
-  number-below q h = alive-below y (to q) (subst (λ (qs : List ℕ). is_in qs (to q) ≡ true) (sym s.equivalent.queues) (in-map to (alive x) q h))
+  number-below q h = alive-below y (to q) (s.equivalent.queues.each q h)
+
+  was-alive : (q : ℕ) → (q == length x) ≡ false → is_needed (rx ∷ x) q ≡ true → is_in (alive x) q ≡ true
+  was-alive q f needs =
+      let more : q < length (rx ∷ x) = created-below (rx ∷ x) q (needed-created (rx ∷ x) s.legal_x q needs) in
+      let ne : q ≡ length x → ⊥ = eqb-false _ _ f in
+      needed-in x s.legal_x.0 q (fewer-needed x rx s.legal_x q (omega (arith, more, ne)) needs)
 
   once : (k q : ℕ) → is_needed (rx ∷ x) k ≡ true → is_in (alive x) q ≡ true → onto k ≡ onto q → k ≡ q
   once k q needs h e =
-      let q_low : q < length x = alive-below x q h in
-      let q_is : onto q ≡ to q = old-number to (length x) (length y) q q_low in
+      let q_is : onto q ≡ to q = old-number to (length x) (length y) q (alive-below x q h) in
       let q_less : to q < length y = number-below q h in
       split (k == length x)
-      (λ t. let here : k ≡ length x = eqb-true _ _ t in
-      let k_is : onto k ≡ length y = ap onto here ∙ new-number to (length x) (length y) in
+      (λ t. let k_is : onto k ≡ length y = ap onto (eqb-true _ _ t) ∙ new-number to (length x) (length y) in
       absurd (omega arith))
-      (λ f. let apart : k ≡ length x → ⊥ = eqb-false _ _ f in
-      let in_more : k < length (rx ∷ x) = created-below (rx ∷ x) k (needed-created (rx ∷ x) s.legal_x k needs) in
-      let k_low : k < length x = below-more (length x) k in_more apart in
-      let k_is : onto k ≡ to k = old-number to (length x) (length y) k k_low in
-      let inside : is_in (alive x) k ≡ true = needed-in x s.legal_x.0 k (fewer-needed x rx s.legal_x k k_low needs) in
-      one-number to (alive x) (subst Falls s.equivalent.queues (falls-alive y)) k q inside h (sym k_is ∙ e ∙ q_is))
-    where
-      below-more : (n k : ℕ) → k < suc n → (k ≡ n → ⊥) → k < n
-      below-more n k lt ne = omega (arith, ne)
+      (λ f. let inside = was-alive k f needs in
+      let k_is : onto k ≡ to k = old-number to (length x) (length y) k (alive-below x k inside) in
+      s.equivalent.queues.once k q inside h (sym k_is ∙ e ∙ q_is))
 
-  queues-stay : alive (ry ∷ y) ≡ map onto (alive (rx ∷ x))
-  queues-stay =
-      let numbers : map to (alive x) ≡ map onto (alive x) = map-same to onto (alive x) (λ k h. sym (old-number to (length x) (length y) k (alive-below x k h))) in
-      let rest : filter (is_needed (ry ∷ y)) (alive y) ≡ map onto (filter (is_needed (rx ∷ x)) (alive x)) =
-      ap (filter (is_needed (ry ∷ y))) (s.equivalent.queues ∙ numbers)
-      ∙ filter-map onto (is_needed (ry ∷ y)) (alive x)
-      ∙ ap (map onto) (filter-same _ _ (alive x) (λ q h. needed-both (rx ∷ x) (ry ∷ y) onto names-stay descriptors-stay q (λ k needs e. once k q needs h e)))
-      in
-      split (creates call a)
-      (λ t. let t' : creates call b ≡ true = both-create ∙ t in
+  needed-onto : (q : ℕ) → is_in (alive x) q ≡ true → is_needed (ry ∷ y) (onto q) ≡ is_needed (rx ∷ x) q
+  needed-onto q h = needed-both (rx ∷ x) (ry ∷ y) onto names-stay descriptors-stay q (λ k needs e. once k q needs h e)
+
+  -- the queue that the entry creates
+  new-x : (q : ℕ) → (q == length x) ≡ true → is_in (alive (rx ∷ x)) q ≡ true → creates call a ≡ true
+  new-x q t h = by (creates call a) refl
+    where
+      by : (b : Bool) → creates call a ≡ b → creates call a ≡ true
+      by true e = e
+      by false e =
+          let old : is_in (created x) q ≡ true = subst (λ (qs : List ℕ). is_in qs q ≡ true) (rw e refl) (is_in-filter (is_needed (rx ∷ x)) (created (rx ∷ x)) q h).0 in
+          let lt = created-below x q old in
+          let here : q ≡ length x = eqb-true _ _ t in
+          absurd (omega (arith, lt, here))
+
+  new-y : creates call a ≡ true → is_in (alive (ry ∷ y)) (length y) ≡ true
+  new-y t =
+      let t' : creates call b ≡ true = both-create ∙ t in
       let in_y : alive (ry ∷ y) ≡ length y ∷ filter (is_needed (ry ∷ y)) (alive y) = alive-after y ry s.legal_y ∙ rw t' refl in
+      subst (λ (qs : List ℕ). is_in qs (length y) ≡ true) (sym in_y) (in-first (length y) (filter (is_needed (ry ∷ y)) (alive y)))
+
+  new-here : creates call a ≡ true → is_in (alive (rx ∷ x)) (length x) ≡ true
+  new-here t =
       let in_x : alive (rx ∷ x) ≡ length x ∷ filter (is_needed (rx ∷ x)) (alive x) = alive-after x rx s.legal_x ∙ rw t refl in
-      in_y
-      ∙ ap (λ l. length y ∷ l) rest
-      ∙ ap (λ (n : ℕ). n ∷ map onto (filter (is_needed (rx ∷ x)) (alive x))) (sym (new-number to (length x) (length y)))
-      ∙ ap (map onto) (sym in_x))
-      (λ f. let f' : creates call b ≡ false = both-create ∙ f in
-      let in_y : alive (ry ∷ y) ≡ filter (is_needed (ry ∷ y)) (alive y) = alive-after y ry s.legal_y ∙ rw f' refl in
-      let in_x : alive (rx ∷ x) ≡ filter (is_needed (rx ∷ x)) (alive x) = alive-after x rx s.legal_x ∙ rw f refl in
-      in_y ∙ rest ∙ ap (map onto) (sym in_x))
+      subst (λ (qs : List ℕ). is_in qs (length x) ≡ true) (sym in_x) (in-first (length x) (filter (is_needed (rx ∷ x)) (alive x)))
+
+  each-stays : (q : ℕ) → is_in (alive (rx ∷ x)) q ≡ true → is_in (alive (ry ∷ y)) (onto q) ≡ true
+  each-stays q h = split (q == length x)
+      (λ t. let is : onto q ≡ length y = ap onto (eqb-true _ _ t) ∙ new-number to (length x) (length y) in
+      subst (λ (k : ℕ). is_in (alive (ry ∷ y)) k ≡ true) (sym is) (new-y (new-x q t h)))
+      (λ f. let needs = needed-alive (rx ∷ x) q h in
+      let inside = was-alive q f needs in
+      needed-in (ry ∷ y) s.legal_y (onto q) (needed-onto q inside ∙ needs))
+
+  every-stays : (k : ℕ) → is_in (alive (ry ∷ y)) k ≡ true → (q : ℕ) × (is_in (alive (rx ∷ x)) q ≡ true) × (onto q ≡ k)
+  every-stays k h = split (is_in (alive y) k)
+      (λ old. let found = s.equivalent.queues.every k old in
+      let is : onto found.0 ≡ k = old-number to (length x) (length y) found.0 (alive-below x found.0 found.1) ∙ found.2 in
+      let needs : is_needed (rx ∷ x) found.0 ≡ true =
+      sym (needed-onto found.0 found.1) ∙ ap (is_needed (ry ∷ y)) is ∙ needed-alive (ry ∷ y) k h in
+      (found.0, needed-in (rx ∷ x) s.legal_x found.0 needs, is))
+      (λ new. by (creates call b) refl new)
+    where
+      by : (c : Bool) → creates call b ≡ c → is_in (alive y) k ≡ false → (q : ℕ) × (is_in (alive (rx ∷ x)) q ≡ true) × (onto q ≡ k)
+      by true t new =
+          let in_y : alive (ry ∷ y) ≡ length y ∷ filter (is_needed (ry ∷ y)) (alive y) = alive-after y ry s.legal_y ∙ rw t refl in
+          let first : is_in (length y ∷ filter (is_needed (ry ∷ y)) (alive y)) k ≡ true = subst (λ (qs : List ℕ). is_in qs k ≡ true) in_y h in
+          let here : length y ≡ k = split (length y == k)
+          (λ e. eqb-true _ _ e)
+          (λ f. let later : is_in (filter (is_needed (ry ∷ y)) (alive y)) k ≡ true = rw f at first in
+          let bad : false ≡ true = sym new ∙ (is_in-filter (is_needed (ry ∷ y)) (alive y) k later).0 in absurd (cc)) in
+          (length x, new-here (sym both-create ∙ t), new-number to (length x) (length y) ∙ here)
+      by false t new =
+          let in_y : alive (ry ∷ y) ≡ filter (is_needed (ry ∷ y)) (alive y) = alive-after y ry s.legal_y ∙ rw t refl in
+          let later : is_in (filter (is_needed (ry ∷ y)) (alive y)) k ≡ true = subst (λ (qs : List ℕ). is_in qs k ≡ true) in_y h in
+          let bad : false ≡ true = sym new ∙ (is_in-filter (is_needed (ry ∷ y)) (alive y) k later).0 in
+          absurd (cc)
+
+  once-stays : (p q : ℕ) → is_in (alive (rx ∷ x)) p ≡ true → is_in (alive (rx ∷ x)) q ≡ true → onto p ≡ onto q → p ≡ q
+  once-stays p q hp hq e = split (q == length x)
+      (λ t. split (p == length x)
+      (λ s. eqb-true _ _ s ∙ sym (eqb-true _ _ t))
+      (λ f. sym (once q p (needed-alive (rx ∷ x) q hq) (was-alive p f (needed-alive (rx ∷ x) p hp)) (sym e))))
+      (λ f. once p q (needed-alive (rx ∷ x) p hp) (was-alive q f (needed-alive (rx ∷ x) q hq)) e)
 
   limits-stay : (q : ℕ) → is_in (alive (rx ∷ x)) q ≡ true → attributes (ry ∷ y) (onto q) ≡ attributes (rx ∷ x) q
   limits-stay q h = split (q == length x)
       (λ t. let here : q ≡ length x = eqb-true _ _ t in
       ap (attributes (ry ∷ y)) (ap onto here ∙ new-number to (length x) (length y)) ∙ newest y ry ∙ sym (newest x rx) ∙ ap (attributes (rx ∷ x)) (sym here))
-      (λ f. let inside : is_in (alive x) q ≡ true = was-alive q f h in
+      (λ f. let inside : is_in (alive x) q ≡ true = was-alive q f (needed-alive (rx ∷ x) q h) in
       let low : q < length x = alive-below x q inside in
       ap (attributes (ry ∷ y)) (old-number to (length x) (length y) q low)
       ∙ attributes-older y ry (to q) (number-below q inside)
@@ -392,11 +419,5 @@ module _ (to : ℕ → ℕ) (x y : Past) (p : ℕ) (call : Call) (payload : List
       newest : (past : Past) (r : Record) → attributes (r ∷ past) (length past) ≡ Rattle.mq_model.specs.Names.attributes_given r.entry.call
       newest past r = rw (eq-eqb (length past) (length past) refl) refl
 
-      below : (q : ℕ) → (q == length x) ≡ false → is_in (alive (rx ∷ x)) q ≡ true → q < length x
-      below q f h = let more : q < length (rx ∷ x) = alive-below (rx ∷ x) q h in let ne : q ≡ length x → ⊥ = eqb-false _ _ f in omega (arith, ne)
-
-      was-alive : (q : ℕ) → (q == length x) ≡ false → is_in (alive (rx ∷ x)) q ≡ true → is_in (alive x) q ≡ true
-      was-alive q f h = needed-in x s.legal_x.0 q (fewer-needed x rx s.legal_x q (below q f h) (needed-alive (rx ∷ x) q h))
-
   pub structure-stays : SameStructure onto (rx ∷ x) (ry ∷ y)
-  structure-stays = record { names = names-stay; descriptors = descriptors-stay; queues = queues-stay; limits = limits-stay }
+  structure-stays = record { names = names-stay; descriptors = descriptors-stay; queues = record { each = each-stays; every = every-stays; once = once-stays }; limits = limits-stay }

@@ -17,15 +17,16 @@ use Rattle.mq_model.proofs.Cases.{Says}
 use Rattle.mq_model.proofs.HeldQueues.{called-alive}
 use Rattle.mq_model.proofs.OpenWaits.{withdrawn-open}
 use Rattle.mq_model.proofs.Alive.{rec}
-use Rattle.mq_equivalence.specs.Views.{Message, Sender, answer, contents, receivers, senders}
+use Rattle.mq_equivalence.specs.Views.{Message, Sender, answer, contents, receivers, seen, seen_senders, senders}
 use Rattle.mq_equivalence.specs.Steps.{message_given, record_of, shape}
-use Rattle.mq_equivalence.proofs.Falling.{pick, top}
+use Rattle.mq_equivalence.proofs.Falling.{foremost}
 use Rattle.mq_equivalence.proofs.Calls.{got-message}
 use Rattle.mq_equivalence.proofs.Changes.{got-all, handed-all}
 use Rattle.mq_equivalence.proofs.Effects.{after_answer, after_receivers, after_senders, answer-step, called, is_collected, is_withdrawn, receivers-step, senders-step}
 use Rattle.mq_equivalence.proofs.Alike.{answer-shape, receivers-shape, senders-shape}
 use Rattle.mq_equivalence.specs.Structure.{extended, renumbered}
-use Rattle.mq_equivalence.specs.Equivalence.{EquivalentUnder}
+use Rattle.mq_equivalence.specs.Equivalence.{AgreeUnder, may_come}
+use Rattle.mq_equivalence.proofs.Seen.{after_waiting, answer-seen, got-may, got-shape, is_got, seen-but, waiting-after}
 use Rattle.mq_equivalence.proofs.Withdrawals.{answer-withdrawn, receivers-withdrawn, receivers_but, senders-withdrawn, senders_but}
 use Rattle.mq_equivalence.proofs.Going.{called-both, contents-go, deadlines-go, notices-go, payloads, registrations-go, rooms-go, same-at, same-old, says_x, says_y, shapes, structure-goes, waits-go}
 
@@ -44,24 +45,6 @@ idle-answer past p call (Notice v) payload ss rs k before says none = refl
 idle-answer past p call Done payload ss rs k before says none = refl
 idle-answer past p call (Refused f) payload ss rs k before says none = refl
 
--- a reply that hands out a message
-abbrev pub is_got : Reply → Bool
-is_got (Got m a n) = true
-is_got _ = false
-
-got-shape : (reply : Reply) → is_got (shape reply) ≡ is_got reply
-got-shape (Got m a n) = refl
-got-shape (Queued n) = refl
-got-shape (Handed w) = refl
-got-shape (Opened d created) = refl
-got-shape Waits = refl
-got-shape (Collected b) = refl
-got-shape (Withdrawn w) = refl
-got-shape (Attrs s) = refl
-got-shape (Notice v) = refl
-got-shape Done = refl
-got-shape (Refused f) = refl
-
 pub none-given : (past : Past) (reply : Reply) → is_got reply ≡ false → message_given past reply ≡ None
 none-given past (Got m a n) e = cc
 none-given past (Queued n) e = refl
@@ -76,7 +59,7 @@ none-given past Done e = refl
 none-given past (Refused f) e = refl
 
 given-is : (past : Past) → Legal past → (p : ℕ) (call : Call) (reply : Reply) (payload : List ℕ) → is_got reply ≡ true → Says past p call reply →
-    message_given (rec p call reply payload ∷ past) reply ≡ pick (top (contents past (called past p call))) (contents past (called past p call))
+    message_given (rec p call reply payload ∷ past) reply ≡ foremost (contents past (called past p call))
 given-is past legal p call (Got m a n) payload e says = got-message past legal p call m a n payload says
 given-is past legal p call (Queued n) payload e says = absurd (cc)
 given-is past legal p call (Handed w) payload e says = absurd (cc)
@@ -152,7 +135,7 @@ answer-of past p call reply payload is k =
     let w = the-wait reply is in
     subst (λ (z : Reply). answer (rec p call z payload ∷ past) k ≡ (if p == k then None else answer past k)) (sym w.1) (answer-withdrawn past p call w.0 payload k)
 
-module _ (to : ℕ → ℕ) (x y : Past) (equivalent : EquivalentUnder to x y) (p : ℕ) (call : Call) (given : List ℕ) (next_x : IsLegalNext x (record_of x p call given)) (next_y : IsLegalNext y (record_of y p call given)) where
+module _ {received : Bool} (to : ℕ → ℕ) (x y : Past) (equivalent : AgreeUnder received to x y) (p : ℕ) (call : Call) (given : List ℕ) (next_x : IsLegalNext x (record_of x p call given)) (next_y : IsLegalNext y (record_of y p call given)) where
   abbrev a : Reply
   a = reply_to x p call given
 
@@ -186,18 +169,22 @@ module _ (to : ℕ → ℕ) (x y : Past) (equivalent : EquivalentUnder to x y) (
   both-withdrawn : is_withdrawn b ≡ is_withdrawn a
   both-withdrawn = sym (withdrawn-shape b) ∙ ap is_withdrawn shaped ∙ withdrawn-shape a
 
-  senders-go : (q : ℕ) → inside_after q → senders (rec p call b py ∷ y) (onto q) ≡ senders (rec p call a px ∷ x) q
+  senders-go : (q : ℕ) → inside_after q → seen_senders received (senders (rec p call b py ∷ y) (onto q)) ≡ seen_senders received (senders (rec p call a px ∷ x) q)
   senders-go q h =
       let s = same-at to x y equivalent p call given next_x next_y q h in
       split (is_withdrawn a)
-      (λ t. senders-of y equivalent.legal.1 p call b py (both-withdrawn ∙ t) says_b next_y.turn (onto q)
+      (λ t. ap (seen_senders received) (senders-of y equivalent.legal.1 p call b py (both-withdrawn ∙ t) says_b next_y.turn (onto q))
+      ∙ seen-but received p (senders y (onto q))
       ∙ ap (senders_but p) s.sending
-      ∙ sym (senders-of x equivalent.legal.0 p call a px t says_a next_x.turn q))
-      (λ f. senders-step y p call b py (onto q) (equivalent.legal.1, next_y) says_b (both-withdrawn ∙ f)
-      ∙ sym (senders-shape p call py (is_place (onto q) (called_queue y p call)) b (senders y (onto q)))
-      ∙ (λ i. after_senders p call (paid i) (s.on i) (shaped i) (s.sending i))
-      ∙ senders-shape p call px (is_place q (called_queue x p call)) a (senders x q)
-      ∙ sym (senders-step x p call a px q (equivalent.legal.0, next_x) says_a f))
+      ∙ sym (seen-but received p (senders x q))
+      ∙ ap (seen_senders received) (sym (senders-of x equivalent.legal.0 p call a px t says_a next_x.turn q)))
+      (λ f. ap (seen_senders received) (senders-step y p call b py (onto q) (equivalent.legal.1, next_y) says_b (both-withdrawn ∙ f)
+      ∙ sym (senders-shape p call py (is_place (onto q) (called_queue y p call)) b (senders y (onto q))))
+      ∙ waiting-after received p call py (is_place (onto q) (called_queue y p call)) (shape b) (senders y (onto q))
+      ∙ (λ i. after_waiting received p call (paid i) (s.on i) (shaped i) (s.sending i))
+      ∙ sym (waiting-after received p call px (is_place q (called_queue x p call)) (shape a) (senders x q))
+      ∙ ap (seen_senders received) (senders-shape p call px (is_place q (called_queue x p call)) a (senders x q)
+      ∙ sym (senders-step x p call a px q (equivalent.legal.0, next_x) says_a f)))
 
   receivers-go : (q : ℕ) → inside_after q → receivers (rec p call b py ∷ y) (onto q) ≡ receivers (rec p call a px ∷ x) q
   receivers-go q h =
@@ -226,10 +213,13 @@ module _ (to : ℕ → ℕ) (x y : Past) (equivalent : EquivalentUnder to x y) (
       let at_x : called x p call ≡ q = ap (λ (o : Option ℕ). unwrap_or o 0) e in
       let at_y : called y p call ≡ to q = ap (λ (o : Option ℕ). unwrap_or o 0) on in
       let s = same-old to x y equivalent p call given next_x next_y q (called-alive x equivalent.legal.0 p call q e) in
-      let ss : senders y (called y p call) ≡ senders x (called x p call) = ap (senders y) at_y ∙ s.sending ∙ ap (senders x) (sym at_x) in
+      let ss : seen_senders received (senders y (called y p call)) ≡ seen_senders received (senders x (called x p call)) =
+      ap (λ (k : ℕ). seen_senders received (senders y k)) at_y ∙ s.sending ∙ ap (λ (k : ℕ). seen_senders received (senders x k)) (sym at_x) in
       let rs : receivers y (called y p call) ≡ receivers x (called x p call) = ap (receivers y) at_y ∙ s.receiving ∙ ap (receivers x) (sym at_x) in
       sym (answer-shape p call py b (senders y (called y p call)) (receivers y (called y p call)) k (answer y k))
+      ∙ sym (answer-seen received p call py (shape b) (senders y (called y p call)) (receivers y (called y p call)) k (answer y k))
       ∙ (λ i. after_answer p call (paid i) (shaped i) (ss i) (rs i) k (equivalent.answered k i))
+      ∙ answer-seen received p call px (shape a) (senders x (called x p call)) (receivers x (called x p call)) k (answer x k)
       ∙ answer-shape p call px a (senders x (called x p call)) (receivers x (called x p call)) k (answer x k)
 
   answers-go : (k : ℕ) → answer (rec p call b py ∷ y) k ≡ answer (rec p call a px ∷ x) k
@@ -239,11 +229,11 @@ module _ (to : ℕ → ℕ) (x y : Past) (equivalent : EquivalentUnder to x y) (
       ∙ answers-both (called_queue x p call) refl k
       ∙ sym (answer-step x equivalent.legal.0 p call a px k says_a (free-of x p call a f says_a next_x.turn)))
 
-  pub goes-equivalent : EquivalentUnder onto (rec p call a px ∷ x) (rec p call b py ∷ y)
-  goes-equivalent = record {
+  pub goes-equivalent : may_come received call ≡ true → AgreeUnder received onto (rec p call a px ∷ x) (rec p call b py ∷ y)
+  goes-equivalent may = record {
     legal = ((equivalent.legal.0, next_x), (equivalent.legal.1, next_y));
     structure = structure-goes to x y equivalent p call given next_x next_y;
-    messages = contents-go to x y equivalent p call given next_x next_y;
+    messages = contents-go to x y equivalent p call given next_x next_y may;
     sending = senders-go;
     receiving = receivers-go;
     registrations = registrations-go to x y equivalent p call given next_x next_y;
@@ -276,7 +266,7 @@ the-got (Notice v) e = absurd (cc)
 the-got Done e = absurd (cc)
 the-got (Refused f) e = absurd (cc)
 
-module _ (to : ℕ → ℕ) (x y : Past) (equivalent : EquivalentUnder to x y) (p : ℕ) (call : Call) where
+module _ {received : Bool} (to : ℕ → ℕ) (x y : Past) (equivalent : AgreeUnder received to x y) (p : ℕ) (call : Call) (may : may_come received call ≡ true) where
   queue-both : called_queue y p call ≡ option_map to (called_queue x p call)
   queue-both = by (descriptor_of call)
     where
@@ -295,11 +285,13 @@ module _ (to : ℕ → ℕ) (x y : Past) (equivalent : EquivalentUnder to x y) (
       let inside : is_in (alive x) got.queue ≡ true = called-alive x equivalent.legal.0 p call got.queue got.on in
       let at_x : called x p call ≡ got.queue = ap (λ (o : Option ℕ). unwrap_or o 0) got.on in
       let at_y : called y p call ≡ to got.queue = ap (λ (o : Option ℕ). unwrap_or o 0) (queue-both ∙ ap (option_map to) got.on) in
-      ap (contents y) at_y ∙ equivalent.messages got.queue inside ∙ ap (contents x) (sym at_x)
+      let comes : received ≡ true = got-may received x p call a may says e in
+      let full = subst (λ (b : Bool). seen b (contents y (to got.queue)) ≡ seen b (contents x got.queue)) comes (equivalent.messages got.queue inside) in
+      ap (contents y) at_y ∙ full ∙ ap (contents x) (sym at_x)
 
   pub message-equivalent : (a b : Reply) (px py : List ℕ) → shape b ≡ shape a → Says x p call a → Says y p call b → message_given (rec p call b py ∷ y) b ≡ message_given (rec p call a px ∷ x) a
   message-equivalent a b px py e says_x says_y =
       let both : is_got b ≡ is_got a = sym (got-shape b) ∙ ap is_got e ∙ got-shape a in
       split (is_got a)
-      (λ t. given-is y equivalent.legal.1 p call b py (both ∙ t) says_y ∙ ap (λ (cs : List (Option Message)). pick (top cs) cs) (found-both a t says_x) ∙ sym (given-is x equivalent.legal.0 p call a px t says_x))
+      (λ t. given-is y equivalent.legal.1 p call b py (both ∙ t) says_y ∙ ap (λ (cs : List (Option Message)). foremost cs) (found-both a t says_x) ∙ sym (given-is x equivalent.legal.0 p call a px t says_x))
       (λ f. none-given (rec p call b py ∷ y) b (both ∙ f) ∙ sym (none-given (rec p call a px ∷ x) a f))

@@ -24,7 +24,7 @@ filter-map : {X : Type 0} (f : ℕ → X) (t : X → Bool) (ks : List ℕ) → f
 filter-map f t [] = refl
 filter-map f t (k ∷ ks) = split (t (f k)) (λ y. rw (y, filter-map f t ks) refl) (λ n. rw (n, filter-map f t ks) refl)
 
-abbrev sends_as : ℕ → Option Sender → Bool
+abbrev pub sends_as : ℕ → Option Sender → Bool
 sends_as p None = false
 sends_as p (Some s) = s.process == p
 

@@ -1,5 +1,6 @@
 -- The state key of a journal: numbers that are the same only if two journals are equivalent.
-use Rattle.std.specs.Prelude.{ℕ, ℤ, pos, negsuc, zero, suc, ◌+◌, ◌==◌, max, Bool, true, false, List, [], ◌∷◌, ◌++◌, length, map, Option, Some, None, if◌then◌else◌}
+use Rattle.std.specs.Prelude.{ℕ, ℤ, pos, negsuc, suc, ◌+◌, ◌*◌, ◌%◌, ◌==◌, max, Bool, true, false, List, [], ◌∷◌, ◌++◌, length, map, Option, Some, None, if◌then◌else◌}
+use Rattle.std.specs.Option.{unwrap_or}
 use Rattle.mq_model.specs.Record.{Past, Process, Queue}
 use Rattle.mq_model.specs.Names.{attributes}
 use Rattle.mq_model.specs.Descriptors.{alive, held, numbers_from}
@@ -13,7 +14,7 @@ use Rattle.mq_model.specs.declared.entries.Description.{Description}
 use Rattle.mq_model.specs.declared.entries.Reply.{Reply}
 use Rattle.mq_model.specs.declared.entries.Reply.TheVariants.{Opened}
 use Rattle.mq_state.specs.Buffers.{waiting_room}
-use Rattle.mq_equivalence.specs.Views.{Message, Registered, Sender, answer, bound_name, contents, receivers, registered_as, senders}
+use Rattle.mq_equivalence.specs.Views.{Message, Registered, Sender, answer, bound_name, contents, lined, receivers, registered_as, seen, seen_senders, senders}
 
 -- values as numbers, which can be decoded even if other numbers follow
 -- ------------------------------
@@ -55,6 +56,20 @@ limits_code a = signed a.maxmsg ++ signed a.msgsize
 abbrev pub deadline_code : Deadline → List ℕ
 deadline_code t = signed t.sec ++ signed t.nsec
 
+-- A number by which names are put in order. Few names have the same.
+abbrev pub name_number : List ℕ → ℕ
+name_number [] = 0
+name_number (b ∷ bytes) = (b + 257 * name_number bytes) % 4294967296
+
+-- the number of the name of a queue, and 0 if it is unlinked
+abbrev pub name_rank : Past → Queue → ℕ
+name_rank past q = name_number (unwrap_or (bound_name past q) [])
+
+-- The queues that exist, in the order of a key: by their names, whichever was created first, and
+-- then those that are unlinked.
+abbrev pub queues_by_name : Past → List Queue
+queues_by_name past = lined (name_rank past) (alive past)
+
 -- the index of a queue among these
 abbrev pub index_of : List Queue → Queue → ℕ
 index_of [] q = 0
@@ -74,13 +89,14 @@ abbrev pub registered_code : Registered → List ℕ
 registered_code n = n.process ∷ (n.d ∷ (n.value ∷ []))
 
 -- A queue: its name, its limits, its messages, the processes that wait to send, with their
--- messages, those that wait to receive, and the registration.
-abbrev pub queue_code : Past → Queue → List ℕ
-queue_code past q =
+-- messages, those that wait to receive, and the registration. If no receive is to come, only the
+-- number of messages, and no message of a send that waits.
+abbrev pub queue_code : Bool → Past → Queue → List ℕ
+queue_code received past q =
     optional bytes_code (bound_name past q)
     ++ (limits_code (attributes past q)
-    ++ (listed (optional message_code) (contents past q)
-    ++ (listed (optional sender_code) (senders past q)
+    ++ (listed (optional message_code) (seen received (contents past q))
+    ++ (listed (optional sender_code) (seen_senders received (senders past q))
     ++ (listed (optional number) (receivers past q)
     ++ optional registered_code (registered_as past q)))))
 
@@ -105,14 +121,18 @@ process_code width past p =
     ++ (optional deadline_code (wait_deadline past p)
     ++ (optional (optional (optional message_code)) (answer past p)
     ++ (listed number (notices past p)
-    ++ listed (optional (description_code (alive past)))
+    ++ listed (optional (description_code (queues_by_name past)))
     (map (held past p) (numbers_from 0 width)))))
 
 -- the queues that exist, and the processes below `count`
-abbrev pub key_within : ℕ → ℕ → Past → List ℕ
-key_within count width past =
-    listed (queue_code past) (alive past)
+abbrev pub key_within : Bool → ℕ → ℕ → Past → List ℕ
+key_within received count width past =
+    listed (queue_code received past) (queues_by_name past)
     ++ listed (process_code width past) (numbers_from 0 count)
 
+-- the key if receives are to come, or if none is
+abbrev pub key_if : Bool → Past → List ℕ
+key_if received past = key_within received (process_bound past) (number_bound past) past
+
 abbrev pub key_of : Past → List ℕ
-key_of past = key_within (process_bound past) (number_bound past) past
+key_of past = key_if true past

@@ -1,23 +1,23 @@
 //! State keys: numbers of the state that a journal leaves. Two legal journals with the same key are
 //! equivalent.
-ghost use Rattle.std.specs.Prelude.{◌≡◌, ◌≤◌, ◌^◌, IfOk, IsTrue};
+ghost use Rattle.std.specs.Prelude.{◌≡◌, ◌≤◌, ◌^◌, Bool, IfOk, IsTrue};
 ghost use Rattle.mq_model.specs.Record.{Past};
 ghost use Rattle.mq_model.specs.Legality.{Legal};
-ghost use Rattle.mq_equivalence.specs.Equivalence.{Equivalent};
-ghost use Rattle.mq_equivalence.specs.Key.{key_of, key_within};
+ghost use Rattle.mq_equivalence.specs.Equivalence.{Agree, Equivalent};
+ghost use Rattle.mq_equivalence.specs.Key.{key_if, key_of, key_within};
 
-use crate::naming;
+use crate::naming::queues_by_name;
 use crate::parts::{number_bound, process_bound, push_processes, push_queues};
 use mq_model::journals::Journal;
 use std::alloc::{AllocError, Global};
 use std::cmp;
 
-/// Two legal journals with the same key are equivalent. The converse fails: the key depends on the
-/// greatest process that called and the greatest descriptor that was given, so two equivalent
-/// journals may have different keys.
+/// Two legal journals with the same key are equivalent, or agree if no receive is to come. The
+/// converse fails: the key depends on the greatest process that called and the greatest descriptor
+/// that was given, so two equivalent journals may have different keys.
 pub fn keys_tell()
-    ensures { (x y : Past) →
-        Legal x → Legal y → key_of x ≡ key_of y → Equivalent x y }
+    ensures { (received : Bool) (x y : Past) →
+        Legal x → Legal y → key_if received x ≡ key_if received y → Agree received x y }
 {}
 
 /// The key of the state that a journal leaves: its queues with their names, limits, messages, waits
@@ -28,25 +28,34 @@ pub fn keys_tell()
 pub fn key_of(alloc: Global, journal: &Journal) -> Result<Vec<u64>, AllocError>
     ensures { IfOk result (λ k. k.items ≡ key_of journal.now.records) }
 {
+    key_if(alloc, journal, true)
+}
+
+/// The same, if `received` is false for a journal after which no receive is to come: only the number
+/// of messages in a queue counts then.
+pub fn key_if(alloc: Global, journal: &Journal, received: bool) -> Result<Vec<u64>, AllocError>
+    ensures { IfOk result (λ k. k.items ≡ key_if received journal.now.records) }
+{
     let count = process_bound(journal);
     let width = number_bound(journal);
-    key_within(alloc, journal, count, width)
+    key_within(alloc, journal, received, count, width)
 }
 
 // The key, with what each process below `count` has, and holds under each number below `width`.
 fn key_within(
     alloc: Global,
     journal: &Journal,
+    received: bool,
     count: u64,
     width: u64,
 ) -> Result<Vec<u64>, AllocError>
     requires count { count ≤ 2 ^ 32 }
     requires width { width ≤ 2 ^ 32 }
-    ensures { IfOk result (λ k. k.items ≡ key_within count width journal.now.records) }
+    ensures { IfOk result (λ k. k.items ≡ key_within received count width journal.now.records) }
 {
-    let queues = naming::alive(alloc, journal)?;
+    let queues = queues_by_name(alloc, journal)?;
     let mut key = Vec::new(alloc);
-    push_queues(alloc, &mut key, journal, &queues)?;
+    push_queues(alloc, &mut key, journal, received, &queues)?;
     push_processes(alloc, &mut key, journal, &queues, count, width)?;
     Ok(key)
 }
@@ -59,7 +68,7 @@ pub fn are_equivalent(alloc: Global, x: &Journal, y: &Journal) -> Result<bool, A
 {
     let count = cmp::max(process_bound(x), process_bound(y));
     let width = cmp::max(number_bound(x), number_bound(y));
-    let one = key_within(alloc, x, count, width)?;
-    let other = key_within(alloc, y, count, width)?;
+    let one = key_within(alloc, x, true, count, width)?;
+    let other = key_within(alloc, y, true, count, width)?;
     Ok(one.as_slice() == other.as_slice())
 }

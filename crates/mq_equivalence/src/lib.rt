@@ -4,21 +4,23 @@
 //! functions that do nothing and take no time: the contract of each is the law.
 #![tactic(auto)]
 
-ghost use Rattle.std.specs.Prelude.{◌≡◌, ◌∷◌, ℕ, List, length};
+ghost use Rattle.std.specs.Prelude.{◌≡◌, ◌∷◌, ℕ, Bool, true, List, length};
 ghost use Rattle.mq_model.specs.Record.{Past};
 ghost use Rattle.mq_model.specs.Legality.{IsLegalNext, Legal, reply_to};
 ghost use Rattle.mq_model.specs.declared.entries.Call.{Call};
 ghost use Rattle.mq_equivalence.specs.Steps.{record_of, shape};
 ghost use Rattle.mq_equivalence.specs.Structure.{SameStructure, extended};
-ghost use Rattle.mq_equivalence.specs.Equivalence.{Equivalent, EquivalentUnder, StepsEquivalent};
+ghost use Rattle.mq_equivalence.specs.Equivalence.{AgreeUnder, Equivalent, EquivalentUnder, StepsAgree, StepsEquivalent, may_come};
 ghost use Rattle.mq_equivalence.specs.Runs.{Request, after_calls};
 
 pub mod keys;
+pub mod lines;
 mod naming;
 mod notices;
 pub mod parts;
-mod scans;
-mod standing;
+pub mod scans;
+pub mod short;
+pub mod standing;
 
 /// Equivalent journals stay equivalent under each of the 13 calls. A call may be made after both or
 /// after neither. It has the same reply up to sequence numbers, and as a receive or a collect it
@@ -26,6 +28,13 @@ mod standing;
 pub fn stays_equivalent()
     ensures { (to : ℕ → ℕ) (x y : Past) (p : ℕ) (call : Call) (given : List ℕ) →
         EquivalentUnder to x y → StepsEquivalent to x y p call given }
+{}
+
+/// Journals that agree if no receive is to come agree again after each other call.
+pub fn steps_agree()
+    ensures { (received : Bool) (to : ℕ → ℕ) (x y : Past) (p : ℕ) (call : Call) (given : List ℕ) →
+        AgreeUnder received to x y → may_come received call ≡ true →
+        StepsAgree received to x y p call given }
 {}
 
 /// If a sequence of calls may follow the first of two equivalent journals, it may follow the

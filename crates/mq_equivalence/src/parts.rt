@@ -4,16 +4,16 @@
 ghost use Rattle.std.specs.Prelude.{◌≡◌, ◌≤◌, ◌<◌, ◌^◌, ◌++◌, IfOk, None, Some, if◌then◌else◌, length, map};
 ghost use Rattle.std.specs.Option.{option_map};
 ghost use Rattle.mq_model.specs.Names.{attributes};
-ghost use Rattle.mq_model.specs.Descriptors.{alive, held, numbers_from};
+ghost use Rattle.mq_model.specs.Descriptors.{held, numbers_from};
 ghost use Rattle.mq_model.specs.Notices.{notices};
-ghost use Rattle.mq_equivalence.specs.Views.{answer, at, author, bound_name, sender, sent, told, unplaced};
-ghost use Rattle.mq_equivalence.specs.Key.{above_number, access_number, bytes_code, deadline_code, description_code, index_of, limits_code, listed, message_code, number, number_bound, optional, process_bound, process_code, queue_code, registered_code, sender_code, signed, test};
+ghost use Rattle.mq_equivalence.specs.Views.{answer, at, author, bound_name, sender, sent, told, unplaced, unsent};
+ghost use Rattle.mq_equivalence.specs.Key.{above_number, access_number, bytes_code, deadline_code, description_code, index_of, limits_code, listed, message_code, number, number_bound, optional, process_bound, process_code, queue_code, queues_by_name, registered_code, sender_code, signed, test};
 ghost use Rattle.mq_equivalence.specs.Kinds.{kind_code, place_code};
 
 use crate::naming::is_named;
 use crate::notices::notices;
 use crate::scans::{answered_by, wait_deadline, waiting_room};
-use crate::standing::{Kind, standing};
+use crate::standing::{Kind, in_order};
 use mq_checker::scan_names::{entry_at, held};
 use mq_checker::scan_notices::registered;
 use mq_model::entries::{Access, Attr, Deadline, Description, Entry, Registration, Reply};
@@ -158,6 +158,21 @@ fn push_sender(key: &mut Vec<u64>, journal: &Journal, place: u64) -> Result<(), 
     push_message(key, entry, payload)
 }
 
+// Appends the process whose send has waited since a place.
+fn push_unsent(key: &mut Vec<u64>, journal: &Journal, place: u64) -> Result<(), AllocError>
+    ensures { IfOk result (λ _. key.new.items ≡ key.old.items
+        ++ optional sender_code (option_map unsent (at sender journal.now.records place))) }
+{
+    if place >= journal.len() {
+        return push_number(key, 0);
+    }
+    let (entry, _) = journal.record(place);
+    push_number(key, 1)?;
+    push_number(key, u64::from(entry.process))?;
+    push_number(key, 0)?;
+    push_number(key, 0)
+}
+
 // Appends the receive that has waited since a place.
 fn push_receiver(key: &mut Vec<u64>, journal: &Journal, place: u64) -> Result<(), AllocError>
     ensures { IfOk result (λ _. key.new.items ≡ key.old.items
@@ -174,16 +189,19 @@ fn push_receiver(key: &mut Vec<u64>, journal: &Journal, place: u64) -> Result<()
 fn push_place(
     key: &mut Vec<u64>,
     journal: &Journal,
+    received: bool,
     kind: Kind,
     place: u64,
 ) -> Result<(), AllocError>
     ensures { IfOk result (λ _. key.new.items ≡ key.old.items
-        ++ place_code kind journal.now.records place) }
+        ++ place_code received kind journal.now.records place) }
 {
-    match kind {
-        Kind::Messages => push_sent(key, journal, place),
-        Kind::Senders => push_sender(key, journal, place),
-        Kind::Receivers => push_receiver(key, journal, place),
+    match (kind, received) {
+        (Kind::Messages, true) => push_sent(key, journal, place),
+        (Kind::Messages, false) => push_number(key, 0),
+        (Kind::Senders, true) => push_sender(key, journal, place),
+        (Kind::Senders, false) => push_unsent(key, journal, place),
+        (Kind::Receivers, true | false) => push_receiver(key, journal, place),
     }
 }
 
@@ -192,16 +210,17 @@ fn push_kind(
     alloc: Global,
     key: &mut Vec<u64>,
     journal: &Journal,
+    received: bool,
     kind: Kind,
     q: u64,
 ) -> Result<(), AllocError>
     ensures { IfOk result (λ _. key.new.items ≡ key.old.items
-        ++ kind_code kind journal.now.records q) }
+        ++ kind_code received kind journal.now.records q) }
 {
-    let places = standing(alloc, journal, kind, q)?;
+    let places = in_order(alloc, journal, kind, q)?;
     push_number(key, places.len() as u64)?;
     for place in &places {
-        push_place(key, journal, kind, *place)?;
+        push_place(key, journal, received, kind, *place)?;
     }
     Ok(())
 }
@@ -256,15 +275,17 @@ pub(crate) fn push_queue(
     alloc: Global,
     key: &mut Vec<u64>,
     journal: &Journal,
+    received: bool,
     q: u64,
 ) -> Result<(), AllocError>
-    ensures { IfOk result (λ _. key.new.items ≡ key.old.items ++ queue_code journal.now.records q) }
+    ensures { IfOk result (λ _. key.new.items ≡ key.old.items
+        ++ queue_code received journal.now.records q) }
 {
     push_name(key, journal, q)?;
     push_limits(key, attributes(journal, q))?;
-    push_kind(alloc, key, journal, Kind::Messages, q)?;
-    push_kind(alloc, key, journal, Kind::Senders, q)?;
-    push_kind(alloc, key, journal, Kind::Receivers, q)?;
+    push_kind(alloc, key, journal, received, Kind::Messages, q)?;
+    push_kind(alloc, key, journal, received, Kind::Senders, q)?;
+    push_kind(alloc, key, journal, received, Kind::Receivers, q)?;
     push_registration(key, registered(journal, journal.len(), q))
 }
 
@@ -388,7 +409,7 @@ pub(crate) fn push_process(
     p: u32,
 ) -> Result<(), AllocError>
     requires bound { width ≤ 2 ^ 32 }
-    requires queues { queues.now ≡ alive journal.now.records }
+    requires queues { queues.now ≡ queues_by_name journal.now.records }
     ensures { IfOk result (λ _. key.new.items ≡ key.old.items
         ++ process_code width journal.now.records p) }
 {
@@ -405,14 +426,15 @@ pub(crate) fn push_queues(
     alloc: Global,
     key: &mut Vec<u64>,
     journal: &Journal,
+    received: bool,
     queues: &[u64],
 ) -> Result<(), AllocError>
     ensures { IfOk result (λ _. key.new.items ≡ key.old.items
-        ++ listed (queue_code journal.now.records) queues.now) }
+        ++ listed (queue_code received journal.now.records) queues.now) }
 {
     push_number(key, queues.len() as u64)?;
     for q in queues {
-        push_queue(alloc, key, journal, *q)?;
+        push_queue(alloc, key, journal, received, *q)?;
     }
     Ok(())
 }
@@ -464,7 +486,7 @@ pub(crate) fn push_processes(
 ) -> Result<(), AllocError>
     requires count { count ≤ 2 ^ 32 }
     requires width { width ≤ 2 ^ 32 }
-    requires queues { queues.now ≡ alive journal.now.records }
+    requires queues { queues.now ≡ queues_by_name journal.now.records }
     ensures { IfOk result (λ _. key.new.items ≡ key.old.items
         ++ listed (process_code width journal.now.records) (numbers_from 0 count)) }
 {

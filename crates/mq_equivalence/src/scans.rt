@@ -1,4 +1,5 @@
-//! Waits and their answers, by a scan of the entries before a place.
+//! Waits and their answers, by a scan of the entries before a place: what a system that continues
+//! from a journal, and a key, need to know of them.
 #![tactic(auto, using(mq_model::proofs::Prefixes::prefixes))]
 
 ghost use Rattle.std.specs.Prelude.{◌≡◌, ◌≤◌, Some, length};
@@ -122,8 +123,8 @@ pub(crate) fn waiting_room(journal: &Journal, k: u64, p: u32) -> Option<u64>
     None
 }
 
-// The deadline of the open wait of process `p` before place `k`.
-pub(crate) fn wait_deadline(journal: &Journal, k: u64, p: u32) -> Option<Deadline>
+/// The deadline of the open wait of process `p` before place `k`.
+pub fn wait_deadline(journal: &Journal, k: u64, p: u32) -> Option<Deadline>
     requires { k ≤ length journal.now.records }
     ensures { result ≡ wait_deadline (first k journal.now.records) p }
 {

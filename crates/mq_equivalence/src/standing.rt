@@ -6,8 +6,9 @@ ghost use Rattle.std.specs.Option.{option_to_list};
 ghost use Rattle.mq_model.specs.Record.{first};
 ghost use Rattle.mq_model.specs.Messages.{blocks_receive, ends_send, ends_receive};
 ghost use Rattle.mq_checker.specs.TakenTable.{marked, unless_in};
-ghost use Rattle.mq_equivalence.specs.Kinds.{AreMarked, begins, ended, ends, may_begin, standing};
+ghost use Rattle.mq_equivalence.specs.Kinds.{AreMarked, begins, ended, ends, in_order, may_begin, standing};
 
+use crate::lines::{Order, lined};
 use mq_checker::scan_messages::{blocks_send, entered, enters};
 use mq_checker::scan_names::{entry_at, is_on};
 use mq_checker::taken::taken_by;
@@ -17,7 +18,7 @@ use std::alloc::{AllocError, Global};
 
 /// What a queue has.
 #[derive(Clone, Copy)]
-pub(crate) enum Kind {
+pub enum Kind {
     /// Its messages.
     Messages,
     /// The sends that wait for room.
@@ -26,7 +27,8 @@ pub(crate) enum Kind {
     Receivers,
 }
 
-fn blocks_receive(call: Call, reply: Reply) -> bool
+/// Whether the reply of a receive is that it waits.
+pub fn blocks_receive(call: Call, reply: Reply) -> bool
     ensures { result ≡ blocks_receive call reply }
 {
     match reply {
@@ -81,8 +83,8 @@ fn mark(marks: &mut [bool], place: Option<u64>)
     }
 }
 
-// Which places of a kind were removed.
-fn gone(alloc: Global, journal: &Journal, kind: Kind) -> Result<Vec<bool>, AllocError>
+/// Which places of a kind were removed.
+pub fn gone(alloc: Global, journal: &Journal, kind: Kind) -> Result<Vec<bool>, AllocError>
     ensures { IfOk result (λ marks.
         AreMarked (length journal.now.records) (ended kind journal.now.records) marks.items) }
 {
@@ -146,7 +148,8 @@ fn may_begin(kind: Kind, here: u64, entry: Entry) -> Option<u64>
     }
 }
 
-fn is_marked(marks: &[bool], m: u64) -> bool
+/// Whether the table has a place and says that it was removed.
+pub fn is_marked(marks: &[bool], m: u64) -> bool
     ensures { result ≡ get_or marks.now m false }
 {
     m < marks.len() as u64 && marks[m as usize]
@@ -170,8 +173,8 @@ fn stays(journal: &Journal, marks: &[bool], kind: Kind, i: u64, entry: Entry, q:
     begins(journal, kind, i, entry, q)
 }
 
-// Appends a place, if there is one.
-fn add(places: &mut Vec<u64>, place: Option<u64>) -> Result<(), AllocError>
+/// Appends a place, if there is one.
+pub fn add(places: &mut Vec<u64>, place: Option<u64>) -> Result<(), AllocError>
     ensures { IfOk result (λ _. places.new.items ≡ places.old.items ++ option_to_list place) }
 {
     if let Some(m) = place {
@@ -180,13 +183,8 @@ fn add(places: &mut Vec<u64>, place: Option<u64>) -> Result<(), AllocError>
     Ok(())
 }
 
-/// The places of this kind that queue `q` has, the latest first.
-pub(crate) fn standing(
-    alloc: Global,
-    journal: &Journal,
-    kind: Kind,
-    q: u64,
-) -> Result<Vec<u64>, AllocError>
+// The places of this kind that queue `q` has, the latest first.
+fn standing(alloc: Global, journal: &Journal, kind: Kind, q: u64) -> Result<Vec<u64>, AllocError>
     ensures { IfOk result (λ places. places.items ≡ standing kind journal.now.records q) }
 {
     let marks = gone(alloc, journal, kind)?;
@@ -197,4 +195,23 @@ pub(crate) fn standing(
         add(&mut places, found)?;
     }
     Ok(places)
+}
+
+/// The places of this kind that queue `q` has: messages in the order in which they will be
+/// received, and waits with the latest first.
+pub(crate) fn in_order(
+    alloc: Global,
+    journal: &Journal,
+    kind: Kind,
+    q: u64,
+) -> Result<Vec<u64>, AllocError>
+    ensures { IfOk result (λ places. places.items ≡
+        in_order kind journal.now.records (standing kind journal.now.records q)) }
+{
+    let places = standing(alloc, journal, kind, q)?;
+    match kind {
+        Kind::Messages => lined(alloc, journal, Order::Priority, &places),
+        Kind::Senders => Ok(places),
+        Kind::Receivers => Ok(places),
+    }
 }

@@ -1,9 +1,10 @@
 use Rattle.std.proofs.Common.{◌++◌, codes, map, reverse}
 use Rattle.mq_model.specs.Names.{attributes, name_of}
 use Rattle.mq_model.specs.Descriptors.{is_named}
-use Rattle.mq_model.specs.Messages.{present, waiting_receives, waiting_sends}
+use Rattle.mq_model.specs.Messages.{present, priority, waiting_receives, waiting_sends}
 use Rattle.mq_model.specs.Notices.{registered}
-use Rattle.journal_views.specs.State.{at, by_turn, in_json, label, listed, message, queue_head, receiver, registration, sender}
+use Rattle.mq_equivalence.specs.Views.{lined}
+use Rattle.journal_views.specs.State.{at, in_json, label, listed, message, queue_head, receiver, registration, sender}
 use Rattle.journal_views.proofs.Lists.{behind}
 use Rattle.journal_views.proofs.state.push_queue.Goals as goal
 
@@ -14,7 +15,7 @@ returns c =
     let q = c.args.q in
     let a1 = queue_head form q (name_of past q) (is_named past q) (attributes past q) in
     let a2 = label form (codes "messages") in
-    let a3 = listed form (map (at (message form) past) (by_turn past (present past q))) in
+    let a3 = listed form (map (at (message form) past) (lined (priority past) (present past q))) in
     let a4 = label form (codes "senders") in
     let a5 = listed form (map (at (sender form) past) (reverse (waiting_sends past q))) in
     let a6 = label form (codes "receivers") in

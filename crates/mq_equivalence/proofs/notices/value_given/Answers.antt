@@ -1,4 +1,4 @@
-use Rattle.std.proofs.Common.{◌≡◌, Some, None, arith}
+use Rattle.std.proofs.Common.{◌≡◌, None, arith}
 use Rattle.mq_model.specs.Record.{first, record_at}
 use Rattle.mq_model.proofs.Prefixes.{length-first, record_at-of_first}
 use Rattle.mq_equivalence.proofs.Appends.{nothing-beyond}

@@ -4,5 +4,5 @@ use Rattle.mq_equivalence.proofs.parts.push_queues.Given as goal
 
 abbrev pub invariant-loop-q : goal.invariant-loop-q
 invariant-loop-q l =
-    l.key.items ++ codes (queue_code l.journal.records) (drop l.q-index l.queues)
-    ≡ l.initial.key.items ++ codes (queue_code l.journal.records) l.queues
+    l.key.items ++ codes (queue_code l.received l.journal.records) (drop l.q-index l.queues)
+    ≡ l.initial.key.items ++ codes (queue_code l.received l.journal.records) l.queues
