@@ -5,3 +5,4 @@ pub mod Making
 pub mod Printing
 pub mod Likewise
 pub mod Starting
+pub mod Reporting

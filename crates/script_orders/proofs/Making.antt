@@ -225,7 +225,7 @@ turn-ready past phase p progress program t good ready h =
     goes (is_some (open_wait past p)) h
 
 -- a step of a process
-set-cases : {A : Type 0} (xs : List A) (c i : ℕ) (t s : A) → slice_get (slice_set xs c t) i ≡ Some s → ((i ≡ c) × (s ≡ t)) ⊎ (slice_get xs i ≡ Some s)
+pub set-cases : {A : Type 0} (xs : List A) (c i : ℕ) (t s : A) → slice_get (slice_set xs c t) i ≡ Some s → ((i ≡ c) × (s ≡ t)) ⊎ (slice_get xs i ≡ Some s)
 set-cases [] c i t s h = inr cc
 set-cases (x ∷ xs) zero zero t s h = inl (refl, cc)
 set-cases (x ∷ xs) zero (suc i) t s h = inr h

@@ -13,7 +13,7 @@ use Rattle.mq_equivalence.specs.Views.{Message, at, sent, told}
 use Rattle.mq_equivalence.specs.Steps.{message_given, record_of, shape}
 use Rattle.mq_equivalence.proofs.Calls.{collected-at, is_other, never-collected}
 use Rattle.mq_equivalence.proofs.Effects.{is_collected}
-use Rattle.mq_equivalence.specs.Equivalence.{EquivalentUnder, StepsEquivalent}
+use Rattle.mq_equivalence.specs.Equivalence.{AgreeUnder, StepsAgree}
 use Rattle.mq_equivalence.proofs.Going.{shape-outline}
 use Rattle.script_text.specs.Replies.{reply_line}
 use Rattle.script_text.specs.declared.reply.Outcome.TheVariants as outcomes
@@ -85,7 +85,7 @@ said-alike : (x y : Past) (p : Process) (a b : Reply) → is_collected a ≡ fal
 said-alike x y p a b not_a not_b e f =
     said-shape y p b not_b ∙ ap (λ (r : Reply). said_of p r (message_given y b)) e ∙ ap (λ (m : Option Message). said_of p (shape a) m) f ∙ sym (said-shape x p a not_a)
 
-collect-said : (to : ℕ → ℕ) (x y : Past) (r s : Record) (p : Process) → EquivalentUnder to x y → is_some (answered_by x p) ≡ true → is_some (answered_by y p) ≡ true →
+collect-said : {received : Bool} (to : ℕ → ℕ) (x y : Past) (r s : Record) (p : Process) → AgreeUnder received to x y → is_some (answered_by x p) ≡ true → is_some (answered_by y p) ≡ true →
     said_of_collect (s ∷ y) p (unwrap_or (answered_by y p) 0) ≡ said_of_collect (r ∷ x) p (unwrap_or (answered_by x p) 0)
 collect-said to x y r s p alike some_x some_y =
     let e = collected-at y s p some_y in
@@ -97,17 +97,17 @@ collect-said to x y r s p alike some_x some_y =
 
 -- a call ------------------------------------------------------------------------------------------------------------------
 
-pub shape-same : (to : ℕ → ℕ) (x y : Past) (p : Process) (call : Call) (given : List ℕ) → StepsEquivalent to x y p call given → shape (reply_to y p call given) ≡ shape (reply_to x p call given)
+pub shape-same : {received : Bool} (to : ℕ → ℕ) (x y : Past) (p : Process) (call : Call) (given : List ℕ) → StepsAgree received to x y p call given → shape (reply_to y p call given) ≡ shape (reply_to x p call given)
 shape-same to x y p call given steps = sym (shape-outline (reply_to y p call given)) ∙ ap shape steps.reply ∙ shape-outline (reply_to x p call given)
 
-other-said : (to : ℕ → ℕ) (x y : Past) (p : Process) (call : Call) (given : List ℕ) → is_other call ≡ true → StepsEquivalent to x y p call given →
+other-said : {received : Bool} (to : ℕ → ℕ) (x y : Past) (p : Process) (call : Call) (given : List ℕ) → is_other call ≡ true → StepsAgree received to x y p call given →
     said (record_of y p call given ∷ y) p (reply_to y p call given) ≡ said (record_of x p call given ∷ x) p (reply_to x p call given)
 other-said to x y p call given other steps =
     said-alike (record_of x p call given ∷ x) (record_of y p call given ∷ y) p (reply_to x p call given) (reply_to y p call given)
     (never-collected x p call given other) (never-collected y p call given other) (shape-same to x y p call given steps) steps.message
 
--- what is printed of a call after two equivalent journals
-pub call-said : (to : ℕ → ℕ) (x y : Past) (p : Process) (call : Call) (given : List ℕ) → EquivalentUnder to x y → may_call x p call ≡ true → may_call y p call ≡ true → StepsEquivalent to x y p call given →
+-- what is printed of a call after two journals that agree
+pub call-said : {received : Bool} (to : ℕ → ℕ) (x y : Past) (p : Process) (call : Call) (given : List ℕ) → AgreeUnder received to x y → may_call x p call ≡ true → may_call y p call ≡ true → StepsAgree received to x y p call given →
     said (record_of y p call given ∷ y) p (reply_to y p call given) ≡ said (record_of x p call given ∷ x) p (reply_to x p call given)
 call-said to x y p Collect given alike can_x can_y steps = collect-said to x y (record_of x p Collect given) (record_of y p Collect given) p alike can_x can_y
 call-said to x y p call given alike can_x can_y steps = other-said to x y p call given refl steps

@@ -11,3 +11,4 @@ pub mod PlayModel
 pub mod Report
 pub mod Orders
 pub mod Likeness
+pub mod Readback

@@ -5,6 +5,7 @@ pub mod keys;
 pub mod orders;
 pub mod plan;
 pub mod play;
+pub mod readback;
 pub mod report;
 pub mod said;
 pub mod turn;

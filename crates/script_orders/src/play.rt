@@ -1,15 +1,16 @@
 //! The processes of a script as a machine. A choice is the process that takes the next step, and
 //! the last choice begins the next phase.
 ghost use Rattle.mq_model.specs.Legality.{Legal};
+ghost use Rattle.script_orders.specs.Likeness.{receives, receives_from, step_receives, will_receive};
 ghost use Rattle.script_orders.specs.Orders.{AreLegal};
 ghost use Rattle.script_orders.specs.Stage.{first_stage, fresh, is_phase_over, next_stage, none_can_turn, one_waits, replies, seats_cleared, turn_of, wait_line_of, wait_of, waiting_lines, with_turn};
 ghost use Rattle.std.specs.Option.{option_map};
 ghost use Rattle.std.specs.Prelude.{◌≡◌, ◌≤◌, ◌<◌, ◌+◌, ◌^◌, [], ◌++◌, IfOk, OnOk, IsTrue, IsFalse, Some, None, is_some, length, replicate, vec_len, map};
 
 use crate::keys::push_seats;
-use crate::plan::Planned;
+use crate::plan::{Planned, Step};
 use crate::turn::{Seat, can_turn, turn};
-use mq_equivalence::keys::key_of;
+use mq_equivalence::keys::key_if;
 use mq_model::journals::Journal;
 use mq_state::trail::Trail;
 use schedules::keyed::Keyed;
@@ -291,6 +292,28 @@ impl Play {
     }
 }
 
+// Whether a step receives a message.
+fn step_receives(step: Step) -> bool
+    ensures { result ≡ step_receives step }
+{
+    match step {
+        Step::Call(call) => call.is_receive(),
+        Step::Refusal(_) | Step::Exit => false,
+    }
+}
+
+// Whether a line from this one on receives a message.
+fn receives_from(program: &[Planned], begun: usize) -> bool
+    ensures { result ≡ receives_from program.now begun }
+{
+    for i in begun..program.len() {
+        if step_receives(program[i].step) {
+            return true;
+        }
+    }
+    false
+}
+
 // With fewer lines left, trying all their interleavings takes less time than a key.
 const WORTH_A_KEY: usize = 4;
 
@@ -303,6 +326,29 @@ impl Play {
             left = left.saturating_add(lines.saturating_sub(self.seats[index].begun()));
         }
         left
+    }
+}
+
+impl Play {
+    // Whether the process at an index will make a receive that it has not begun.
+    fn will_receive(&self, index: usize) -> bool
+        requires { index < length self.now.programs }
+        ensures { result ≡ will_receive self.now index }
+    {
+        receives_from(&self.programs[index], self.seats[index].begun())
+    }
+
+    // Whether a receive is to come.
+    fn receives(&self) -> bool
+        ensures { result ≡ receives self.now }
+    {
+        let mut receives = false;
+        for index in 0..self.programs.len() {
+            if self.will_receive(index) {
+                receives = true;
+            }
+        }
+        receives
     }
 }
 
@@ -420,7 +466,7 @@ impl Keyed for Play {
         key.push(self.phase)?;
         key.push(self.seats.len() as u64)?;
         push_seats(&mut key, &self.seats)?;
-        let past = key_of(alloc, self.trail.journal())?;
+        let past = key_if(alloc, self.trail.journal(), self.receives())?;
         key.extend_from_slice(&past)?;
         Ok(Some(key))
     }
