@@ -17,7 +17,7 @@ use Rattle.script_orders.specs.Report.{report_text}
 use Rattle.script_orders.specs.Stage.{Stage, choice_count, next_stage, observed, stands_still}
 use Rattle.journal_tasks.specs.Start.{IsNoStart}
 use Rattle.journal_tasks.specs.declared.every_order.Ending.{Ending}
-use Rattle.journal_tasks.specs.declared.every_order.Ending.TheVariants.{Well, NoSuch, Deadlock, OutOfBudget}
+use Rattle.journal_tasks.specs.declared.every_order.Ending.TheVariants.{Well, NoSuch, NotReached, Deadlock, OutOfBudget}
 use Rattle.journal_tasks.specs.declared.every_order.Trial.{Trial}
 use Rattle.journal_tasks.specs.declared.start.NoStart.{NoStart}
 
@@ -25,6 +25,7 @@ use Rattle.journal_tasks.specs.declared.start.NoStart.{NoStart}
 abbrev pub ending_status : Ending → ℕ
 ending_status Well = 0
 ending_status NoSuch = 1
+ending_status NotReached = 6
 ending_status Deadlock = 5
 ending_status OutOfBudget = 6
 
@@ -66,7 +67,7 @@ ending_of collected =
     if has_deadlock collected.found.items then Deadlock else (if collected.complete then Well else OutOfBudget)
 
 abbrev pub ending_if : Collected → Option Witnessed → Ending
-ending_if collected None = NoSuch
+ending_if collected None = if collected.complete then NoSuch else NotReached
 ending_if collected (Some one) = ending_of collected
 
 -- the result, given whether the report or the journal with a number is wanted

@@ -1,5 +1,6 @@
 //! From the bytes of a journal to a short one that leaves an equivalent state.
 ghost use Rattle.std.specs.Prelude.{◌≡◌, ◌+◌, ℕ, List, IfOk, IsErrOf, MatchResult, Some, take};
+ghost use Rattle.text_io.specs.Sources.{HasFailed};
 ghost use Rattle.mq_equivalence.specs.Equivalence.{Equivalent};
 ghost use Rattle.journal_format.specs.JournalFault.{IsAtFault};
 ghost use Rattle.journal_format.specs.Lines.{ReadsUpTo};
@@ -10,7 +11,7 @@ use crate::fault::LogFault;
 use journal_format::input::read_input;
 use journal_format::lines::MOST_BYTES;
 use journal_format::text::write_journal;
-use mq_equivalence::keys::are_equivalent;
+use mq_equivalence::short::equivalent_short;
 use mq_model::journals::Journal;
 use mq_model::limits::PROCESSES;
 use mq_state::books::Books;
@@ -18,8 +19,9 @@ use mq_state::replay::replay;
 use mq_state::rewriting::Unwritten;
 use std::alloc::{AllocError, Global};
 use std::fmt;
-use std::io::{Read, Write};
+use std::io::Write;
 use text_io::output::write_all;
+use text_io::sources::ByteSource;
 
 /// Why there is no short journal.
 #[derive(Clone, Copy, Debug, PartialEq, Eq)]
@@ -55,7 +57,7 @@ impl fmt::Display for NoShort {
 /// - `LogFault::Input`: a read failed. Nothing is written.
 /// - `LogFault::Output`: a write failed. A prefix of a short journal is written.
 /// - `LogFault::NoMemory`: memory was refused. Nothing is written.
-pub fn compact_journal<R: Read, W: Write>(
+pub fn compact_journal<R: ByteSource, W: Write>(
     alloc: Global,
     input: &mut R,
     output: &mut W,
@@ -73,6 +75,8 @@ pub fn compact_journal<R: Read, W: Write>(
     ensures no_memory { IsErrOf result NoMemory → W.contents output.new ≡ W.contents output.old }
     ensures unwritten { (line : ℕ) → IsErrOf result (BadLine line) →
         W.contents output.new ≡ W.contents output.old }
+    ensures cause { IsErrOf result Input → HasFailed (R.failed input.new) }
+    ensures well { (IsErrOf result Input → ⊥) → R.failed input.new ≡ R.failed input.old }
 {
     let journal = read_input(alloc, input)?;
     match short_of(alloc, journal)? {
@@ -96,14 +100,8 @@ fn short_of(alloc: Global, journal: Journal) -> Result<Result<Journal, NoShort>,
     let Ok(books) = Books::resume(alloc, PROCESSES, journal) else {
         return Err(AllocError);
     };
-    match books.rewritten(alloc) {
-        Ok(short) => {
-            if are_equivalent(alloc, &books.into_journal(), &short)? {
-                Ok(Ok(short))
-            } else {
-                Ok(Err(NoShort::Unexpected))
-            }
-        }
+    match equivalent_short(alloc, &books) {
+        Ok(short) => Ok(Ok(short)),
         Err(Unwritten::NoMemory) => Err(AllocError),
         Err(Unwritten::Answered) => Ok(Err(NoShort::Served)),
         Err(Unwritten::Unexpected) => Ok(Err(NoShort::Unexpected)),

@@ -1,10 +1,11 @@
 //! From the bytes of a script to the outcomes of all interleavings of its calls.
 ghost use Rattle.std.specs.Prelude.{◌≡◌, ◌≢◌, ◌≤◌, ◌+◌, ℕ, List, IfErr, IfOk, IsErrOf, IsSome, OnOk, Some, Ok, Err, Vec, length, take};
+ghost use Rattle.text_io.specs.Sources.{HasFailed};
 ghost use Rattle.std.specs.Option.{option_map};
 ghost use Rattle.std.specs.List.{All};
 ghost use Rattle.script_runner.specs.RunFault.{IsLate, StopsAt};
 ghost use Rattle.script_runner.specs.declared.fault.RunFault.{RunFault};
-ghost use Rattle.script_runner.specs.declared.fault.RunFault.TheVariants.{BadCall, Deadlock, Output};
+ghost use Rattle.script_runner.specs.declared.fault.RunFault.TheVariants.{BadCall, Deadlock, Input, Output};
 ghost use Rattle.script_text.specs.Script.{Whole, said_script, script_written};
 ghost use Rattle.mq_model.specs.Legality.{Legal};
 ghost use Rattle.schedules.specs.Schedules.{after};
@@ -23,9 +24,10 @@ use script_orders::report::report_text;
 use script_runner::RunFault;
 use script_text::script::{MOST_BYTES, Script, read_script};
 use std::alloc::{AllocError, Global};
-use std::io::{Read, Write};
+use std::io::Write;
 use text_io::input::read_all;
 use text_io::output::write_all;
+use text_io::sources::ByteSource;
 
 /// How the interleavings of a script are tried.
 #[derive(Clone, Copy, Debug, PartialEq, Eq)]
@@ -50,6 +52,8 @@ pub enum Ending {
     Well,
     /// No outcome or deadlock has the given number.
     NoSuch,
+    /// The budget was used up before an outcome or deadlock of the given number was found.
+    NotReached,
     /// Some interleaving deadlocks.
     Deadlock,
     /// The budget was used up, and no interleaving that was tried deadlocks.
@@ -64,6 +68,7 @@ impl Ending {
         match self {
             Ending::Well => 0,
             Ending::NoSuch => 1,
+            Ending::NotReached => 6,
             Ending::Deadlock => 5,
             Ending::OutOfBudget => 6,
         }
@@ -74,7 +79,7 @@ impl Ending {
 /// report of the outcomes, or the journal of an interleaving with a given outcome or deadlock.
 /// Fails as `record_script`, except that a deadlock is no error here. With `RunFault::Output` a
 /// prefix is written, and with the other errors nothing.
-pub fn try_orders<R: Read, W: Write>(
+pub fn try_orders<R: ByteSource, W: Write>(
     alloc: Global,
     input: &mut R,
     output: &mut W,
@@ -95,6 +100,8 @@ pub fn try_orders<R: Read, W: Write>(
         script_written (take (MOST_BYTES + 1) all) ≡ Ok script →
         IfOk result (λ ending. Answers script trial ending (W.contents output.old)
         (W.contents output.new)) }
+    ensures cause { IsErrOf result Input → HasFailed (R.failed input.new) }
+    ensures well { (IsErrOf result Input → ⊥) → R.failed input.new ≡ R.failed input.old }
 {
     let text = read_all(alloc, input, MOST_BYTES)?;
     let script = read_script(alloc, text.as_slice())?;
@@ -104,7 +111,7 @@ pub fn try_orders<R: Read, W: Write>(
 /// Tries every interleaving of the calls of a script as `try_orders` does, in the state that a
 /// journal leaves. If the script cannot continue from the journal, it writes nothing and returns
 /// the reason.
-pub fn try_orders_after<R: Read, W: Write>(
+pub fn try_orders_after<R: ByteSource, W: Write>(
     alloc: Global,
     journal: Journal,
     input: &mut R,
@@ -127,6 +134,8 @@ pub fn try_orders_after<R: Read, W: Write>(
         script_written (take (MOST_BYTES + 1) all) ≡ Ok script →
         IfOk result (λ answer. AnswersOrNot journal.records script trial answer
         (W.contents output.old) (W.contents output.new)) }
+    ensures cause { IsErrOf result Input → HasFailed (R.failed input.new) }
+    ensures well { (IsErrOf result Input → ⊥) → R.failed input.new ≡ R.failed input.old }
 {
     let text = read_all(alloc, input, MOST_BYTES)?;
     let script = read_script(alloc, text.as_slice())?;
@@ -239,7 +248,13 @@ fn answer_ending(collected: &Collected, journal: Option<u64>) -> Ending
     ensures { result ≡ answer_ending journal collected.now }
 {
     match journal {
-        Some(number) if numbered(&collected.found, number).is_none() => Ending::NoSuch,
+        Some(number) if numbered(&collected.found, number).is_none() => {
+            if collected.complete {
+                Ending::NoSuch
+            } else {
+                Ending::NotReached
+            }
+        }
         _ => ending_of(collected),
     }
 }

@@ -16,7 +16,8 @@ Exit status:
   4  memory was refused
   5  run, history, resume: the script is deadlocked; orders: an interleaving
      deadlocks; judge: the budget was used up
-  6  orders: the budget was used up, and no deadlock was found";
+  6  orders: the budget was used up, and no deadlock was found, or no
+     outcome of the number that --journal wants";
 
 /// The command line, as `clap` describes it.
 pub fn command<'a>(alloc: Global) -> Result<Command<'a>, AllocError> {

@@ -334,8 +334,10 @@ fn orders<R: Read>(
 }
 
 fn ended(rt: &impl Eprint, file: Option<&str>, ending: Ending) -> ExitCode {
-    if ending == Ending::NoSuch {
-        say(rt, file, &"no outcome of this number");
+    match ending {
+        Ending::NoSuch => say(rt, file, &"no outcome of this number"),
+        Ending::NotReached => say(rt, file, &"no outcome of this number within the budget"),
+        Ending::Well | Ending::Deadlock | Ending::OutOfBudget => {}
     }
     ExitCode::from(ending.status())
 }

@@ -184,7 +184,7 @@ fn a_number_that_nothing_has_writes_nothing(rt: HostRuntime) {
         journal: Some(4),
         budget: 1,
     };
-    is_tried(&rt, rt.alloc(), SCRIPT, late, Ending::NoSuch, "");
+    is_tried(&rt, rt.alloc(), SCRIPT, late, Ending::NotReached, "");
 }
 
 // Scripts with the same outcome in every interleaving, and what is written.
@@ -444,11 +444,45 @@ fn reads_and_writes_that_fail_end_the_trial(rt: HostRuntime) {
     }
 }
 
+// Scripts whose interleavings leave few states, and a budget that is enough for these.
+static FEW_STATES: [(&str, u64); 2] = [
+    (
+        "processes 6\n\
+         1 open /a bcn 4 8\n2 open /b bcn 4 8\n3 open /c bcn 4 8\n\
+         4 open /d bcn 4 8\n5 open /e bcn 4 8\n6 open /f bcn 4 8\n\
+         --\n\
+         1 send 0 0 x\n2 send 0 0 x\n3 send 0 0 x\n4 send 0 0 x\n5 send 0 0 x\n6 send 0 0 x\n",
+        5_000,
+    ),
+    (
+        "processes 3\n\
+         1 open /q bcn 12 8\n\
+         --\n\
+         2 open /q b\n3 open /q b\n\
+         --\n\
+         1 send 0 0 a\n1 send 0 0 b\n1 send 0 0 c\n1 send 0 0 d\n\
+         2 send 0 0 e\n2 send 0 0 f\n2 send 0 0 g\n2 send 0 0 h\n\
+         3 send 0 0 i\n3 send 0 0 j\n3 send 0 0 k\n3 send 0 0 l\n\
+         --\n\
+         1 unlink /q\n",
+        5_000,
+    ),
+];
+
+#[test]
+fn neither_creation_order_nor_unread_messages_make_states(rt: HostRuntime) {
+    for (script, budget) in FEW_STATES {
+        let (outcome, _) = tried(rt.alloc(), script.as_bytes(), within(budget));
+        assert_eq!(rt; outcome, Ok(Ending::Well), "{script}");
+    }
+}
+
 #[test]
 fn endings_have_their_statuses(rt: HostRuntime) {
     for (ending, status) in [
         (Ending::Well, 0),
         (Ending::NoSuch, 1),
+        (Ending::NotReached, 6),
         (Ending::Deadlock, 5),
         (Ending::OutOfBudget, 6),
     ] {
