@@ -51,7 +51,12 @@ fn bytes_until(alloc: Global, fails_at: usize, most: usize) -> (Result<Vec<u8>, 
 fn all_is_read_unless_a_read_fails(rt: HostRuntime) -> Result<(), Fail> {
     for fails_at in 1..=4 {
         let (read, failed) = bytes_until(rt.alloc(), fails_at, 256);
-        same(&rt, read.err(), Some(ReadFault::Failed), "a read that fails");
+        same(
+            &rt,
+            read.err(),
+            Some(ReadFault::Failed),
+            "a read that fails",
+        );
         assert!(rt; failed, "{fails_at}");
     }
     for most in [3, 4, 256, usize::MAX] {
