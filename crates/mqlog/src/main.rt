@@ -5,6 +5,7 @@
 mod command;
 mod pages;
 mod progress;
+mod scripts;
 mod task;
 #[cfg(test)]
 mod tests;
@@ -22,7 +23,8 @@ use mq::Guarded;
 use mq_model::journals::Journal;
 use pages::{head_of, judge_to_page};
 use progress::with_progress;
-use script_runner::{Plain, RunFault};
+use script_runner::Plain;
+use scripts::{script_of, stopped};
 use std::alloc::{Alloc, Global};
 use std::fmt::Display;
 use std::io::{Eprint, ErrorKind, Input, Print, Read};
@@ -33,6 +35,7 @@ use std::thread::Threads;
 use std::time::Clock;
 use std::{env, fs, io};
 use task::Task;
+use text_io::sources::Memory;
 
 fn main(rt: HostRuntime) -> ExitCode {
     match words_of(&rt) {
@@ -151,11 +154,6 @@ fn failed(rt: &impl Eprint, file: Option<&str>, fault: LogFault) -> ExitCode {
     ExitCode::from(fault.status())
 }
 
-fn stopped(rt: &impl Eprint, file: Option<&str>, fault: RunFault) -> ExitCode {
-    say(rt, file, &fault);
-    ExitCode::from(fault.status())
-}
-
 fn check<R: Read>(
     rt: &(impl Print + Eprint + AllocGlobal),
     file: Option<&str>,
@@ -248,16 +246,20 @@ fn run<R: Read>(
     file: Option<&str>,
     input: &mut R,
 ) -> ExitCode {
+    let text = match script_of(rt, file, input) {
+        Ok(text) => text,
+        Err(status) => return status,
+    };
     let outcome = record_script::<FastMutex<Guarded>, _, _, _, _>(
         rt,
         rt.alloc(),
-        input,
+        &mut Memory { rest: &text },
         &mut io::writer(rt),
         &Plain,
     );
     match outcome {
         Ok(()) => ExitCode::SUCCESS,
-        Err(fault) => stopped(rt, file, fault),
+        Err(fault) => stopped(rt, file, &text, fault),
     }
 }
 
@@ -290,11 +292,15 @@ fn go_on<R: Read>(
     script: Option<&str>,
     input: &mut R,
 ) -> ExitCode {
+    let text = match script_of(rt, script, input) {
+        Ok(text) => text,
+        Err(status) => return status,
+    };
     let outcome = resume_script::<FastMutex<Guarded>, _, _, _, _>(
         rt,
         rt.alloc(),
         journal,
-        input,
+        &mut Memory { rest: &text },
         &mut io::writer(rt),
         &Plain,
     );
@@ -304,7 +310,7 @@ fn go_on<R: Read>(
             say(rt, past, &why);
             ExitCode::from(1)
         }
-        Err(fault) => stopped(rt, script, fault),
+        Err(fault) => stopped(rt, script, &text, fault),
     }
 }
 
@@ -313,10 +319,19 @@ fn history<R: Read>(
     file: Option<&str>,
     input: &mut R,
 ) -> ExitCode {
-    let mut output = io::writer(rt);
-    match record_history::<FastMutex<Guarded>, _, _, _>(rt, rt.alloc(), input, &mut output) {
+    let text = match script_of(rt, file, input) {
+        Ok(text) => text,
+        Err(status) => return status,
+    };
+    let outcome = record_history::<FastMutex<Guarded>, _, _, _>(
+        rt,
+        rt.alloc(),
+        &mut Memory { rest: &text },
+        &mut io::writer(rt),
+    );
+    match outcome {
         Ok(()) => ExitCode::SUCCESS,
-        Err(fault) => stopped(rt, file, fault),
+        Err(fault) => stopped(rt, file, &text, fault),
     }
 }
 
@@ -326,10 +341,15 @@ fn orders<R: Read>(
     input: &mut R,
     trial: Trial,
 ) -> ExitCode {
-    let search = || try_orders(rt.alloc(), input, &mut io::writer(rt), trial);
+    let text = match script_of(rt, file, input) {
+        Ok(text) => text,
+        Err(status) => return status,
+    };
+    let mut script = Memory { rest: &text };
+    let search = || try_orders(rt.alloc(), &mut script, &mut io::writer(rt), trial);
     match with_progress(rt, "orders", search) {
         Ok(ending) => ended(rt, file, ending),
-        Err(fault) => stopped(rt, file, fault),
+        Err(fault) => stopped(rt, file, &text, fault),
     }
 }
 
@@ -372,13 +392,18 @@ fn orders_from<J: Read, R: Read>(
         Ok(journal) => journal,
         Err(fault) => return failed(rt, past, LogFault::from(fault)),
     };
-    let search = || try_orders_after(rt.alloc(), journal, input, &mut io::writer(rt), trial);
+    let text = match script_of(rt, file, input) {
+        Ok(text) => text,
+        Err(status) => return status,
+    };
+    let mut script = Memory { rest: &text };
+    let search = || try_orders_after(rt.alloc(), journal, &mut script, &mut io::writer(rt), trial);
     match with_progress(rt, "orders", search) {
         Ok(Ok(ending)) => ended(rt, file, ending),
         Ok(Err(why)) => {
             say(rt, past, &why);
             ExitCode::from(1)
         }
-        Err(fault) => stopped(rt, file, fault),
+        Err(fault) => stopped(rt, file, &text, fault),
     }
 }

@@ -5,6 +5,7 @@ pub mod clock;
 pub mod command;
 pub mod fault;
 pub mod line;
+pub mod reasons;
 pub mod reply;
 pub mod script;
 pub mod text;

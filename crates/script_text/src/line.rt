@@ -119,7 +119,7 @@ pub fn line_of<'s>(
     Some(Line::Call(call_of(processes, number, time.moment, words)?))
 }
 
-fn is_skipped(words: &[&[u8]]) -> bool
+pub(crate) fn is_skipped(words: &[&[u8]]) -> bool
     ensures { result ≡ is_skipped (map (λ word. word.now) words.now) }
 {
     match words {
@@ -137,7 +137,7 @@ fn is_phase_end(words: &[&[u8]]) -> bool
     }
 }
 
-fn is_clock(words: &[&[u8]]) -> bool
+pub(crate) fn is_clock(words: &[&[u8]]) -> bool
     ensures { result ≡ is_clock (map (λ word. word.now) words.now) }
 {
     match words {
@@ -147,7 +147,7 @@ fn is_clock(words: &[&[u8]]) -> bool
 }
 
 // The time that a clock line sets.
-fn clock_of(words: &[&[u8]]) -> Option<Deadline>
+pub(crate) fn clock_of(words: &[&[u8]]) -> Option<Deadline>
     ensures written { result ≡ clock_written (map (λ word. word.now) words.now) }
     ensures moment { IfSome result (λ moment. is_moment moment ≡ true) }
 {
@@ -168,7 +168,7 @@ fn moment_of(sec: &[u8], nsec: &[u8]) -> Option<Deadline>
     Some(moment)
 }
 
-fn processes_of(words: &[&[u8]]) -> Option<u32>
+pub(crate) fn processes_of(words: &[&[u8]]) -> Option<u32>
     ensures written { result ≡ processes_written (map (λ word. word.now) words.now) }
     ensures bounds { IfSome result (λ n. (1 ≤ n) × (n ≤ 32)) }
 {

@@ -13,6 +13,8 @@ mod generated;
 #[cfg(test)]
 mod interleavings;
 #[cfg(test)]
+mod malformed;
+#[cfg(test)]
 mod orders;
 #[cfg(test)]
 mod program;

@@ -1,0 +1,49 @@
+//! Scripts that a task reads, and what is said of those that are malformed.
+
+use crate::say;
+use script_runner::RunFault;
+use script_text::reasons::reason_of;
+use script_text::script::MOST_BYTES;
+use std::alloc::AllocGlobal;
+use std::io::{Eprint, Read};
+use std::process::ExitCode;
+use text_io::input::read_all;
+
+/// The bytes of a script, up to one more than it may have. If they can't be read, it says so, and
+/// returns the status with which the program ends.
+pub fn script_of<R: Read>(
+    rt: &(impl Eprint + AllocGlobal),
+    file: Option<&str>,
+    input: &mut R,
+) -> Result<Vec<u8>, ExitCode> {
+    read_all(rt.alloc(), input, MOST_BYTES).map_err(|fault| stopped(
+        rt,
+        file,
+        &[],
+        RunFault::from(fault),
+    ))
+}
+
+/// Says why the script with this text was not run to its end, and of a malformed line also what is
+/// wrong with it.
+pub fn stopped(
+    rt: &(impl Eprint + AllocGlobal),
+    file: Option<&str>,
+    text: &[u8],
+    fault: RunFault,
+) -> ExitCode {
+    match reason_text(rt, text, &fault) {
+        Some(reason) => say(rt, file, &reason),
+        None => say(rt, file, &fault),
+    }
+    ExitCode::from(fault.status())
+}
+
+// The fault with the reason, if a line is malformed and there is memory for it.
+fn reason_text(rt: &impl AllocGlobal, text: &[u8], fault: &RunFault) -> Option<String> {
+    let RunFault::BadCall(line) = fault else {
+        return None;
+    };
+    let reason = reason_of(rt.alloc(), text, *line).ok()?;
+    format!(in rt.alloc(); "{fault}: {reason}").ok()
+}
