@@ -314,16 +314,19 @@ fn receives_from(program: &[Planned], begun: usize) -> bool
     false
 }
 
-// With fewer lines left, trying all their interleavings takes less time than a key.
+// With fewer steps left, trying all their interleavings takes less time than a key.
 const WORTH_A_KEY: usize = 4;
 
 impl Play {
-    // How many lines the processes have not begun.
-    fn lines_left(&self) -> usize {
+    // How many lines the processes have not begun, and how many waits have not ended.
+    fn steps_left(&self) -> usize {
         let mut left: usize = 0;
         for index in 0..self.programs.len() {
             let lines = self.programs[index].len();
-            left = left.saturating_add(lines.saturating_sub(self.seats[index].begun()));
+            let ends = usize::from(self.trail.waits(index as u32 + 1));
+            left = left
+                .saturating_add(lines.saturating_sub(self.seats[index].begun()))
+                .saturating_add(ends);
         }
         left
     }
@@ -459,7 +462,7 @@ impl Keyed for Play {
     ghost IsKey = { IsStageKey };
 
     fn key(&self, alloc: Global) -> Result<Option<Vec<u64>>, AllocError> {
-        if self.lines_left() < WORTH_A_KEY {
+        if self.steps_left() < WORTH_A_KEY {
             return Ok(None);
         }
         let mut key = Vec::new(alloc);
