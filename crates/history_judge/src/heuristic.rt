@@ -4,12 +4,16 @@
 //! proved about it here, except that the search ends and is safe.
 use crate::contents::{Change, Queues, mixed};
 use crate::tasks::{Effect, Task, Tasks};
+use crate::tightening::tightened;
 use crate::windows::{Guess, Windows};
 use std::alloc::{AllocError, Global};
 use std::collections::HashSet;
 
 // The maximum number of constraints that are learned.
-const MOST_CONSTRAINTS: usize = 40;
+const MOST_CONSTRAINTS: usize = 100;
+
+// How far the search for what holds up a call goes: that call, what holds it up, and so on.
+const DEPTH: usize = 5;
 
 // How many calls of a process, from its next one on, are searched for those that must come first.
 const AHEAD: usize = 32;
@@ -30,10 +34,18 @@ pub struct Heuristic {
 // A message: its kind, and how many of that kind were sent before it.
 type Numbered = (usize, usize);
 
-// What was learned at a dead end: the message `first` must be sent before `other`.
+// What takes effect: the send of a message; or a call of a process, with how many of its calls come
+// before it.
+#[derive(Clone, Copy, PartialEq, Eq)]
+enum Event {
+    Send(Numbered),
+    Call(usize, usize),
+}
+
+// What was learned at a dead end: `first` must take effect before the message `other` is sent.
 #[derive(Clone, Copy, PartialEq, Eq)]
 struct LearnedConstraint {
-    first: Numbered,
+    first: Event,
     other: Numbered,
 }
 
@@ -74,6 +86,7 @@ impl Heuristic {
             queues,
             kinds,
         } = tasks;
+        let tasks = tightened(alloc, tasks, kinds)?;
         let windows = Windows::of(alloc, &tasks, kinds)?;
         let made = vec![in alloc; 0usize; tasks.len()]?;
         let sent = vec![in alloc; 0usize; kinds]?;
@@ -160,7 +173,9 @@ impl Heuristic {
                 None => {
                     if path.len() > longest {
                         longest = path.len();
-                        constraint = self.constraint(alloc)?;
+                        if let Some(learned) = self.constraint(alloc)? {
+                            constraint = Some(learned);
+                        }
                     }
                     let _added = dead.insert(self.digest())?;
                     let Some(last) = path.pop() else {
@@ -291,26 +306,36 @@ impl Heuristic {
     fn must_wait(&self, task: &Task) -> bool {
         let received = self.received_from(task);
         self.is_too_early(task)
-            || (0..self.made.len()).any(|process| {
-                self.ahead(process).iter().any(|one| {
-                    one.begin <= task.end
-                        && one.queue == task.queue
-                        && self.comes_first(one, task, received)
-                })
-            })
+            || (0..self.made.len()).any(|process| self.goes_first(process, task, received))
     }
 
-    // Whether a message that must be sent before this one, by a learned constraint, has not been
-    // sent.
+    // Whether a call of the process must come before a send whose message is not received before
+    // the time `received`.
+    fn goes_first(&self, process: usize, task: &Task, received: u64) -> bool {
+        self.ahead(process).iter().any(|one| {
+            one.begin <= task.end
+                && one.queue == task.queue
+                && self.comes_first(one, task, received)
+        })
+    }
+
+    // Whether something that must take effect before this send, by a learned constraint, has not.
     fn is_too_early(&self, task: &Task) -> bool {
         let number = (task.kind, self.sent_of(task));
-        self.constraints.iter().any(|constraint| {
-            constraint.other == number
-                && match self.sent.get(constraint.first.0) {
-                    Some(sent) => *sent <= constraint.first.1,
-                    None => false,
-                }
-        })
+        self.constraints.iter().any(|constraint| constraint.other == number
+            && self.is_to_come(constraint.first))
+    }
+
+    // Whether this has not taken effect.
+    fn is_to_come(&self, event: Event) -> bool {
+        let (count, before) = match event {
+            Event::Send((kind, before)) => (self.sent.get(kind), before),
+            Event::Call(process, before) => (self.made.get(process), before),
+        };
+        match count {
+            Some(count) => *count <= before,
+            None => false,
+        }
     }
 
     // Whether a call must come before a send whose message is not received before the time
@@ -363,25 +388,185 @@ impl Heuristic {
         self.sent.get(task.kind).copied().unwrap_or(0)
     }
 
-    // What can be learned from the call that has to end next and cannot come next.
+    // What can be learned from the call that has to end next and cannot come next, or else from
+    // those that hold it up.
     fn constraint(&self, alloc: Global) -> Result<Option<LearnedConstraint>, AllocError> {
         let limit = self.limit();
+        let mut held = Vec::new(alloc);
         for process in 0..self.made.len() {
             if let Some(task) = self.next(process)
                 && task.end == limit
+                && held.is_empty()
             {
-                let messages = self.numbered(alloc, task.queue)?;
-                return Ok(match task.effect {
-                    Effect::Receives => self.in_front(&messages, task.kind),
-                    Effect::Sends => match self.room_in_front(&messages, task.queue, limit) {
-                        Some(constraint) => Some(constraint),
-                        None => self.room_behind(&messages, task, limit),
-                    },
-                    _ => None,
-                });
+                held.push(process)?;
             }
         }
+        for _ in 0..DEPTH {
+            let best = self.best_constraint(alloc, &held, limit)?;
+            if best.is_some() {
+                return Ok(best);
+            }
+            held = self.holding_up(alloc, &held)?;
+        }
         Ok(None)
+    }
+
+    // What can be learned from the next calls of these processes: from the one that ends first, of
+    // those that teach something.
+    fn best_constraint(
+        &self,
+        alloc: Global,
+        processes: &[usize],
+        limit: u64,
+    ) -> Result<Option<LearnedConstraint>, AllocError> {
+        let mut best = None;
+        let mut least = u64::MAX;
+        for process in processes {
+            if let Some(task) = self.next(*process)
+                && task.end < least
+                && let Some(constraint) = self.constraint_of(alloc, *process, task, limit)?
+            {
+                least = task.end;
+                best = Some(constraint);
+            }
+        }
+        Ok(best)
+    }
+
+    // The processes that hold up the next calls of these.
+    fn holding_up(&self, alloc: Global, processes: &[usize]) -> Result<Vec<usize>, AllocError> {
+        let mut others = Vec::new(alloc);
+        for process in processes {
+            if let Some(task) = self.next(*process) {
+                for other in 0..self.made.len() {
+                    if other != *process && !others.contains(&other) && self.holds_up(other, task) {
+                        others.push(other)?;
+                    }
+                }
+            }
+        }
+        Ok(others)
+    }
+
+    // Whether a process has a call to come before which this one cannot take effect.
+    fn holds_up(&self, process: usize, task: &Task) -> bool {
+        match task.effect {
+            Effect::Receives => self.will_send(process, task.kind),
+            Effect::Sends => {
+                self.goes_first(process, task, self.received_from(task))
+                    || self.must_go_first(process, task)
+            }
+            _ => false,
+        }
+    }
+
+    fn will_send(&self, process: usize, kind: usize) -> bool {
+        self.ahead(process)
+            .iter()
+            .any(|one| one.effect == Effect::Sends && one.kind == kind)
+    }
+
+    // Whether a call of the process must come before this send by a learned constraint.
+    fn must_go_first(&self, process: usize, task: &Task) -> bool {
+        let number = (task.kind, self.sent_of(task));
+        self.constraints.iter().any(|constraint| {
+            constraint.other == number
+                && self.is_to_come(constraint.first)
+                && match constraint.first {
+                    Event::Send((kind, _)) => self.will_send(process, kind),
+                    Event::Call(one, _) => one == process,
+                }
+        })
+    }
+
+    // What can be learned from a call that cannot come next.
+    fn constraint_of(
+        &self,
+        alloc: Global,
+        process: usize,
+        task: &Task,
+        limit: u64,
+    ) -> Result<Option<LearnedConstraint>, AllocError> {
+        let messages = self.numbered(alloc, task.queue)?;
+        Ok(match task.effect {
+            Effect::Receives => match self.in_front(&messages, task.kind) {
+                Some(constraint) => Some(constraint),
+                None => self.before_sends(&messages, process, Some(task.kind)),
+            },
+            Effect::FindsEmpty => self.before_sends(&messages, process, None),
+            Effect::Sends if !self.queues.allow(task) => self.room_for(&messages, task, limit),
+            _ => None,
+        })
+    }
+
+    // What can be learned from a send that finds no room.
+    fn room_for(
+        &self,
+        messages: &[(u32, Numbered)],
+        task: &Task,
+        limit: u64,
+    ) -> Option<LearnedConstraint> {
+        if let Some(constraint) = self.room_in_front(messages, task.queue, limit) {
+            return Some(constraint);
+        }
+        if let Some(constraint) = self.room_behind(messages, task, limit) {
+            return Some(constraint);
+        }
+        self.room_before(messages, task.queue, limit)
+    }
+
+    // A call that does not find the messages in front of this kind, or any message, must take
+    // effect before one of them is sent: the one that is received last.
+    fn before_sends(
+        &self,
+        messages: &[(u32, Numbered)],
+        process: usize,
+        kind: Option<usize>,
+    ) -> Option<LearnedConstraint> {
+        let made = self.made.get(process).copied()?;
+        let count = match kind {
+            Some(kind) => messages.iter().position(|message| (message.1).0 == kind)?,
+            None => messages.len(),
+        };
+        let mut best = None;
+        let mut latest = 0;
+        for (_, number) in messages.get(..count)? {
+            let begin = self.windows.begin(number.0, number.1);
+            if begin >= latest
+                && let Some(constraint) = self.if_new(LearnedConstraint {
+                    first: Event::Call(process, made),
+                    other: *number,
+                })
+            {
+                latest = begin;
+                best = Some(constraint);
+            }
+        }
+        best
+    }
+
+    // A receive must take effect before a message in front of its own is sent, to leave room.
+    fn room_before(
+        &self,
+        messages: &[(u32, Numbered)],
+        queue: usize,
+        limit: u64,
+    ) -> Option<LearnedConstraint> {
+        let mut best = None;
+        let mut least = u64::MAX;
+        for process in 0..self.made.len() {
+            if let Some(task) = self.next(process)
+                && task.effect == Effect::Receives
+                && task.queue == queue
+                && task.begin <= limit
+                && task.end < least
+                && let Some(constraint) = self.before_sends(messages, process, Some(task.kind))
+            {
+                least = task.end;
+                best = Some(constraint);
+            }
+        }
+        best
     }
 
     // The messages of a queue with their priorities, in the order in which they are received.
@@ -412,7 +597,7 @@ impl Heuristic {
             return None;
         }
         self.if_new(LearnedConstraint {
-            first: *first,
+            first: Event::Send(*first),
             other: *head,
         })
     }
@@ -455,7 +640,7 @@ impl Heuristic {
             if end > most
                 && number.0 != task.kind
                 && let Some(constraint) = self.if_new(LearnedConstraint {
-                    first: (task.kind, self.sent_of(task)),
+                    first: Event::Send((task.kind, self.sent_of(task))),
                     other: *number,
                 })
             {
@@ -466,17 +651,13 @@ impl Heuristic {
         best
     }
 
-    // The constraint, unless one about these two messages was learned already.
+    // The constraint, unless it was learned already, or one that contradicts it.
     fn if_new(&self, constraint: LearnedConstraint) -> Option<LearnedConstraint> {
-        let turned = LearnedConstraint {
-            first: constraint.other,
-            other: constraint.first,
-        };
-        let is_old = constraint.first == constraint.other
+        let is_old = constraint.first == Event::Send(constraint.other)
             || self
                 .constraints
                 .iter()
-                .any(|one| *one == constraint || *one == turned);
+                .any(|one| *one == constraint || contradict(one, &constraint));
         if is_old { None } else { Some(constraint) }
     }
 
@@ -517,6 +698,11 @@ impl Heuristic {
         }
         self.queues.digest(digest)
     }
+}
+
+// Whether of two messages each would have to be sent before the other.
+fn contradict(one: &LearnedConstraint, other: &LearnedConstraint) -> bool {
+    one.first == Event::Send(other.other) && other.first == Event::Send(one.other)
 }
 
 fn processes_of(alloc: Global, path: &Vec<Move>) -> Result<Vec<usize>, AllocError> {

@@ -19,5 +19,6 @@ pub mod renaming;
 pub mod said;
 pub mod tasks;
 pub mod text;
+pub mod tightening;
 pub mod well_formed;
 pub mod windows;
