@@ -63,13 +63,6 @@ true-put past r slots key x t lt at prio lost bytes k y found = by (cases_eq k k
         (rw here (ap Some (sym bytes ∙ ap (λ (z : Kept). z.bytes) (sym y_is))), rw here (sym prio ∙ ap (λ (z : Kept). z.prio) (sym y_is)), rw here (sym lost ∙ ap (λ (z : Kept). z.home) (sym y_is)))
     by (inr ne) = says-more past r y (t k y (sym (get_or-set_other slots key k (Some x) None ne) ∙ found))
 
-pub keeps-put : (slots : List (Option Kept)) (key k : ℕ) (x : Kept) → slice_index_or slots key None ≡ None → HasPlace (places_of slots) k → HasPlace (places_of (slice_set slots key (Some x))) k
-keeps-put slots key k x vacant has = let h = held slots k has in by h (cases_eq h.0 key)
-  where
-    by : (h : Holds slots k) → (h.0 ≡ key) ⊎ (h.0 ≡ key → ⊥) → HasPlace (places_of (slice_set slots key (Some x))) k
-    by h (inl e) = let bad : Some h.1 ≡ None = sym h.2 ∙ ap (λ (i : ℕ). slice_index_or slots i None) e ∙ vacant in absurd (cc)
-    by h (inr ne) = has_place (slice_set slots key (Some x)) h.0 k h.1 (get_or-set_other slots key h.0 (Some x) None ne ∙ h.2) h.3
-
 pub has-put : (slots : List (Option Kept)) (key : ℕ) (x : Kept) → key < length slots → HasPlace (places_of (slice_set slots key (Some x))) x.place
 has-put slots key x lt = has_place (slice_set slots key (Some x)) key x.place x (get_or-set_same slots key (Some x) None lt) refl
 
@@ -81,13 +74,16 @@ true-less past slots key t lt k y found = by (cases_eq k key)
     by (inl e) = let bad : None ≡ Some y = sym (get_or-set_same slots key None None lt) ∙ ap (λ (i : ℕ). slice_index_or (slice_set slots key None) i None) (sym e) ∙ found in absurd (cc)
     by (inr ne) = t k y (sym (get_or-set_other slots key k None None ne) ∙ found)
 
--- and had another place
-pub keeps-less : (slots : List (Option Kept)) (key k : ℕ) → ((x : Kept) → slice_index_or slots key None ≡ Some x → x.place ≢ k) → HasPlace (places_of slots) k → HasPlace (places_of (slice_set slots key None)) k
-keeps-less slots key k other has = let h = held slots k has in by h (cases_eq h.0 key)
+-- a slot changes that had another place or none
+pub keeps-set : (slots : List (Option Kept)) (key k : ℕ) (o : Option Kept) → ((x : Kept) → slice_index_or slots key None ≡ Some x → x.place ≢ k) → HasPlace (places_of slots) k → HasPlace (places_of (slice_set slots key o)) k
+keeps-set slots key k o other has = let h = held slots k has in by h (cases_eq h.0 key)
   where
-    by : (h : Holds slots k) → (h.0 ≡ key) ⊎ (h.0 ≡ key → ⊥) → HasPlace (places_of (slice_set slots key None)) k
+    by : (h : Holds slots k) → (h.0 ≡ key) ⊎ (h.0 ≡ key → ⊥) → HasPlace (places_of (slice_set slots key o)) k
     by h (inl e) = absurd (other h.1 (ap (λ (i : ℕ). slice_index_or slots i None) (sym e) ∙ h.2) h.3)
-    by h (inr ne) = has_place (slice_set slots key None) h.0 k h.1 (get_or-set_other slots key h.0 None None ne ∙ h.2) h.3
+    by h (inr ne) = has_place (slice_set slots key o) h.0 k h.1 (get_or-set_other slots key h.0 o None ne ∙ h.2) h.3
+
+pub keeps-put : (slots : List (Option Kept)) (key k : ℕ) (x : Kept) → slice_index_or slots key None ≡ None → HasPlace (places_of slots) k → HasPlace (places_of (slice_set slots key (Some x))) k
+keeps-put slots key k x vacant has = keeps-set slots key k (Some x) (λ y there same. let bad : Some y ≡ None = sym there ∙ vacant in absurd (cc)) has
 
 -- counting those that are vacant ---------------------------------------------------------------------------------------------
 
@@ -105,6 +101,11 @@ within slots key x there = by (cases_lt key (length slots))
 pub count-less : (slots : List (Option Kept)) (key : ℕ) (x : Kept) → slice_index_or slots key None ≡ Some x → vacant_in (slice_set slots key None) ≡ vacant_in slots + 1
 count-less slots key x there =
     let counted : vacant_in (slice_set slots key None) + 0 ≡ vacant_in slots + 1 = rw there at (sum_by-set (λ (o : Option Kept). cond (is_none o) 1 0) slots key None None (within slots key x there)) in
+    omega (arith, counted)
+
+pub count-same : (slots : List (Option Kept)) (key : ℕ) (x y : Kept) → slice_index_or slots key None ≡ Some x → vacant_in (slice_set slots key (Some y)) ≡ vacant_in slots
+count-same slots key x y there =
+    let counted : vacant_in (slice_set slots key (Some y)) + 0 ≡ vacant_in slots + 0 = rw there at (sum_by-set (λ (o : Option Kept). cond (is_none o) 1 0) slots key (Some y) None (within slots key x there)) in
     omega (arith, counted)
 
 -- one vacant slot alone
@@ -144,7 +145,7 @@ one-forgotten queue slots key x vacant count there lost = record {
   count = let more = count-less slots key x there in omega (arith, count, more);
   more = omega arith;
   are_true = λ past t. true-less past slots key t (within slots key x there);
-  keeps = λ past k t apart has. keeps-less slots key k (λ y at same. apart (ap (λ (i : ℕ). home past i) (sym same) ∙ (t key y at).2 ∙ (let one : Some y ≡ Some x = sym at ∙ there in let is : y ≡ x = cc in ap (λ (z : Kept). z.home) is) ∙ lost)) has;
+  keeps = λ past k t apart has. keeps-set slots key k None (λ y at same. apart (ap (λ (i : ℕ). home past i) (sym same) ∙ (t key y at).2 ∙ (let one : Some y ≡ Some x = sym at ∙ there in let is : y ≡ x = cc in ap (λ (z : Kept). z.home) is) ∙ lost)) has;
 }
 
 pub forgets-more : (queue : ℕ) (a b c : List (Option Kept)) (u v w : ℕ) → Forgets queue a b u v → Forgets queue b c v w → Forgets queue a c u w

@@ -1,6 +1,6 @@
 //! The journal of a system: one that stores every entry, or one that keeps only those that may
 //! still be read.
-ghost use Rattle.std.specs.Prelude.{◌≡◌, ◌≢◌, ◌+◌, ◌<◌, ◌≤◌, ◌^◌, ℕ, [], ◌∷◌, true, false, length, IsOk, OnOk};
+ghost use Rattle.std.specs.Prelude.{◌≡◌, ◌≢◌, ◌+◌, ◌<◌, ◌≤◌, ◌^◌, ℕ, [], ◌∷◌, ◌↔◌, true, false, length, IsTrue, IsOk, OnOk};
 ghost use Rattle.std.specs.Option.{option_map};
 ghost use Rattle.mq_model.specs.Record.{record_at, payload_bytes};
 ghost use Rattle.mq_model.specs.Descriptors.{is_place};
@@ -57,6 +57,18 @@ impl Ledger {
     {
         Ledger {
             kind: Kind::Unstored(unstored),
+        }
+    }
+
+    /// Whether there is room for this many further entries and payload bytes.
+    #[inline(always)]
+    pub fn has_room(&self, entries: usize, bytes: usize) -> bool
+        ensures { IsTrue result ↔
+            ((entries ≤ self.now.entry_room) × (bytes ≤ self.now.byte_room)) }
+    {
+        match &self.kind {
+            Kind::Stored(journal) => journal.has_room(entries, bytes),
+            Kind::Unstored(unstored) => unstored.has_room(entries, bytes),
         }
     }
 
@@ -171,6 +183,21 @@ impl Ledger {
         match &self.kind {
             Kind::Stored(journal) => journal.payload(place),
             Kind::Unstored(unstored) => unstored.payload(place),
+        }
+    }
+
+    /// The payload of entry `place` and the priority of the message that it sends, if that can be
+    /// read.
+    #[inline(always)]
+    pub fn message(&self, place: u64) -> (Option<&[u8]>, u32)
+        ensures payload { CanRead self.now place →
+            option_map (λ p. p.now) result.0 ≡ option_map (λ r. r.payload)
+            (record_at self.now.records place) }
+        ensures priority { CanRead self.now place → result.1 ≡ priority self.now.records place }
+    {
+        match &self.kind {
+            Kind::Stored(journal) => (journal.payload(place), priority_in(journal, place)),
+            Kind::Unstored(unstored) => unstored.message(place),
         }
     }
 

@@ -1,5 +1,5 @@
 //! The slots of an unstored journal: each keeps one entry, or is vacant.
-ghost use Rattle.std.specs.Prelude.{◌≡◌, ◌≢◌, ◌+◌, ◌-◌, ◌<◌, ◌≤◌, ◌∷◌, ◌↔◌, [], ℕ, Option, Some, None, IsTrue, IfOk, IfSome, OnOk, IsOk, length, is_none, slice_index_or, slice_set, vec_len, vec_capacity};
+ghost use Rattle.std.specs.Prelude.{◌≡◌, ◌≢◌, ◌+◌, ◌-◌, ◌<◌, ◌≤◌, ◌∷◌, ◌↔◌, [], ℕ, Option, Some, None, IsTrue, IfOk, IfSome, OnOk, IsOk, false, length, is_none, slice_index_or, slice_set, vec_len, vec_capacity};
 ghost use Rattle.mq_ledger.specs.Kept.{Kept};
 ghost use Rattle.mq_ledger.specs.Keeping.{AreTrue, places_of, vacant_in, HasMoreVacant, Forgets};
 ghost use Rattle.mq_ledger.specs.Seen.{HasPlace};
@@ -153,9 +153,25 @@ impl Slot {
     }
 }
 
-// Copies a payload into the slot's buffer if it fits, else into the spare one.
+// Copies a payload into the slot's buffer if it fits, else into the spare one. One of the same
+// length as the last is only copied.
 #[inline(always)]
 fn fill(bytes: &mut Vec<u8>, next: &mut Vec<u8>, payload: &[u8])
+    requires empty { vec_len next.old ≡ 0 }
+    requires room { length payload.now ≤ vec_capacity next.old }
+    ensures bytes { bytes.new.items ≡ payload.now }
+    ensures empty { vec_len next.new ≡ 0 }
+    ensures none { payload.now ≡ [] → next.new ≡ next.old }
+{
+    if bytes.len() == payload.len() {
+        bytes.copy_from_slice(payload);
+    } else {
+        fill_anew(bytes, next, payload);
+    }
+}
+
+#[inline(never)]
+fn fill_anew(bytes: &mut Vec<u8>, next: &mut Vec<u8>, payload: &[u8])
     requires empty { vec_len next.old ≡ 0 }
     requires room { length payload.now ≤ vec_capacity next.old }
     ensures bytes { bytes.new.items ≡ payload.now }
@@ -262,6 +278,16 @@ pub fn is_there(slots: &[Slot], key: usize, place: u64) -> bool
         IsTrue result }
 {
     key < slots.len() && slots[key].is_at(place)
+}
+
+/// Whether a slot keeps entry `place` and is of this class.
+#[inline(always)]
+pub fn is_there_in(slots: &[Slot], key: usize, place: u64, class: u32) -> bool
+    ensures some { IsTrue result → (x : Kept) ×
+        (slice_index_or slots.now key None ≡ Some x) × (x.place ≡ place) }
+    ensures within { IsTrue result → key < length slots.now }
+{
+    is_there(slots, key, place) && slots[key].class() == class
 }
 
 /// The slot of entry `place`. If it is neither `last` nor in the index, all slots are searched.
@@ -380,6 +406,37 @@ pub fn put(
     let key = vacant_slot(slots, index, class);
     slots[key].occupy(place, prio, home, next, payload);
     key
+}
+
+/// Puts this part of entry `place` into a slot that keeps another entry, in place of that.
+#[inline(always)]
+pub fn replace(
+    slots: &mut Vec<Slot>,
+    key: usize,
+    place: u64,
+    prio: u32,
+    home: Option<u64>,
+    next: &mut Vec<u8>,
+    payload: &[u8],
+)
+    requires place { place < NOWHERE }
+    requires within { key < length slots.old.items }
+    requires full { is_none (slice_index_or slots.old.items key None) ≡ false }
+    requires empty { vec_len next.old ≡ 0 }
+    requires room { length payload.now ≤ vec_capacity next.old }
+    ensures vacant { vacant_in slots.new.items ≡ vacant_in slots.old.items }
+    ensures has { HasPlace (places_of slots.new.items) place }
+    ensures keeps { (k : ℕ) → ((x : Kept) → slice_index_or slots.old.items key None ≡ Some x →
+        x.place ≢ k) → HasPlace (places_of slots.old.items) k →
+        HasPlace (places_of slots.new.items) k }
+    ensures are_true { (past : Past) (r : Record) → place ≡ length past →
+        prio ≡ priority_given r.entry.call → home ≡ home_of past r r.entry.reply →
+        payload.now ≡ r.payload → AreTrue past slots.old.items →
+        AreTrue (r ∷ past) slots.new.items }
+    ensures empty { vec_len next.new ≡ 0 }
+    ensures none { payload.now ≡ [] → next.new ≡ next.old }
+{
+    slots[key].occupy(place, prio, home, next, payload);
 }
 
 /// Vacates a slot.

@@ -55,7 +55,7 @@ impl Model for Unstored {
     ghost invariant = { IsSound };
 }
 
-#[inline(always)]
+#[inline]
 fn is_kept(call: Call, reply: Reply) -> bool
     ensures { result ≡ is_kept call reply }
 {
@@ -67,7 +67,7 @@ fn is_kept(call: Call, reply: Reply) -> bool
     }
 }
 
-#[inline(always)]
+#[inline]
 fn ended_by(reply: Reply) -> Option<u64>
     ensures { result ≡ ended_by reply }
 {
@@ -80,7 +80,7 @@ fn ended_by(reply: Reply) -> Option<u64>
 }
 
 // The queue with which an entry is lost that is made as entry `here` on queue q.
-#[inline(always)]
+#[inline]
 fn home_of(reply: Reply, here: u64, q: u64) -> Option<u64>
     ensures { (past : Past) (r : Record) → here ≡ length past → reply ≡ r.entry.reply →
         GoesTo past r q → result ≡ home_of past r r.entry.reply }
@@ -224,8 +224,36 @@ impl Unstored {
     // The same, after the entry that the latest one ended has left its slot. The new entry itself
     // is only for the history. The one number needed of it is passed separately in `ended`, so that
     // the compiler need not build an entry whose call is known at compile time.
-    #[inline(never)]
+    #[inline]
     fn pass(&mut self, entry: &Entry, payload: &[u8], ended: Option<u64>)
+        requires room { 0 < self.old.entry_room }
+        requires ended { ended ≡ ended_by entry.now.reply }
+        ensures records { self.new.records ≡
+            record { entry = entry.now; payload = payload.now } ∷ self.old.records }
+        ensures entry_room { self.old.entry_room ≤ self.new.entry_room + 1 }
+        ensures byte_room { self.new.byte_room ≡ self.old.byte_room }
+        ensures keeps { (k : ℕ) → is_place k (ended_last self.old.records) ≡ false →
+            HasPlace self.old.places k → HasPlace self.new.places k }
+    {
+        if self.ended.is_none() && self.is_first(ended) {
+            self.add_passing(entry, payload, ended);
+        } else {
+            self.pass_apart(entry, payload, ended);
+        }
+    }
+
+    // Whether the slot that is looked at first has this entry.
+    #[inline(always)]
+    fn is_first(&self, ended: Option<u64>) -> bool {
+        match ended {
+            Some(place) => slots::is_there(&self.slots, self.last, place),
+            None => true,
+        }
+    }
+
+    // The same in every case.
+    #[inline(never)]
+    fn pass_apart(&mut self, entry: &Entry, payload: &[u8], ended: Option<u64>)
         requires room { 0 < self.old.entry_room }
         requires ended { ended ≡ ended_by entry.now.reply }
         ensures records { self.new.records ≡
@@ -240,8 +268,54 @@ impl Unstored {
         self.add_passing(entry, payload, ended);
     }
 
-    #[inline(never)]
+    // Appends an entry that is kept, in the slot of the entry that the latest one ended if that is
+    // of its class.
+    #[inline]
     fn keep(&mut self, entry: &Entry, payload: &[u8], prio: u32, home: Option<u64>, class: u32)
+        requires room { 0 < self.old.entry_room }
+        requires bytes { length payload.now ≤ self.old.byte_room }
+        requires ended { ended_by entry.now.reply ≡ None }
+        requires prio { prio ≡ priority_given entry.now.call }
+        requires home { home ≡ home_of self.old.records
+            (record { entry = entry.now; payload = payload.now }) entry.now.reply }
+        ensures records { self.new.records ≡
+            record { entry = entry.now; payload = payload.now } ∷ self.old.records }
+        ensures entry_room { self.old.entry_room ≤ self.new.entry_room + 1 }
+        ensures no_bytes { payload.now ≡ [] → self.new.byte_room ≡ self.old.byte_room }
+        ensures kept { HasPlace self.new.places (length self.old.records) }
+        ensures keeps { (k : ℕ) → is_place k (ended_last self.old.records) ≡ false →
+            HasPlace self.old.places k → HasPlace self.new.places k }
+    {
+        match self.ended {
+            Some(place) if slots::is_there_in(&self.slots, self.last, place, class) => {
+                self.past.note(entry, payload);
+                slots::replace(
+                    &mut self.slots,
+                    self.last,
+                    self.len,
+                    prio,
+                    home,
+                    &mut self.next,
+                    payload,
+                );
+                self.is_last_noted = false;
+                self.ended = None;
+                self.len += 1;
+            }
+            _ => self.keep_apart(entry, payload, prio, home, class),
+        }
+    }
+
+    // The same in any vacant slot.
+    #[inline(never)]
+    fn keep_apart(
+        &mut self,
+        entry: &Entry,
+        payload: &[u8],
+        prio: u32,
+        home: Option<u64>,
+        class: u32,
+    )
         requires room { 0 < self.old.entry_room }
         requires bytes { length payload.now ≤ self.old.byte_room }
         requires ended { ended_by entry.now.reply ≡ None }
@@ -279,9 +353,9 @@ impl Unstored {
         self.make_room(entries, bytes)
     }
 
-    // Whether there is room for this many further entries and payload bytes.
+    /// Whether there is room for this many further entries and payload bytes.
     #[inline(always)]
-    fn has_room(&self, entries: usize, bytes: usize) -> bool
+    pub fn has_room(&self, entries: usize, bytes: usize) -> bool
         ensures { IsTrue result ↔
             ((entries ≤ self.now.entry_room) × (bytes ≤ self.now.byte_room)) }
     {
@@ -345,7 +419,7 @@ impl Unstored {
     }
 
     // The class of slots for a kept entry that is made on queue q.
-    #[inline(always)]
+    #[inline]
     fn class_of(&self, reply: Reply, q: u64) -> u32 {
         if self.paid.is_empty() {
             return GROWING;
@@ -434,6 +508,22 @@ impl Unstored {
             None => 0,
             Some(key) => self.slots[key].prio(),
         }
+    }
+
+    /// The payload of entry `place` and the priority of the message that it sends, if that is kept.
+    #[inline(always)]
+    pub fn message(&self, place: u64) -> (Option<&[u8]>, u32)
+        ensures payload { HasPlace self.now.places place →
+            option_map (λ p. p.now) result.0 ≡ option_map (λ r. r.payload)
+            (record_at self.now.records place) }
+        ensures priority { HasPlace self.now.places place →
+            result.1 ≡ priority self.now.records place }
+    {
+        if slots::is_there(&self.slots, self.last, place) {
+            let slot = &self.slots[self.last];
+            return (Some(slot.bytes()), slot.prio());
+        }
+        (self.payload_found(place), self.priority_found(place))
     }
 
     /// The payload of entry `place`, if that is kept.

@@ -192,6 +192,7 @@ fn accepted(waiting: Option<u64>, full: bool, notified: Option<u64>) -> Reply
 
 /// The reply to a send of a message of this priority and length, with the facts about its
 /// descriptor, or none if the process does not hold it (`mq_send`).
+#[inline(always)]
 pub fn send(prio: u32, len: u64, facts: Option<SendFacts>) -> Reply
     ensures { result ≡ send_reply prio len facts }
 {
@@ -240,6 +241,7 @@ fn found(nonblock: bool, best: Option<u64>, waiting: Option<u64>, notified: Opti
 
 /// The reply to a receive into a buffer of this length, with the facts about its descriptor, or
 /// none if the process does not hold it (`mq_receive`).
+#[inline(always)]
 pub fn receive(room: u64, facts: Option<ReceiveFacts>) -> Reply
     ensures { result ≡ receive_reply room facts }
 {

@@ -1,6 +1,6 @@
 //! The journal.
 ghost use Rattle.mq_model.specs.Stored.{needs, record_of};
-ghost use Rattle.std.specs.Prelude.{◌≡◌, ◌+◌, ◌<◌, ◌≤◌, [], ◌∷◌, ◌++◌, length, OnOk, IsOk, vec_len, vec_capacity};
+ghost use Rattle.std.specs.Prelude.{◌≡◌, ◌+◌, ◌<◌, ◌≤◌, [], ◌∷◌, ◌++◌, ◌↔◌, IsTrue, length, OnOk, IsOk, vec_len, vec_capacity};
 
 use crate::entries::{Call, Entry};
 use crate::stored::{Stored, store_call, store_reply, stored_call, stored_reply};
@@ -86,6 +86,17 @@ impl Journal {
             apart: Vec::with_capacity(alloc, entries)?,
             bytes: Vec::with_capacity(alloc, bytes)?,
         })
+    }
+
+    /// Whether there is room for this many further entries and payload bytes.
+    #[inline(always)]
+    pub fn has_room(&self, entries: usize, bytes: usize) -> bool
+        ensures { IsTrue result ↔
+            ((entries ≤ self.now.entry_room) × (bytes ≤ self.now.byte_room)) }
+    {
+        entries <= self.stored.capacity() - self.stored.len()
+            && entries <= self.apart.capacity() - self.apart.len()
+            && bytes <= self.bytes.capacity() - self.bytes.len()
     }
 
     /// Makes room for this many further entries and payload bytes. It fails only if memory was

@@ -1,11 +1,11 @@
-use Rattle.std.proofs.Common.{◌≡◌, ◌+◌, true, false, Some, List, refl, sym, ap, ◌∙◌, subst, arith}
+use Rattle.std.proofs.Common.{◌≡◌, ◌+◌, true, false, Some, None, List, refl, sym, ap, ◌∙◌, subst, arith}
 use Rattle.std.specs.declared.option.Option.{Option}
 use Rattle.mq_model.specs.Descriptors.{is_place}
 use Rattle.mq_ledger.specs.Kept.{Kept}
 use Rattle.mq_ledger.specs.Keeping.{AreTrue, places_of, vacant_in}
 use Rattle.mq_ledger.specs.Seen.{Seen, HasPlace}
 use Rattle.mq_laws.specs.Needed.{ended_last}
-use Rattle.mq_ledger.proofs.Keeping.{true-less, keeps-less, within, count-less}
+use Rattle.mq_ledger.proofs.Keeping.{true-less, keeps-set, within, count-less}
 use Rattle.mq_ledger.proofs.Sound.{sound-same}
 use Rattle.mq_ledger.proofs.unstored.Unstored.drop_ended.Goals as goal
 
@@ -27,7 +27,7 @@ returns-in-Some-guess-clause-keeps c k other has =
     let places : places_of slots ≡ c.args.self.now.places = ap (λ (v : Seen). v.places) c.self.view_is in
     let ended : Some c.in-Some.place ≡ ended_last c.args.self.now.records = sym c.in-Some.is ∙ c.self.invariant.ended ∙ ap (λ (v : Seen). ended_last v.records) c.self.view_is in
     subst (λ (xs : List (Option Kept)). HasPlace (places_of xs) k) (sym c.vacate.ensures)
-    (keeps-less slots c.in-Some-guess.key k
+    (keeps-set slots c.in-Some-guess.key k None
     (λ x there same.
     let one : Some x ≡ Some found.0 = sym there ∙ (rw c.deref.ensures.value at found.1) in
     let is : x ≡ found.0 = cc in
