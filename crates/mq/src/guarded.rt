@@ -155,7 +155,7 @@ fn answered_now(books: &Books, answered: u32, places: u64) -> u32
     }
 }
 
-#[inline(always)]
+#[inline]
 fn names_wait(reply: Reply) -> bool
     ensures { result ≡ is_some (named_wait reply) }
 {

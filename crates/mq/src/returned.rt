@@ -134,7 +134,7 @@ impl Returned for Result<bool, Fault> {
         }
     }
 
-    #[inline(always)]
+    #[inline]
     fn of_answer(answer: Answer) -> Result<bool, Fault> {
         match answer.reply {
             Reply::Queued { .. } => Ok(true),
@@ -163,7 +163,7 @@ impl Returned for Result<Option<Received>, Fault> {
         }
     }
 
-    #[inline(always)]
+    #[inline]
     fn of_answer(answer: Answer) -> Result<Option<Received>, Fault> {
         match answer.reply {
             Reply::Got { .. } => Ok(answer.received),

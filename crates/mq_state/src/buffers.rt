@@ -3,24 +3,27 @@ ghost use Rattle.std.specs.Prelude.{◌≡◌, ◌≤◌, length};
 ghost use Rattle.mq_ledger.specs.Ledgers.{CanRead, CanReadGiven};
 ghost use Rattle.mq_state.specs.Buffers.{message_at, received_at, received_by, with_front, filled, Fits};
 
-use crate::collected::received_from;
-use crate::prefixes::Prefix;
 use mq_ledger::ledger::Ledger;
 use mq_model::entries::{Received, Reply};
 
 /// Copies the message sent by entry `place` to the start of the buffer, and returns its length and
 /// priority.
+#[inline]
 pub fn put_message(journal: &Ledger, place: u64, buf: &mut [u8]) -> Received
     requires readable { CanRead journal.now place }
     requires room { length (message_at journal.now.records place) ≤ length buf.old }
     ensures buffer { buf.new ≡ with_front (message_at journal.now.records place) buf.old }
     ensures received { result ≡ received_at journal.now.records place }
 {
-    let received = received_from(&Prefix::whole(journal), place);
-    if let Some(message) = journal.payload(place) {
-        buf[..message.len()].copy_from_slice(message);
+    let (payload, prio) = journal.message(place);
+    let Some(message) = payload else {
+        return Received { len: 0, prio };
+    };
+    buf[..message.len()].copy_from_slice(message);
+    Received {
+        len: message.len(),
+        prio,
     }
-    received
 }
 
 /// Copies the message that a reply hands out, if any, to the start of the buffer, and returns its

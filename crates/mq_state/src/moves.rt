@@ -73,7 +73,7 @@ fn slot_of(journal: &Prefix<'_>, place: u64) -> (u32, u64)
 
 /// Whether the queue of an entry may have lost its last user: the entry is a successful unlink or
 /// close.
-#[inline(always)]
+#[inline]
 pub fn frees(entry: Entry) -> bool {
     match entry.reply {
         Reply::Done => match entry.call {

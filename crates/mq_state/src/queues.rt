@@ -1,6 +1,6 @@
 //! The table of the queues that exist: which still have their names, the registrations on them, and
 //! their messages.
-ghost use Rattle.std.specs.Prelude.{◌≡◌, ◌<◌, ◌^◌, ◌==◌, ◌++◌, ◌∷◌, [], IfOk, position, length, Some, None, map, ℕ, vec_len, vec_capacity, ◌≤◌, int_le, pos, true, All};
+ghost use Rattle.std.specs.Prelude.{◌≡◌, ◌<◌, ◌^◌, ◌==◌, ◌++◌, ◌∷◌, [], IfOk, position, length, Some, None, map, ℕ, vec_len, vec_capacity, ◌≤◌, int_le, pos, true, IsTrue, All};
 ghost use Rattle.std.specs.Option.{option_map};
 ghost use Rattle.std.specs.Str.{bytes_eq};
 ghost use Rattle.mq_model.specs.Names.{name_of, are_within_limits};
@@ -227,10 +227,19 @@ pub fn index_from(queues: &[Queue], q: u64, hint: usize) -> Option<usize>
     requires { HaveRisingPlaces queues.now }
     ensures { result ≡ position (λ x. x.place == q) queues.now }
 {
-    if hint < queues.len() && queues[hint].place() == q {
+    if is_row(queues, q, hint) {
         return Some(hint);
     }
     index_of(queues, q)
+}
+
+// Whether queue q has the row at this index.
+#[inline(always)]
+fn is_row(queues: &[Queue], q: u64, index: usize) -> bool
+    requires { HaveRisingPlaces queues.now }
+    ensures { IsTrue result → position (λ x. x.place == q) queues.now ≡ Some index }
+{
+    index < queues.len() && queues[index].place() == q
 }
 
 /// Queue q.
@@ -397,7 +406,32 @@ fn renew(queues: &mut [Queue], q: u64, line: LineMove, hint: usize) -> Option<us
     if let LineMove::Rests = line {
         return None;
     }
-    let found = index_from(queues, q, hint);
+    if is_row(queues, q, hint) {
+        queues[hint].note(line);
+        return None;
+    }
+    renew_by_search(queues, q, line)
+}
+
+// The same by a search. The move goes into a variable of its own here, so that an entry whose hint
+// is right has no stack space for it.
+#[inline(always)]
+fn renew_by_search(queues: &mut [Queue], q: u64, line: LineMove) -> Option<usize>
+    requires rising { HaveRisingPlaces queues.old }
+    requires allows { AllowsIn queues.old q line }
+    ensures { queues.new ≡ changed (renewed line) queues.old q }
+{
+    let apart = line;
+    renew_apart(queues, q, apart)
+}
+
+#[inline(never)]
+fn renew_apart(queues: &mut [Queue], q: u64, line: LineMove) -> Option<usize>
+    requires rising { HaveRisingPlaces queues.old }
+    requires allows { AllowsIn queues.old q line }
+    ensures { queues.new ≡ changed (renewed line) queues.old q }
+{
+    let found = index_of(queues, q);
     if let Some(i) = found {
         queues[i].note(line);
     }

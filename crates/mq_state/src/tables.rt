@@ -114,6 +114,15 @@ impl Tables {
         usize::from(self.hints[q as usize % HINTS])
     }
 
+    // The same for the queue of a descriptor.
+    #[inline(always)]
+    fn hint_of(&self, held: Option<Description>) -> usize {
+        match held {
+            Some(h) => self.hint(h.queue),
+            None => 0,
+        }
+    }
+
     /// The number of processes.
     pub fn processes(&self) -> u32
         ensures { result ≡ self.now.n }
@@ -179,7 +188,7 @@ impl Tables {
     ghost use Rattle.mq_state.specs.Tables.{BringsOrder, MovesOwnWait, calls_noted, notices_brought, noted_values, with_fresh};
 
     // Updates the inboxes for an entry of process p on queue q: what it adds and takes.
-    #[inline(always)]
+    #[inline]
     fn note_notices(&mut self, p: u32, q: u64, moves: Moves)
         requires process { p < length self.old.inboxes.items }
         requires room { (n : Registration) → registration_in self.old.queues.items q ≡ Some n →
@@ -239,7 +248,15 @@ impl Tables {
     // Updates the table of queues for an entry on queue q, after the table of processes was
     // updated. Adds the queue that the entry creates, with the slots `fresh`.
     #[inline(always)]
-    fn note_queues(&mut self, here: u64, entry: Entry, q: u64, moves: Moves, fresh: Option<Slots>)
+    fn note_queues(
+        &mut self,
+        here: u64,
+        entry: Entry,
+        q: u64,
+        moves: Moves,
+        fresh: Option<Slots>,
+        hint: usize,
+    )
         requires rising { HaveRisingPlaces self.old.queues.items }
         requires allows { AllowsIn self.old.queues.items q moves.line }
         requires brings { BringsOrder entry.call entry.reply (vec_len self.old.queues)
@@ -253,7 +270,6 @@ impl Tables {
             (noted_queues self.old.owners.items here entry q moves self.old.queues.items) }
         ensures pool { IsPooled fresh self.old → IsPooled None self.new }
     {
-        let hint = self.hint(q);
         let found = queues::note(
             &mut self.queues,
             &mut self.spares,

@@ -31,7 +31,7 @@ use mq_slots::Slots;
 use std::alloc::{AllocError, Global};
 
 // The payload of a call with these bytes.
-#[inline(always)]
+#[inline]
 pub(crate) fn payload_of(call: Call, reply: Reply, given: &[u8]) -> &[u8]
     ensures value { result.now ≡ payload_of call reply given.now }
     ensures bound { length result.now ≤ length given.now }
@@ -66,7 +66,7 @@ fn entries_needed(call: Call) -> usize
 impl Tables {
     // Whether this many more entries and payload bytes, with the entries that end the open waits,
     // exceed the bounds.
-    #[inline(always)]
+    #[inline]
     pub(super) fn exceeds(&self, journal: &Ledger, entries: usize, bytes: usize) -> bool
         requires kept { IsKeptBy journal.now self.now }
         requires few { entries ≤ 2 }
@@ -120,6 +120,21 @@ impl Tables {
         Ok(())
     }
 
+    // Whether there is room for the entries of a send or a receive and its payload bytes, besides
+    // the entries that end the open waits.
+    #[inline(always)]
+    fn has_room(&self, journal: &Ledger, bytes: usize) -> bool
+        requires kept { IsKeptBy journal.now self.now }
+        requires slice { bytes < 2 ^ 63 }
+        ensures within { IsTrue result → exceeds self.now.bounds
+            (length journal.now.records + open_waits journal.now.records + 2)
+            (payload_bytes journal.now.records + bytes) ≡ false }
+        ensures room { IsTrue result → (waits_count self.now.owners.items + 2 ≤
+            journal.now.entry_room) × (bytes ≤ journal.now.byte_room) }
+    {
+        !self.exceeds(journal, 2, bytes) && journal.has_room(self.open_waits() + 2, bytes)
+    }
+
     /// The number of processes with an open wait.
     pub fn open_waits(&self) -> usize
         requires { self.now.waits ≡ waits_count self.now.owners.items }
@@ -138,6 +153,7 @@ impl Tables {
         payload: &[u8],
         q: u64,
         fresh: Option<Slots>,
+        hint: usize,
     )
         requires readable { IsReadable journal.now }
         requires queue { q ≡ entry_queue journal.now.records entry.process entry.call payload.now }
@@ -165,7 +181,7 @@ impl Tables {
         let moved = waiting::moved_queue(&self.owners, entry.process, moves.wait, q);
         self.note_notices(entry.process, q, moves);
         self.note_process(here, entry, q, moves.wait);
-        self.note_queues(here, entry, q, moves, fresh);
+        self.note_queues(here, entry, q, moves, fresh, hint);
         self.note_waiting(moved);
     }
 
@@ -194,7 +210,7 @@ impl Tables {
         self.make_notice_room(entry.process, entry.call, entry.reply)?;
         let fresh = self.fresh_slots(entry.call, entry.reply)?;
         let q = self.entry_queue(journal, entry.process, entry.call, payload);
-        self.note_next(journal, entry, payload, q, fresh);
+        self.note_next(journal, entry, payload, q, fresh, self.hint(q));
         Ok(())
     }
 
@@ -207,6 +223,7 @@ impl Tables {
         payload: &[u8],
         q: u64,
         fresh: Option<Slots>,
+        hint: usize,
     )
         requires queue { q ≡ entry_queue journal.old.records entry.process entry.call payload.now }
         requires kept { IsKeptBy journal.old self.old }
@@ -230,7 +247,7 @@ impl Tables {
         ensures bounds { self.new.bounds ≡ self.old.bounds }
         ensures stored { journal.new.stored ≡ journal.old.stored }
     {
-        self.note_next(&Prefix::whole(journal), entry, payload, q, fresh);
+        self.note_next(&Prefix::whole(journal), entry, payload, q, fresh, hint);
         journal.push(entry, payload, q);
     }
 
@@ -243,6 +260,7 @@ impl Tables {
         given: &[u8],
         q: u64,
         fresh: Option<Slots>,
+        hint: usize,
     )
         requires queue { q ≡ entry_queue journal.old.records entry.process entry.call given.now }
         requires kept { IsKeptBy journal.old self.old }
@@ -272,7 +290,7 @@ impl Tables {
         ensures stored { journal.new.stored ≡ journal.old.stored }
     {
         let payload = payload_of(entry.call, entry.reply, given);
-        self.append(journal, entry, payload, q, fresh);
+        self.append(journal, entry, payload, q, fresh, hint);
         if moves::frees(entry) {
             self.forget(journal, q);
         }
@@ -333,12 +351,12 @@ impl Tables {
             call,
             reply,
         };
-        self.record(journal, entry, given, q, fresh);
+        self.record(journal, entry, given, q, fresh, self.hint(q));
         Answer { reply, received }
     }
 
-    // Finishes a send or a receive on queue q that keeps all bytes that it is given: makes the
-    // room, fills the buffer if it gets a message, and appends its entry.
+    // Finishes a send or a receive on queue q that keeps all bytes that it is given, and for which
+    // there is room: fills the buffer if it gets a message, and appends its entry.
     #[inline(always)]
     fn settle(
         &mut self,
@@ -349,6 +367,7 @@ impl Tables {
         given: &[u8],
         buf: &mut [u8],
         q: u64,
+        hint: usize,
     ) -> Answer
         requires queue { q ≡ entry_queue journal.old.records p call given.now }
         requires may_call { MayCall journal.old self.old p }
@@ -356,6 +375,11 @@ impl Tables {
         requires replies { reply ≡ reply_to journal.old.records p call given.now }
         requires entries { entries_needed call ≡ 2 }
         requires bytes { bytes_needed journal.old.records p call given.now ≡ length given.now }
+        requires within { exceeds self.old.bounds
+            (length journal.old.records + open_waits journal.old.records + 2)
+            (payload_bytes journal.old.records + length given.now) ≡ false }
+        requires room { (waits_count self.old.owners.items + 2 ≤ journal.old.entry_room) ×
+            (length given.now ≤ journal.old.byte_room) }
         requires creates { creates call reply ≡ false }
         requires registration { HasRoomToRegister self.old.queues.items self.old.inboxes.items
             p call reply }
@@ -365,17 +389,13 @@ impl Tables {
         ensures buffer { buf.new ≡ filled journal.old.records result.reply buf.old }
         ensures refused { is_send call ≡ true → SparesBytes journal.old journal.new result.reply }
     {
-        let kept = payload_of(call, reply, given).len();
-        if let Err(fault) = self.make_room(journal, 2, given.len(), kept) {
-            return Answer::refused(fault);
-        }
         let received = buffers::fill(journal, reply, buf);
         let entry = Entry {
             process: p,
             call,
             reply,
         };
-        self.record(journal, entry, given, q, None);
+        self.record(journal, entry, given, q, None, hint);
         Answer { reply, received }
     }
 
@@ -393,11 +413,12 @@ impl Tables {
         let past = Prefix::whole(journal);
         let held = self.held(&past, p, d);
         let q = queue_of(&past, held);
-        match self.reply_to_send(&past, held, prio, len) {
-            Reply::Queued { notified: None } => {
+        let hint = self.hint(q);
+        match self.reply_to_send(&past, held, hint, true, prio, len) {
+            Some(Reply::Queued { notified: None }) if self.has_room(journal, bytes.len()) => {
                 let call = Call::MqSend { d, prio, len };
                 let reply = Reply::Queued { notified: None };
-                self.settle(journal, p, call, reply, bytes, &mut [], q)
+                self.settle(journal, p, call, reply, bytes, &mut [], q, hint)
             }
             _ => self.other_send(journal, p, d, bytes, prio),
         }
@@ -458,19 +479,22 @@ impl Tables {
         let past = Prefix::whole(journal);
         let held = self.held(&past, p, d);
         let q = queue_of(&past, held);
-        match self.reply_to_receive(&past, held, room) {
-            Reply::Got {
-                place,
-                admitted: None,
-                notified: None,
-            } => {
+        let hint = self.hint(q);
+        match self.reply_to_receive(&past, held, hint, true, room) {
+            Some(
+                Reply::Got {
+                    place,
+                    admitted: None,
+                    notified: None,
+                },
+            ) if self.has_room(journal, 0) => {
                 let call = Call::MqReceive { d, room };
                 let reply = Reply::Got {
                     place,
                     admitted: None,
                     notified: None,
                 };
-                self.settle(journal, p, call, reply, &[], buf, q)
+                self.settle(journal, p, call, reply, &[], buf, q, hint)
             }
             _ => self.other_receive(journal, p, d, buf),
         }
@@ -681,6 +705,6 @@ impl Tables {
             reply: self.plain_reply(&past, p, call, &[]),
         };
         let q = journal.len();
-        self.record(journal, entry, &[], q, None);
+        self.record(journal, entry, &[], q, None, self.hint(q));
     }
 }

@@ -1,6 +1,6 @@
 //! What the tables say about the journal: the facts that a reply depends on, and the reply that the
 //! order of errors gives for them.
-ghost use Rattle.std.specs.Prelude.{◌≡◌, ◌<◌, ◌≤◌, ◌^◌, IfSome, IsTrue, ℕ, List, length};
+ghost use Rattle.std.specs.Prelude.{◌≡◌, ◌<◌, ◌≤◌, ◌^◌, IfSome, IsSome, IsTrue, false, ℕ, List, length};
 ghost use Rattle.std.specs.Option.{option_map};
 ghost use Rattle.mq_model.specs.Names.{attributes, bound_queue};
 ghost use Rattle.mq_model.specs.Descriptors.{held, alive};
@@ -82,7 +82,7 @@ impl Tables {
 
     // The row of queue q: its limits, its messages and its registration.
     #[inline(always)]
-    fn line(&self, journal: &Prefix<'_>, q: u64) -> LineFacts
+    fn line(&self, journal: &Prefix<'_>, q: u64, hint: usize) -> LineFacts
         requires mirror { Mirrors journal.now self.now }
         requires alive { IsTrue (is_in (alive journal.now.records) q) }
         ensures count { result.count ≡ length (present journal.now.records q) }
@@ -92,31 +92,39 @@ impl Tables {
         ensures attributes { result.attributes ≡ attributes journal.now.records q }
         ensures waiting { result.waiting ≡ waiting_in self.now.queues.items q }
     {
-        queues::line(&self.queues, q, self.hint(q))
+        queues::line(&self.queues, q, hint)
     }
 }
 
 impl Tables {
-    // The reply to a send on this descriptor.
+    // The reply to a send on this descriptor. If `quiet`, there is none if some process waits on its
+    // queue: the usual calls have no code for that.
     #[inline(always)]
     pub(super) fn reply_to_send(
         &self,
         journal: &Prefix<'_>,
         held: Option<Description>,
+        hint: usize,
+        quiet: bool,
         prio: u32,
         len: u64,
-    ) -> Reply
+    ) -> Option<Reply>
         requires mirror { Mirrors journal.now self.now }
         requires legal { Legal journal.now.records }
         requires alive { IfSome held (λ h. IsTrue (is_in (alive journal.now.records) h.queue)) }
         requires few { self.now.n ≤ 32 }
         requires known { KnowWaits self.now.owners.items self.now.queues.items }
-        ensures { result ≡ reply_to_send journal.now.records held prio len }
+        ensures reply { IfSome result (λ reply.
+            reply ≡ reply_to_send journal.now.records held prio len) }
+        ensures any { quiet ≡ false → IsSome result }
     {
         let Some(h) = held else {
-            return error_order::send(prio, len, None);
+            return Some(error_order::send(prio, len, None));
         };
-        let line = self.line(journal, h.queue);
+        let line = self.line(journal, h.queue, hint);
+        if quiet && line.waiting != 0 {
+            return None;
+        }
         let facts = SendFacts {
             description: h,
             attributes: line.attributes,
@@ -124,28 +132,35 @@ impl Tables {
             waiting: self.first_wait(journal, h.queue, WaitKind::Receive, line.waiting),
             registered: registration_place(line.registration),
         };
-        error_order::send(prio, len, Some(facts))
+        Some(error_order::send(prio, len, Some(facts)))
     }
 
-    // The reply to a receive on this descriptor.
+    // The same for a receive.
     #[inline(always)]
     pub(super) fn reply_to_receive(
         &self,
         journal: &Prefix<'_>,
         held: Option<Description>,
+        hint: usize,
+        quiet: bool,
         room: u64,
-    ) -> Reply
+    ) -> Option<Reply>
         requires mirror { Mirrors journal.now self.now }
         requires legal { Legal journal.now.records }
         requires alive { IfSome held (λ h. IsTrue (is_in (alive journal.now.records) h.queue)) }
         requires few { self.now.n ≤ 32 }
         requires known { KnowWaits self.now.owners.items self.now.queues.items }
-        ensures { result ≡ reply_to_receive journal.now.records held room }
+        ensures reply { IfSome result (λ reply.
+            reply ≡ reply_to_receive journal.now.records held room) }
+        ensures any { quiet ≡ false → IsSome result }
     {
         let Some(h) = held else {
-            return error_order::receive(room, None);
+            return Some(error_order::receive(room, None));
         };
-        let line = self.line(journal, h.queue);
+        let line = self.line(journal, h.queue, hint);
+        if quiet && line.waiting != 0 {
+            return None;
+        }
         let facts = ReceiveFacts {
             description: h,
             attributes: line.attributes,
@@ -154,7 +169,7 @@ impl Tables {
             waiting: self.first_wait(journal, h.queue, WaitKind::Send, line.waiting),
             registered: registration_place(line.registration),
         };
-        error_order::receive(room, Some(facts))
+        Some(error_order::receive(room, Some(facts)))
     }
 
     // The reply to a call of process p without its deadline. `name` is the name of an open or an
@@ -176,14 +191,20 @@ impl Tables {
             Call::MqClose { d } => error_order::close(self.held(journal, p, d)),
             Call::MqUnlink => error_order::unlink(self.bound(journal, name)),
             Call::MqSend { d, prio, len } | Call::MqTimedSend { d, prio, len, .. } => {
-                self.reply_to_send(journal, self.held(journal, p, d), prio, len)
+                let held = self.held(journal, p, d);
+                let hint = self.hint_of(held);
+                self.reply_to_send(journal, held, hint, false, prio, len)
+                    .unwrap()
             }
             Call::MqReceive { d, room } | Call::MqTimedReceive { d, room, .. } => {
-                self.reply_to_receive(journal, self.held(journal, p, d), room)
+                let held = self.held(journal, p, d);
+                let hint = self.hint_of(held);
+                self.reply_to_receive(journal, held, hint, false, room)
+                    .unwrap()
             }
             Call::MqGetattr { d } | Call::MqSetattr { d, .. } => match self.held(journal, p, d) {
                 Some(h) => {
-                    let line = self.line(journal, h.queue);
+                    let line = self.line(journal, h.queue, self.hint(h.queue));
                     let facts = StatusFacts {
                         description: h,
                         attributes: line.attributes,
@@ -195,7 +216,8 @@ impl Tables {
             },
             Call::MqNotify { d, value } => match self.held(journal, p, d) {
                 Some(h) => {
-                    let registered = self.line(journal, h.queue).registration;
+                    let line = self.line(journal, h.queue, self.hint(h.queue));
+                    let registered = line.registration;
                     error_order::notify(p, value, Some(NotifyFacts { registered }))
                 }
                 None => error_order::notify(p, value, None),

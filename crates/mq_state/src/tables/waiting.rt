@@ -42,7 +42,7 @@ fn wait_bits(q: u64, owners: &[Owner]) -> u64
 }
 
 // The queue on which an entry of process p, made on queue q, begins or ends a wait.
-#[inline(always)]
+#[inline]
 pub(crate) fn moved_queue(owners: &[Owner], p: u32, wait: WaitMove, q: u64) -> Option<u64>
     ensures { result ≡ moved_queue owners.now p wait q }
 {
@@ -58,7 +58,7 @@ pub(crate) fn moved_queue(owners: &[Owner], p: u32, wait: WaitMove, q: u64) -> O
 
 impl Tables {
     // Updates which processes wait, in the row of a queue on which a wait began or ended.
-    #[inline(always)]
+    #[inline]
     pub(crate) fn note_waiting(&mut self, moved: Option<u64>)
         requires few { length self.old.owners.items ≤ 33 }
         ensures same { self.new ≡ record self.old { queues = self.new.queues } }

@@ -1,16 +1,13 @@
 use Rattle.std.proofs.Common.{◌∙◌, refl, sym, ap}
 use Rattle.mq_state.specs.Queues.{renewed}
-use Rattle.mq_state.proofs.QueueLines.{queue_in-Some, changed-at, changed-None, changed-same, queue_in-None}
+use Rattle.mq_state.proofs.QueueLines.{queue_in-Some, changed-at, changed-same}
 use Rattle.mq_state.proofs.queues.renew.Goals as goal
 
 pub note-requires : goal.note-requires
-note-requires c = c.requires.allows _ (queue_in-Some c.args.queues.now c.args.q c.in-Some.i c.index-queues-i.result (sym c.in-Some.ensures))
+note-requires c = c.requires.allows _ (queue_in-Some c.args.queues.now c.args.q c.args.hint c.index-queues-hint.result (c.is_row.ensures c.if-is_row.true))
 
 pub returns-in-Rests : goal.returns-in-Rests
 returns-in-Rests c = changed-same (renewed c.args.line) c.args.queues.now c.args.q (λ x. rw c.in-Rests.is refl)
 
-pub returns-in-Some : goal.returns-in-Some
-returns-in-Some c = changed-at _ c.args.queues.now c.args.q c.in-Some.i c.index-queues-i.result c.note.new.self (sym c.in-Some.ensures) c.index-queues-i.is (c.note.ensures ∙ ap (renewed c.args.line) (sym c.index-queues-i.is))
-
-pub returns-in_default-found : goal.returns-in_default-found
-returns-in_default-found c = sym (changed-None _ c.args.queues.now c.args.q (queue_in-None c.args.queues.now c.args.q (sym c.index_from-found.ensures ∙ c.in_default-found.is)))
+pub returns-then-is_row : goal.returns-then-is_row
+returns-then-is_row c = changed-at _ c.args.queues.now c.args.q c.args.hint c.index-queues-hint.result c.note.new.self (c.is_row.ensures c.if-is_row.true) c.index-queues-hint.is (c.note.ensures ∙ ap (renewed c.args.line) (sym c.index-queues-hint.is))
