@@ -16,7 +16,7 @@ use Rattle.mq_model.proofs.Places.{split}
 use Rattle.mq_equivalence.specs.declared.standing.Kind.{Kind}
 use Rattle.mq_equivalence.specs.declared.standing.Kind.TheVariants.{Messages, Senders, Receivers}
 use Rattle.mq_checker.specs.TakenTable.{unless_in}
-use Rattle.mq_equivalence.specs.Kinds.{AreMarked, begins, begun, may_begin}
+use Rattle.mq_equivalence.specs.Kinds.{AddsNothing, AreMarked, begins, begun, may_begin}
 
 -- what comes -------------------------------------------------------------------------------------------------------------
 
@@ -105,6 +105,24 @@ stays kind past e q k m n gone marks b marks_are long lt may is =
     in
     goes (begins kind past e q) refl
 
+-- an entry that may add nothing, and one that may add only what is marked as removed
+pub adds-none : (kind : Kind) (e : Entry) (k : ℕ) (marks : List Bool) → may_begin kind k e ≡ None → AddsNothing kind k e marks
+adds-none kind e k marks may n gone past q marks_are lt long =
+    let goes : (o : Option ℕ) → begins kind past e q ≡ o → unless_in gone o ≡ None =
+    λ (o : Option ℕ). elim o as (λ o. begins kind past e q ≡ o → unless_in gone o ≡ None) [
+      | None ↦ (λ e. refl)
+      | Some j ↦ (λ found.
+          let c = comes kind past e q j found in
+          let here : may_begin kind k e ≡ Some j = subst (λ (i : ℕ). may_begin kind i e ≡ Some j) long c.may in
+          let bad : None ≡ Some j = sym may ∙ here in
+          absurd (cc))
+    ]
+    in
+    goes (begins kind past e q) refl
+
+pub adds-marked : (kind : Kind) (e : Entry) (k m : ℕ) (marks : List Bool) → may_begin kind k e ≡ Some m → get_or marks m false ≡ true → AddsNothing kind k e marks
+adds-marked kind e k m marks may marked n gone past q marks_are lt long = stays kind past e q k m n gone marks true marks_are long lt may (sym marked)
+
 -- the places that are left -------------------------------------------------------------------------------------------------
 
 filter-place : (gone : List ℕ) (o : Option ℕ) (ks : List ℕ) → filter (λ m. not (is_in gone m)) (with_place o ks) ≡ option_to_list (unless_in gone o) ++ filter (λ m. not (is_in gone m)) ks
@@ -128,3 +146,18 @@ pub standing-all : (now : Past) (kind : Kind) (q : ℕ) (gone ks all : List ℕ)
 standing-all now kind q gone ks all before is =
     let none : begun kind now q ≡ [] = ap (λ (p : Past). begun kind p q) is ∙ begun-none kind q in
     sym (append-nil ks) ∙ ap (λ (js : List ℕ). ks ++ filter (λ m. not (is_in gone m)) js) (sym none) ∙ before
+
+-- one more record that adds nothing which is left
+pub left-more : (past now : Past) (kind : Kind) (r : Record) (q : ℕ) (gone : List ℕ) →
+    filter (λ m. not (is_in gone m)) (begun kind past q) ≡ [] → now ≡ r ∷ past → unless_in gone (begins kind past r.entry q) ≡ None →
+    filter (λ m. not (is_in gone m)) (begun kind now q) ≡ []
+left-more past now kind r q gone before is none =
+    let rest = filter (λ m. not (is_in gone m)) (begun kind past q) in
+    ap (λ (p : Past). filter (λ m. not (is_in gone m)) (begun kind p q)) is
+    ∙ ap (λ (js : List ℕ). filter (λ m. not (is_in gone m)) js) (begun-step kind past r q)
+    ∙ filter-place gone (begins kind past r.entry q) (begun kind past q)
+    ∙ ap (λ (x : Option ℕ). option_to_list x ++ rest) none
+    ∙ before
+
+pub left-none : (now : Past) (kind : Kind) (q : ℕ) (gone : List ℕ) → now ≡ [] → filter (λ m. not (is_in gone m)) (begun kind now q) ≡ []
+left-none now kind q gone is = ap (λ (p : Past). filter (λ m. not (is_in gone m)) (begun kind p q)) is ∙ ap (λ (js : List ℕ). filter (λ m. not (is_in gone m)) js) (begun-none kind q)

@@ -6,3 +6,4 @@ pub mod Structure
 pub mod Outline
 pub mod Equivalence
 pub mod Runs
+pub mod Scans

@@ -7,7 +7,7 @@ ghost use Rattle.mq_equivalence.specs.Equivalence.{Agree, Equivalent};
 ghost use Rattle.mq_equivalence.specs.Key.{key_if, key_of, key_within};
 
 use crate::naming::queues_by_name;
-use crate::parts::{number_bound, process_bound, push_processes, push_queues};
+use crate::parts::{number_bound, process_bound, push_processes, push_queues, scan};
 use mq_model::journals::Journal;
 use std::alloc::{AllocError, Global};
 use std::cmp;
@@ -54,9 +54,10 @@ fn key_within(
     ensures { IfOk result (λ k. k.items ≡ key_within received count width journal.now.records) }
 {
     let queues = queues_by_name(alloc, journal)?;
+    let scanned = scan(alloc, journal)?;
     let mut key = Vec::new(alloc);
-    push_queues(alloc, &mut key, journal, received, &queues)?;
-    push_processes(alloc, &mut key, journal, &queues, count, width)?;
+    push_queues(alloc, &mut key, journal, &scanned, received, &queues)?;
+    push_processes(alloc, &mut key, journal, &scanned, &queues, count, width)?;
     Ok(key)
 }
 

@@ -1,8 +1,9 @@
 //! The notices that a process has not yet taken.
 #![tactic(auto, using(mq_model::proofs::Prefixes::prefixes))]
 
-ghost use Rattle.std.specs.Prelude.{◌≡◌, ◌≤◌, IfOk, length};
+ghost use Rattle.std.specs.Prelude.{◌≡◌, ◌≤◌, IfOk, IsFalse, length};
 ghost use Rattle.mq_model.specs.Record.{first, record_at};
+ghost use Rattle.mq_equivalence.specs.Kinds.{RegistersNone};
 ghost use Rattle.mq_model.specs.Notices.{gives_notice, notices, notices_given, value_given, value_notified, value_of_notify};
 
 use mq_checker::scan_names::entry_at;
@@ -18,6 +19,19 @@ fn value_of_notify(call: Call) -> Option<u64>
         Call::MqNotify { d: _, value } => value,
         _ => None,
     }
+}
+
+/// Whether a call gives a registration a value, whatever its reply is.
+pub(crate) fn registers(journal: &Journal) -> bool
+    ensures { IsFalse result → RegistersNone journal.now.records }
+{
+    for i in 0..journal.len() {
+        let entry = entry_at(journal, i);
+        if value_of_notify(entry.call).is_some() {
+            return true;
+        }
+    }
+    false
 }
 
 fn gives_notice(reply: Reply) -> bool

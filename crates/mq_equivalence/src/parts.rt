@@ -5,15 +5,16 @@ ghost use Rattle.std.specs.Prelude.{◌≡◌, ◌≤◌, ◌<◌, ◌^◌, ◌+
 ghost use Rattle.std.specs.Option.{option_map};
 ghost use Rattle.mq_model.specs.Names.{attributes};
 ghost use Rattle.mq_model.specs.Descriptors.{held, numbers_from};
-ghost use Rattle.mq_model.specs.Notices.{notices};
+ghost use Rattle.mq_model.specs.Notices.{notices, registered};
 ghost use Rattle.mq_equivalence.specs.Views.{answer, at, author, bound_name, sender, sent, told, unplaced, unsent};
 ghost use Rattle.mq_equivalence.specs.Key.{above_number, access_number, bytes_code, deadline_code, description_code, index_of, limits_code, listed, message_code, number, number_bound, optional, process_bound, process_code, queue_code, queues_by_name, registered_code, sender_code, signed, test};
-ghost use Rattle.mq_equivalence.specs.Kinds.{kind_code, place_code};
+ghost use Rattle.mq_equivalence.specs.Kinds.{IsLeft, kind_code, place_code};
+ghost use Rattle.mq_equivalence.specs.Scans.{IsScanned};
 
 use crate::naming::is_named;
-use crate::notices::notices;
+use crate::notices::{notices, registers};
 use crate::scans::{answered_by, wait_deadline, waiting_room};
-use crate::standing::{Kind, in_order};
+use crate::standing::{Kind, Left, in_order, left_of};
 use mq_checker::scan_names::{entry_at, held};
 use mq_checker::scan_notices::registered;
 use mq_model::entries::{Access, Attr, Deadline, Description, Entry, Registration, Reply};
@@ -211,13 +212,15 @@ fn push_kind(
     key: &mut Vec<u64>,
     journal: &Journal,
     received: bool,
+    left: &Left,
     kind: Kind,
     q: u64,
 ) -> Result<(), AllocError>
+    requires { IsLeft kind journal.now.records left.now }
     ensures { IfOk result (λ _. key.new.items ≡ key.old.items
         ++ kind_code received kind journal.now.records q) }
 {
-    let places = in_order(alloc, journal, kind, q)?;
+    let places = in_order(alloc, journal, left, kind, q)?;
     push_number(key, places.len() as u64)?;
     for place in &places {
         push_place(key, journal, received, kind, *place)?;
@@ -270,23 +273,84 @@ fn push_registration(
     }
 }
 
+/// What is left of each kind, and whether a call registers a process for notification.
+#[derive(Drop)]
+pub(crate) struct Scanned {
+    messages: Left,
+    senders: Left,
+    receivers: Left,
+    registers: bool,
+}
+
+/// What the keys of all queues and processes need, by a few scans.
+pub(crate) fn scan(alloc: Global, journal: &Journal) -> Result<Scanned, AllocError>
+    ensures { IfOk result (IsScanned journal.now.records) }
+{
+    let messages = left_of(alloc, journal, Kind::Messages)?;
+    let senders = left_of(alloc, journal, Kind::Senders)?;
+    let receivers = left_of(alloc, journal, Kind::Receivers)?;
+    Ok(Scanned {
+        messages,
+        senders,
+        receivers,
+        registers: registers(journal),
+    })
+}
+
+// The registration on queue `q`.
+fn registered_if(journal: &Journal, scanned: &Scanned, q: u64) -> Option<Registration>
+    requires { IsScanned journal.now.records scanned.now }
+    ensures { result ≡ registered journal.now.records q }
+{
+    if !scanned.registers {
+        return None;
+    }
+    registered(journal, journal.len(), q)
+}
+
 /// Appends a queue: its name, its limits, its messages, the waits on it, and its registration.
 pub(crate) fn push_queue(
     alloc: Global,
     key: &mut Vec<u64>,
     journal: &Journal,
+    scanned: &Scanned,
     received: bool,
     q: u64,
 ) -> Result<(), AllocError>
+    requires { IsScanned journal.now.records scanned.now }
     ensures { IfOk result (λ _. key.new.items ≡ key.old.items
         ++ queue_code received journal.now.records q) }
 {
     push_name(key, journal, q)?;
     push_limits(key, attributes(journal, q))?;
-    push_kind(alloc, key, journal, received, Kind::Messages, q)?;
-    push_kind(alloc, key, journal, received, Kind::Senders, q)?;
-    push_kind(alloc, key, journal, received, Kind::Receivers, q)?;
-    push_registration(key, registered(journal, journal.len(), q))
+    push_kind(
+        alloc,
+        key,
+        journal,
+        received,
+        &scanned.messages,
+        Kind::Messages,
+        q,
+    )?;
+    push_kind(
+        alloc,
+        key,
+        journal,
+        received,
+        &scanned.senders,
+        Kind::Senders,
+        q,
+    )?;
+    push_kind(
+        alloc,
+        key,
+        journal,
+        received,
+        &scanned.receivers,
+        Kind::Receivers,
+        q,
+    )?;
+    push_registration(key, registered_if(journal, scanned, q))
 }
 
 // Appends what the entry at a place hands to the process whose wait it answers.
@@ -365,11 +429,16 @@ fn push_notices(
     alloc: Global,
     key: &mut Vec<u64>,
     journal: &Journal,
+    scanned: &Scanned,
     p: u32,
 ) -> Result<(), AllocError>
+    requires { IsScanned journal.now.records scanned.now }
     ensures { IfOk result (λ _. key.new.items ≡ key.old.items
         ++ listed number (notices journal.now.records p)) }
 {
+    if !scanned.registers {
+        return push_number(key, 0);
+    }
     let values = notices(alloc, journal, p)?;
     push_number(key, values.len() as u64)?;
     for value in &values {
@@ -404,10 +473,12 @@ pub(crate) fn push_process(
     alloc: Global,
     key: &mut Vec<u64>,
     journal: &Journal,
+    scanned: &Scanned,
     queues: &[u64],
     width: u64,
     p: u32,
 ) -> Result<(), AllocError>
+    requires scanned { IsScanned journal.now.records scanned.now }
     requires bound { width ≤ 2 ^ 32 }
     requires queues { queues.now ≡ queues_by_name journal.now.records }
     ensures { IfOk result (λ _. key.new.items ≡ key.old.items
@@ -417,7 +488,7 @@ pub(crate) fn push_process(
     push_room(key, waiting_room(journal, n, p))?;
     push_deadline(key, wait_deadline(journal, n, p))?;
     push_answer(key, journal, p)?;
-    push_notices(alloc, key, journal, p)?;
+    push_notices(alloc, key, journal, scanned, p)?;
     push_holdings(key, journal, queues, width, p)
 }
 
@@ -426,15 +497,17 @@ pub(crate) fn push_queues(
     alloc: Global,
     key: &mut Vec<u64>,
     journal: &Journal,
+    scanned: &Scanned,
     received: bool,
     queues: &[u64],
 ) -> Result<(), AllocError>
+    requires { IsScanned journal.now.records scanned.now }
     ensures { IfOk result (λ _. key.new.items ≡ key.old.items
         ++ listed (queue_code received journal.now.records) queues.now) }
 {
     push_number(key, queues.len() as u64)?;
     for q in queues {
-        push_queue(alloc, key, journal, received, *q)?;
+        push_queue(alloc, key, journal, scanned, received, *q)?;
     }
     Ok(())
 }
@@ -480,10 +553,12 @@ pub(crate) fn push_processes(
     alloc: Global,
     key: &mut Vec<u64>,
     journal: &Journal,
+    scanned: &Scanned,
     queues: &[u64],
     count: u64,
     width: u64,
 ) -> Result<(), AllocError>
+    requires scanned { IsScanned journal.now.records scanned.now }
     requires count { count ≤ 2 ^ 32 }
     requires width { width ≤ 2 ^ 32 }
     requires queues { queues.now ≡ queues_by_name journal.now.records }
@@ -492,7 +567,7 @@ pub(crate) fn push_processes(
 {
     push_number(key, count)?;
     for p in 0..count {
-        push_process(alloc, key, journal, queues, width, p as u32)?;
+        push_process(alloc, key, journal, scanned, queues, width, p as u32)?;
     }
     Ok(())
 }

@@ -1,12 +1,12 @@
 //! The places of the messages in a queue, and of the sends and receives that wait on it.
 #![tactic(auto, using(mq_model::proofs::Prefixes::prefixes))]
 
-ghost use Rattle.std.specs.Prelude.{◌≡◌, ◌<◌, ◌≤◌, ◌++◌, false, get_or, IfOk, length};
+ghost use Rattle.std.specs.Prelude.{◌≡◌, ◌<◌, ◌≤◌, ◌++◌, [], ℕ, false, get_or, IfOk, IsFalse, length};
 ghost use Rattle.std.specs.Option.{option_to_list};
 ghost use Rattle.mq_model.specs.Record.{first};
 ghost use Rattle.mq_model.specs.Messages.{blocks_receive, ends_send, ends_receive};
 ghost use Rattle.mq_checker.specs.TakenTable.{marked, unless_in};
-ghost use Rattle.mq_equivalence.specs.Kinds.{AreMarked, begins, ended, ends, in_order, may_begin, standing};
+ghost use Rattle.mq_equivalence.specs.Kinds.{AddsNothing, AreMarked, IsLeft, begins, ended, ends, in_order, may_begin, standing};
 
 use crate::lines::{Order, lined};
 use mq_checker::scan_messages::{blocks_send, entered, enters};
@@ -183,15 +183,65 @@ pub fn add(places: &mut Vec<u64>, place: Option<u64>) -> Result<(), AllocError>
     Ok(())
 }
 
-// The places of this kind that queue `q` has, the latest first.
-fn standing(alloc: Global, journal: &Journal, kind: Kind, q: u64) -> Result<Vec<u64>, AllocError>
-    ensures { IfOk result (λ places. places.items ≡ standing kind journal.now.records q) }
+/// Which places of a kind were removed, and whether one may be left in some queue.
+#[derive(Drop)]
+pub(crate) struct Left {
+    marks: Vec<bool>,
+    some: bool,
+}
+
+// Whether the entry at place `i` may add a place that is not marked as removed.
+fn may_stay(marks: &[bool], kind: Kind, i: u64, entry: Entry) -> bool
+    ensures { IsFalse result → AddsNothing kind i entry marks.now }
+{
+    match may_begin(kind, i, entry) {
+        None => false,
+        Some(m) => !is_marked(marks, m),
+    }
+}
+
+// Whether a place of this kind may be left in some queue.
+fn one_stays(journal: &Journal, marks: &[bool], kind: Kind) -> bool
+    requires { AreMarked (length journal.now.records)
+        (ended kind journal.now.records) marks.now }
+    ensures { IsFalse result → (q : ℕ) → standing kind journal.now.records q ≡ [] }
+{
+    for i in 0..journal.len() {
+        let entry = entry_at(journal, i);
+        if may_stay(marks, kind, i, entry) {
+            return true;
+        }
+    }
+    false
+}
+
+/// What is left of a kind, for `in_order` of each queue.
+pub(crate) fn left_of(alloc: Global, journal: &Journal, kind: Kind) -> Result<Left, AllocError>
+    ensures { IfOk result (IsLeft kind journal.now.records) }
 {
     let marks = gone(alloc, journal, kind)?;
+    let some = one_stays(journal, &marks, kind);
+    Ok(Left { marks, some })
+}
+
+// The places of this kind that queue `q` has, the latest first.
+fn standing(
+    alloc: Global,
+    journal: &Journal,
+    left: &Left,
+    kind: Kind,
+    q: u64,
+) -> Result<Vec<u64>, AllocError>
+    requires { IsLeft kind journal.now.records left.now }
+    ensures { IfOk result (λ places. places.items ≡ standing kind journal.now.records q) }
+{
+    if !left.some {
+        return Ok(Vec::new(alloc));
+    }
     let mut places = Vec::new(alloc);
     for i in (0..journal.len()).rev() {
         let entry = entry_at(journal, i);
-        let found = stays(journal, &marks, kind, i, entry, q);
+        let found = stays(journal, &left.marks, kind, i, entry, q);
         add(&mut places, found)?;
     }
     Ok(places)
@@ -202,13 +252,15 @@ fn standing(alloc: Global, journal: &Journal, kind: Kind, q: u64) -> Result<Vec<
 pub(crate) fn in_order(
     alloc: Global,
     journal: &Journal,
+    left: &Left,
     kind: Kind,
     q: u64,
 ) -> Result<Vec<u64>, AllocError>
+    requires { IsLeft kind journal.now.records left.now }
     ensures { IfOk result (λ places. places.items ≡
         in_order kind journal.now.records (standing kind journal.now.records q)) }
 {
-    let places = standing(alloc, journal, kind, q)?;
+    let places = standing(alloc, journal, left, kind, q)?;
     match kind {
         Kind::Messages => lined(alloc, journal, Order::Priority, &places),
         Kind::Senders => Ok(places),

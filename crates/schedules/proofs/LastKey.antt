@@ -1,5 +1,5 @@
 -- The keys of the nodes to which the choices of a path lead.
-use Rattle.std.proofs.Common.{◌≡◌, ℕ, List, [], ◌∷◌, ◌++◌, Option, Some, None, IsSome, Vec, refl, subst, sym, ◌∙◌}
+use Rattle.std.proofs.Common.{◌≡◌, ℕ, Bool, true, false, List, [], ◌∷◌, ◌++◌, Option, Some, None, IsSome, Vec, if◌then◌else◌, refl, subst, sym, ◌∙◌}
 use Rattle.std.specs.Option.{option_and_then}
 use Rattle.std.specs.declared.alloc.Global.{Global}
 use Rattle.schedules.specs.Schedules.{after}
@@ -42,3 +42,8 @@ keys-last {S} next IsKey path front choice keys start now parts runs_on are =
       front_are = split.front_are;
       key = goes (after next front start) refl (front_runs next front (choice ∷ []) start now runs);
     }
+
+-- a key that is perhaps left out
+pub has-kept : {S : Type 0} (IsKey : S → List ℕ → Type 0) (s : S) (key kept : Option (Vec ℕ Global)) (b : Bool) → kept ≡ (if b then key else None) → HasKey IsKey s key → HasKey IsKey s kept
+has-kept IsKey s key kept true is has = rw is has
+has-kept IsKey s key kept false is has = rw is tt

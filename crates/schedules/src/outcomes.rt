@@ -1,5 +1,5 @@
 //! The outcomes of all schedules of a machine.
-ghost use Rattle.std.specs.Prelude.{◌≡◌, ◌++◌, ◌∷◌, [], ℕ, All, IfOk, List, None, OnOk, Some, false, is_some, true};
+ghost use Rattle.std.specs.Prelude.{◌≡◌, ◌++◌, ◌∷◌, [], ℕ, All, IfOk, List, None, OnOk, Some, false, if◌then◌else◌, is_some, true};
 ghost use Rattle.schedules.specs.Choices.{IsFirstFrom};
 ghost use Rattle.schedules.specs.Schedules.{after};
 ghost use Rattle.schedules.specs.Seen.{Noted, is_done};
@@ -119,7 +119,7 @@ fn first_from<M: Observable>(machine: &M, from: u64) -> Option<u32>
 }
 
 // What a search knows about a choice on its path: the next one to take instead of it, and the key
-// of the node to which it leads.
+// of the node to which it leads, if that is worth noting.
 #[derive(Drop)]
 struct Level {
     other: Option<u32>,
@@ -139,7 +139,15 @@ fn first_at<M: Observable>(machine: &M, seen: &Seen, key: &Option<Vec<u64>>) -> 
     }
 }
 
-// Removes the last level, and notes the key of its node.
+// The key to note when the search leaves a node: none if it tries nothing from the node, since that
+// key may be noted already.
+fn kept(key: Option<Vec<u64>>, next: &Option<u32>) -> Option<Vec<u64>>
+    ensures { result ≡ (if is_some next.now then key else None) }
+{
+    if next.is_some() { key } else { None }
+}
+
+// Removes the last level, and notes the key of its node, if it has one.
 fn leave(levels: &mut Vec<Level>, seen: &mut Seen) -> Result<Option<u32>, AllocError>
     ensures { (front : List Level) (last : Level) → levels.old.items ≡ front ++ last ∷ [] →
         IfOk result (λ other. (other ≡ last.other) × (levels.new.items ≡ front) ×
@@ -148,7 +156,9 @@ fn leave(levels: &mut Vec<Level>, seen: &mut Seen) -> Result<Option<u32>, AllocE
     let Some(Level { other, key }) = levels.pop() else {
         return Ok(None);
     };
-    seen.note(key)?;
+    if let Some(key) = key {
+        seen.add(key)?;
+    }
     Ok(other)
 }
 
@@ -189,6 +199,7 @@ pub fn collect<M: EquivalentOutcomes>(
                 note(alloc, machine, &path, &mut found)?;
                 let key = machine.key(alloc)?;
                 next = first_at(machine, &seen, &key);
+                let key = kept(key, &next);
                 levels.push(Level { other, key })?;
             }
             None => {

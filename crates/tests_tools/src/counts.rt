@@ -160,3 +160,31 @@ static CREATIONS: &str = "processes 4
 fn registrations_and_notices_leave_equivalent_states_merged(rt: HostRuntime) -> Result<(), Fail> {
     has(&rt, rt.alloc(), CREATIONS, 1_000_000, (1, 0))
 }
+
+// Four receives from queues of their own, and sends that end their waits in turn. With a key as long
+// as waits have to end, the search takes 5,101 steps. It would take 25,853 if only lines counted.
+static WAITS: &str = "processes 5
+5 open /q1 bc 10 8
+5 open /q2 bc 10 8
+5 open /q3 bc 10 8
+5 open /q4 bc 10 8
+--
+1 open /q1 b
+2 open /q2 b
+3 open /q3 b
+4 open /q4 b
+--
+1 recv 0 8
+2 recv 0 8
+3 recv 0 8
+4 recv 0 8
+5 send 0 0 m
+5 send 1 0 m
+5 send 2 0 m
+5 send 3 0 m
+";
+
+#[test]
+fn waits_to_end_leave_equivalent_states_merged(rt: HostRuntime) -> Result<(), Fail> {
+    has(&rt, rt.alloc(), WAITS, 10_000, (1, 0))
+}

@@ -7,6 +7,7 @@ use Rattle.schedules.specs.declared.outcomes.Level.{Level}
 use Rattle.schedules.proofs.Covering.{after-push, front_runs}
 use Rattle.schedules.proofs.Collecting.{all-found, is_new_goal, new-alike, new-fewer, noted-is_old}
 use Rattle.schedules.proofs.Alike.{AreDone, done-fewer, done-leads, done-more}
+use Rattle.schedules.proofs.LastKey.{has-kept}
 use Rattle.schedules.proofs.Ahead.{IsLevel, Leaves, Stands, stands-back, stands-fewer, stands-first, stands-push, step-goes}
 use Rattle.schedules.proofs.Working.{HasSpent, spends-entered, spends-first, spends-left, spends-within}
 use Rattle.schedules.proofs.outcomes.collect.Goals as goal
@@ -98,7 +99,7 @@ loop-preserved g c =
           let t = w.step.new.self in
           let more = w.note-in-Some.new.found.items in
           let key = w.in_ok-key-in-Some.key in
-          let level : Level = record { other = w.first_from-other.result; key = key } in
+          let level : Level = record { other = w.first_from-other.result; key = w.kept-key.result } in
           let stands = (rw w.in-Some.is at c.loop.invariant.stands) in
           let at : now ≡ stands.node = stands.here refl in
           let some : IsSome (next now choice) = rw at stands.ahead.1 in
@@ -114,7 +115,9 @@ loop-preserved g c =
           in
           let is : IsLevel next IsKey now choice level = record {
             first = (rw w.from.ensures at w.first_from-other.ensures);
-            key = λ u there. let e : t ≡ u = cc in subst (λ (x : g.row.M.Denot). HasKey IsKey x key) e w.in_ok-key-in-Some.ensures;
+            key = λ u there.
+                let e : t ≡ u = cc in
+                has-kept IsKey u key w.kept-key.result (is_some w.first_at-next.result) w.kept-key.ensures (subst (λ (x : g.row.M.Denot). HasKey IsKey x key) e w.in_ok-key-in-Some.ensures);
           }
           in
           let further = stands-push next (is_new_goal is_goal outcome more) IsKey path levels start now t choice level w.first_at-next.result (is_done seen key) fewer is step old_goal

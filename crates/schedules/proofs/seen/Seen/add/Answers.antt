@@ -17,19 +17,19 @@ passes : {K : Type 0} (test : K → Bool) (old new : List K) (key : K) (added : 
 passes test old new key true puts h = list_any-IsPermutation test (key ∷ old) new puts ∙ h
 passes test old new key false same h = either (test key) (list_any test old) (rw same at h)
 
-pub returns-clause-noted : goal.returns-clause-noted
-returns-clause-noted c other h =
-    passes (λ k. bytes_eq other k.items) c.args.self.now.keys.keys c.insert.new.self.keys c.args.key c.in_ok-_added._added c.in_ok-_added.ensures.keys h
+pub returns-then-branch-clause-noted : goal.returns-then-branch-clause-noted
+returns-then-branch-clause-noted c other h =
+    passes (λ k. bytes_eq other k.items) c.args.self.now.keys.keys c.insert.new.self.keys c.args.key c.in_ok-insert.field-0 c.in_ok-insert.ensures.keys h
 
 -- the numbers that are kept grow by those of the key at most
 grows : {K : Type 0} (f : K → ℕ) (old new : List K) (key : K) (added : Bool) → MatchBool added (IsPermutation (key ∷ old) new) (new ≡ old) → sum_by f new ≤ f key + sum_by f old
 grows f old new key true puts = let e : sum_by f new ≡ f key + sum_by f old = sum_by_pushed f key old new puts in omega (arith, e)
 grows f old new key false same = let e = ap (λ xs. sum_by f xs) same in omega (arith, e)
 
-pub returns-clause-bounded : goal.returns-clause-bounded
-returns-clause-bounded c before =
+pub returns-then-branch-clause-bounded : goal.returns-then-branch-clause-bounded
+returns-then-branch-clause-bounded c before =
     let f : Vec ℕ Global → ℕ = λ k. length k.items in
-    let more = grows f c.args.self.now.keys.keys c.insert.new.self.keys c.args.key c.in_ok-_added._added c.in_ok-_added.ensures.keys in
+    let more = grows f c.args.self.now.keys.keys c.insert.new.self.keys c.args.key c.in_ok-insert.field-0 c.in_ok-insert.ensures.keys in
     omega (arith, more, before, c.len-numbers.ensures, c.if-numbers-self.false)
 
 -- a key that was not there was put in, so that it passes too
@@ -37,10 +37,10 @@ puts : {K : Type 0} (test : K → Bool) (old new : List K) (key : K) (added : Bo
 puts test old new key true is put = sym (list_any-IsPermutation test (key ∷ old) new put)
 puts test old new key false is put = absurd (cc)
 
-pub returns-clause-added : goal.returns-clause-added
-returns-clause-added c none fits =
-    let is : c.in_ok-_added._added ≡ true = c.in_ok-_added.ensures.added ∙ ap not none in
+pub returns-then-branch-clause-added : goal.returns-then-branch-clause-added
+returns-then-branch-clause-added c none fits =
+    let is : c.in_ok-insert.field-0 ≡ true = c.in_ok-insert.ensures.added ∙ ap not none in
     record {
-      noted = λ other. puts (λ k. bytes_eq other k.items) c.args.self.now.keys.keys c.insert.new.self.keys c.args.key c.in_ok-_added._added is c.in_ok-_added.ensures.keys;
+      noted = λ other. puts (λ k. bytes_eq other k.items) c.args.self.now.keys.keys c.insert.new.self.keys c.args.key c.in_ok-insert.field-0 is c.in_ok-insert.ensures.keys;
       room = omega (arith, fits, c.len-numbers.ensures, c.if-numbers-self.false);
     }
