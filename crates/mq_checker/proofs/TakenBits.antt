@@ -27,12 +27,6 @@ length-set_true [] k = refl
 length-set_true (b ∷ table) zero = refl
 length-set_true (b ∷ table) (suc k) = ap suc (length-set_true table k)
 
--- a place that the table does not have
-pub set-past : (table : List Bool) (k : ℕ) → length table ≤ k → set table k true ≡ table
-set-past [] k le = refl
-set-past (b ∷ table) zero le = absurd (omega arith)
-set-past (b ∷ table) (suc k) le = ap (λ t. b ∷ t) (set-past table k (omega arith))
-
 marked-is : (table : List Bool) (o : Option ℕ) (xs : List ℕ) → ((m : ℕ) → m < length table → slice_get table m ≡ Some (is_in xs m)) → (m : ℕ) → m < length (marked table o) → slice_get (marked table o) m ≡ Some (is_in (with_place o xs) m)
 marked-is table None xs is m lt = is m lt
 marked-is table (Some k) xs is m lt =
