@@ -162,30 +162,6 @@ impl Ledger {
         }
     }
 
-    /// The priority of the message sent by entry `place`, if that can be read.
-    #[inline(always)]
-    pub fn priority(&self, place: u64) -> u32
-        ensures { CanRead self.now place → result ≡ priority self.now.records place }
-    {
-        match &self.kind {
-            Kind::Stored(journal) => priority_in(journal, place),
-            Kind::Unstored(unstored) => unstored.priority(place),
-        }
-    }
-
-    /// The payload of entry `place`, if that can be read.
-    #[inline(always)]
-    pub fn payload(&self, place: u64) -> Option<&[u8]>
-        ensures { CanRead self.now place →
-            option_map (λ p. p.now) result ≡ option_map (λ r. r.payload)
-            (record_at self.now.records place) }
-    {
-        match &self.kind {
-            Kind::Stored(journal) => journal.payload(place),
-            Kind::Unstored(unstored) => unstored.payload(place),
-        }
-    }
-
     /// The payload of entry `place` and the priority of the message that it sends, if that can be
     /// read.
     #[inline(always)]

@@ -488,28 +488,6 @@ impl Unstored {
         )
     }
 
-    /// The priority of the message sent by entry `place`, if that is kept.
-    #[inline(always)]
-    pub fn priority(&self, place: u64) -> u32
-        ensures { HasPlace self.now.places place → result ≡ priority self.now.records place }
-    {
-        if slots::is_there(&self.slots, self.last, place) {
-            return self.slots[self.last].prio();
-        }
-        self.priority_found(place)
-    }
-
-    // The same for an entry in another slot than `last`.
-    #[inline(never)]
-    fn priority_found(&self, place: u64) -> u32
-        ensures { HasPlace self.now.places place → result ≡ priority self.now.records place }
-    {
-        match slots::find(&self.slots, &self.index, self.last, place) {
-            None => 0,
-            Some(key) => self.slots[key].prio(),
-        }
-    }
-
     /// The payload of entry `place` and the priority of the message that it sends, if that is kept.
     #[inline(always)]
     pub fn message(&self, place: u64) -> (Option<&[u8]>, u32)
@@ -523,32 +501,24 @@ impl Unstored {
             let slot = &self.slots[self.last];
             return (Some(slot.bytes()), slot.prio());
         }
-        (self.payload_found(place), self.priority_found(place))
-    }
-
-    /// The payload of entry `place`, if that is kept.
-    #[inline(always)]
-    pub fn payload(&self, place: u64) -> Option<&[u8]>
-        ensures { HasPlace self.now.places place →
-            option_map (λ p. p.now) result ≡ option_map (λ r. r.payload)
-            (record_at self.now.records place) }
-    {
-        if slots::is_there(&self.slots, self.last, place) {
-            return Some(self.slots[self.last].bytes());
-        }
-        self.payload_found(place)
+        self.message_found(place)
     }
 
     // The same for an entry in another slot than `last`.
     #[inline(never)]
-    fn payload_found(&self, place: u64) -> Option<&[u8]>
-        ensures { HasPlace self.now.places place →
-            option_map (λ p. p.now) result ≡ option_map (λ r. r.payload)
+    fn message_found(&self, place: u64) -> (Option<&[u8]>, u32)
+        ensures payload { HasPlace self.now.places place →
+            option_map (λ p. p.now) result.0 ≡ option_map (λ r. r.payload)
             (record_at self.now.records place) }
+        ensures priority { HasPlace self.now.places place →
+            result.1 ≡ priority self.now.records place }
     {
         match slots::find(&self.slots, &self.index, self.last, place) {
-            None => None,
-            Some(key) => Some(self.slots[key].bytes()),
+            None => (None, 0),
+            Some(key) => {
+                let slot = &self.slots[key];
+                (Some(slot.bytes()), slot.prio())
+            }
         }
     }
 

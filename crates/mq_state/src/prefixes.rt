@@ -88,7 +88,7 @@ impl<'a> Prefix<'a> {
         }
         match self.source {
             Source::Journal(journal) => priority_in(journal, place),
-            Source::Ledger(ledger) => ledger.priority(place),
+            Source::Ledger(ledger) => ledger.message(place).1,
         }
     }
 
@@ -104,7 +104,7 @@ impl<'a> Prefix<'a> {
         }
         match self.source {
             Source::Journal(journal) => journal.payload(place),
-            Source::Ledger(ledger) => ledger.payload(place),
+            Source::Ledger(ledger) => ledger.message(place).0,
         }
     }
 }

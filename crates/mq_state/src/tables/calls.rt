@@ -131,6 +131,11 @@ impl Tables {
             (payload_bytes journal.now.records + bytes) ≡ false }
         ensures room { IsTrue result → (waits_count self.now.owners.items + 2 ≤
             journal.now.entry_room) × (bytes ≤ journal.now.byte_room) }
+        ensures always { exceeds self.now.bounds
+            (length journal.now.records + open_waits journal.now.records + 2)
+            (payload_bytes journal.now.records + bytes) ≡ false →
+            waits_count self.now.owners.items + 2 ≤ journal.now.entry_room →
+            bytes ≤ journal.now.byte_room → IsTrue result }
     {
         !self.exceeds(journal, 2, bytes) && journal.has_room(self.open_waits() + 2, bytes)
     }

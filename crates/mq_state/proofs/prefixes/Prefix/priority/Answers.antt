@@ -20,5 +20,5 @@ returns-in-Ledger c can =
     let records : first c.self.inside.len l.records ≡ c.args.self.now.records = rw c.in-Ledger.is at (ap (λ (s : Shown). s.records) c.self.view_is) in
     let stored : l.stored ≡ c.args.self.now.stored = rw c.in-Ledger.is at (ap (λ (s : Shown). s.stored) c.self.view_is) in
     let places : l.places ≡ c.args.self.now.places = rw c.in-Ledger.is at (ap (λ (s : Shown). s.places) c.self.view_is) in
-    let there = c.priority.ensures (rw (stored, places) can) in
+    let there = c.message.ensures.priority (rw (stored, places) can) in
     grind (arith, record_at-first, records, there)
