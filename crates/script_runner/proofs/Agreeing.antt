@@ -9,13 +9,12 @@ use Rattle.mq.specs.Blocked.{is_blocked}
 use Rattle.mq.specs.Calls.{Calls}
 use Rattle.mq_model.specs.Record.{Record}
 use Rattle.script_runner.specs.Meeting.{AllLook, FindsBlocked, Meet, MeetBlocked}
-use Rattle.script_runner.specs.Phase.{AllWorkOff, WorksOff}
 use Rattle.script_runner.specs.Runs.{FindsLength, IsReady}
 use Rattle.script_runner.specs.declared.turns.Share.{Share}
 use Rattle.script_runner.specs.declared.turns.Worked.{Worked}
 use Rattle.script_runner.proofs.Blocking.{calls-later}
 use Rattle.script_runner.proofs.SideBySide.{zip-all, zip-then, zip-weaker}
-use Rattle.script_runner.proofs.Working.{all-ready}
+use Rattle.script_runner.proofs.Working.{AllWorkOff, all-ready}
 
 abbrev IsOf : LockId → Ticket Record → Type 0
 IsOf mq process = process.lock ≡ mq
@@ -30,11 +29,6 @@ look-made mq old new looked made = zip-all Looks (IsOf mq) (IsOf mq) (λ a b loo
 -- one poll after another
 pub looks-later : (old mid new : List (Ticket Record)) → AllLook old mid → AllLook mid new → AllLook old new
 looks-later old mid new first later = zip-then Looks Looks Looks (λ a b c one two. calls-later one two) old mid new first later
-
--- the processes of a phase that has ended are of the system
-pub workers-made : (mq : LockId) (shares : List (Share (Ticket Record))) (workers : List (Worked (Ticket Record))) → AllWorkOff shares workers → All (λ share. IsReady mq share.process) shares → All (λ worked. worked.process.lock ≡ mq) workers
-workers-made mq shares workers off ready =
-    zip-all WorksOff (λ (s : Share (Ticket Record)). IsReady mq s.process) (λ (w : Worked (Ticket Record)). w.process.lock ≡ mq) (λ s w works is. works.same.lock ∙ is.made) shares workers off ready
 
 -- processes that met are ready again
 pub met-ready : (mq : LockId) (shares : List (Share (Ticket Record))) (workers : List (Worked (Ticket Record))) (after : List (Ticket Record)) → AllWorkOff shares workers → All (λ share. IsReady mq share.process) shares → Meet (map (λ worked. worked.process) workers) after → All (IsReady mq) after

@@ -1,36 +1,41 @@
 -- Phases whose calls ended, or that deadlocked.
-use Rattle.std.proofs.Common.{arith, ◌≡◌, ◌<◌, ◌+◌, ◌++◌, ◌∷◌, ◌∙◌, [], ℕ, List, All, ap, sym, get_or, length, map, subst, take, Result, IfErr, Option}
-use Rattle.std.specs.List.{AllByRecursion as ByRecursion, AllZip}
-use Rattle.std.proofs.lemmas.List.{length-map}
+use Rattle.std.proofs.Common.{arith, ◌≡◌, ◌≢◌, ◌<◌, ◌+◌, ◌++◌, ◌∷◌, ◌∙◌, [], ℕ, List, All, ap, sym, get_or, length, map, subst, take, true, Option, Err, IsErrOf, Result, Vec, Global, vec_len, ◌==◌}
+use Rattle.std.specs.List.{AllByRecursion as ByRecursion, AllZip, list_all}
+use Rattle.std.proofs.lemmas.Grind.{common_steps}
+use Rattle.std.proofs.lemmas.List.{length-map, nil_from_length}
 use Rattle.std.proofs.lemmas.List.Elements.{All-map, recursion_from_All}
 use Rattle.std.proofs.lemmas.Slice.Zip.{AllZip-long}
-use Rattle.std.specs.Result.{IsErrAnd}
 use Rattle.fast_mutex.specs.Items.{LockId, Ticket}
+use Rattle.mq.specs.Blocked.{is_blocked}
 use Rattle.mq_model.specs.Record.{Record}
 use Rattle.script_text.specs.Script.{WrittenCall}
-use Rattle.script_runner.specs.Phase.{AllEnd, AllWorkOff, AreReady, Ends, EndsEarly, EndsInDeadlock, calls_in}
+use Rattle.script_runner.specs.Phase.{AllEnd, AreReady, Ends, calls_in}
+use Rattle.script_runner.specs.Meeting.{MeetBlocked}
 use Rattle.script_runner.specs.Runs.{IsReady, calls_of}
-use Rattle.script_runner.specs.Stands.{ComesToAStand, EndsPhase, EndsStuck, blocked_lines, blocked_processes, line_in, process_in}
-use Rattle.script_runner.specs.RunFault.{IsUnwritten, fault_of}
+use Rattle.script_runner.specs.Stands.{ComesToAStand, EndsPhase, blocked_lines, blocked_processes, line_in, process_in}
 use Rattle.script_runner.specs.declared.stop.Stop.{Stop}
+use Rattle.script_runner.specs.declared.stop.Stop.TheVariants.{Stuck}
 use Rattle.script_runner.specs.declared.turns.Share.{Share}
 use Rattle.script_runner.specs.declared.turns.Worked.{Worked}
 use Rattle.script_runner.proofs.Agreeing.{blocked-are, blocked-met, found-looks, look-made}
 use Rattle.script_runner.proofs.Lists.{flat_map-more}
 use Rattle.script_runner.proofs.SideBySide.{zip-all}
+use Rattle.script_runner.proofs.Working.{AllWorkOff}
 
 -- the processes are of the system of their shares
 pub all-made : (mq : LockId) (shares : List (Share (Ticket Record))) (workers : List (Worked (Ticket Record))) → AllEnd shares workers → AreReady mq shares → All (λ (w : Worked (Ticket Record)). w.process.lock ≡ mq) workers
 all-made mq shares workers ends ready =
     zip-all Ends (λ (s : Share (Ticket Record)). IsReady mq s.process) (λ (w : Worked (Ticket Record)). w.process.lock ≡ mq) (λ s w end is. end.same.lock ∙ is.made) shares workers ends ready.all
 
-through : (shares : List (Share (Ticket Record))) (workers : List (Worked (Ticket Record))) → AllEnd shares workers → blocked_lines workers ≡ [] → AllWorkOff shares workers
+-- if no call waits, all were made
+pub through : (shares : List (Share (Ticket Record))) (workers : List (Worked (Ticket Record))) → AllEnd shares workers → blocked_lines workers ≡ [] → AllWorkOff shares workers
 through [] [] ends none = tt
 through (s ∷ shares) (w ∷ workers) ends none = grind (arith, through shares workers ends.1)
 through shares workers ends none = absurd ends
 
-pub all-through : (shares : List (Share (Ticket Record))) (ended workers : List (Worked (Ticket Record))) → AllEnd shares ended → (workers ≡ ended) × (blocked_lines ended ≡ []) → AllWorkOff shares workers
-all-through shares ended workers ends settled = subst (λ ws. AllWorkOff shares ws) (sym settled.0) (through shares ended ends settled.1)
+-- lines that are none
+pub none-left : (lines : Vec ℕ Global) → (vec_len lines == 0) ≡ true → lines.items ≡ []
+none-left lines is = grind (arith, common_steps, nil_from_length)
 
 -- if shares of these calls deadlocked, so did the phase
 each-ends : (calls : List WrittenCall) (shares : List (Share (Ticket Record))) (ended : List (Worked (Ticket Record))) → AllEnd shares ended → ByRecursion (λ (share : Share (Ticket Record)). calls_in share.turns.items ≡ calls_of share.process.number calls) shares
@@ -39,8 +44,23 @@ each-ends calls [] [] ends dealt = tt
 each-ends calls (s ∷ shares) (w ∷ ended) ends dealt = grind (arith, each-ends calls shares ended ends.1 dealt.1)
 each-ends calls shares ended ends dealt = absurd ends
 
-pub phase-stands : (calls : List WrittenCall) (shares : List (Share (Ticket Record))) (before : List (Ticket Record)) (lines : List ℕ) (after : List (Ticket Record)) → EndsInDeadlock shares lines after → All (λ share. calls_in share.turns.items ≡ calls_of share.process.number calls) shares → map (λ share. share.process) shares ≡ before → ComesToAStand calls before lines after
-phase-stands calls shares before lines after stuck dealt processes = grind (arith, blocked-are, blocked-met, each-ends, recursion_from_All)
+pub phase-stands : (calls : List WrittenCall) (shares : List (Share (Ticket Record))) (workers : List (Worked (Ticket Record))) (before : List (Ticket Record)) (lines blocked : List ℕ) (after : List (Ticket Record)) → AllEnd shares workers → All (λ share. calls_in share.turns.items ≡ calls_of share.process.number calls) shares → map (λ share. share.process) shares ≡ before → lines ≡ blocked_lines workers → lines ≢ [] → blocked ≡ blocked_processes workers → MeetBlocked blocked (map (λ worked. worked.process) workers) after → ComesToAStand calls before lines after
+phase-stands calls shares workers before lines blocked after ends dealt processes are some waits met =
+    let P : Share (Ticket Record) → Type 0 = λ share. calls_in share.turns.items ≡ calls_of share.process.number calls in
+    let ended = map (λ (w : Worked (Ticket Record)). w.process) workers in
+    record {
+      ended = workers;
+      each = subst (λ (b : List (Ticket Record)). AllZip (EndsPhase calls) b workers) processes (each-ends calls shares workers ends (recursion_from_All P shares dealt));
+      are = sym are;
+      some = some;
+      n = met.n;
+      met = blocked-met blocked met.n ended after met.found;
+      blocked = subst (λ (b : List ℕ). All (λ (process : Ticket Record). list_all (is_blocked process.left) b ≡ true) after) waits (blocked-are blocked met.n ended after met.found);
+    }
+
+-- what holds of the processes and the lines of a stop holds of those of an equal one
+pub stuck-same : (P : List ℕ → List (Ticket Record) → Type 0) {A : Type 0} (r : Result A (Stop (Ticket Record))) (after other : Vec (Ticket Record) Global) (lines those : Vec ℕ Global) → r ≡ Err (Stuck after lines) → IsErrOf r (Stuck other those) → P lines.items after.items → P those.items other.items
+stuck-same P r after other lines those is same holds = grind arith
 
 -- the processes come back: they are of the same system, and as many
 pub stand-made : (mq : LockId) (calls : List WrittenCall) (before : List (Ticket Record)) (lines : List ℕ) (after : List (Ticket Record)) → ComesToAStand calls before lines after → All (IsReady mq) before → All (λ process. process.lock ≡ mq) after
@@ -60,10 +80,3 @@ pub processes-more : (workers : List (Worked (Ticket Record))) (i : ℕ) (d : Wo
 processes-more workers i d o low is =
     flat_map-more (λ (w : Worked (Ticket Record)). process_in w.blocked w.process.number) workers i d low
     ∙ ap (λ b. blocked_processes (take i workers) ++ process_in b (get_or workers i d).process.number) is
-
--- why a phase ended early
-pub ends-early : (shares : List (Share (Ticket Record))) (workers : List (Worked (Ticket Record))) → AllEnd shares workers → (stop : Stop (Ticket Record)) → EndsStuck workers stop → EndsEarly shares stop
-ends-early = grind (arith)
-
-pub stop-same : {A : Type 0} (r : Result A (Stop (Ticket Record))) (stop : Stop (Ticket Record)) → IsErrAnd r (λ e. e ≡ stop) → IsUnwritten (fault_of stop) → IfErr r (λ e. IsUnwritten (fault_of e))
-stop-same = grind arith

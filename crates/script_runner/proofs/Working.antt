@@ -3,15 +3,16 @@ use Rattle.std.proofs.Common.{◌≡◌, ◌<◌, ◌≤◌, ◌+◌, ◌++◌, 
 use Rattle.std.proofs.lemmas.List.{length-map, take_more, map-append}
 use Rattle.std.proofs.lemmas.List.Elements.{All-nil, All-cons, All-head, All-tail, All-from_recursion, All-map, recursion_from_All}
 use Rattle.std.proofs.lemmas.Slice.Zip.{AllZip-long}
-use Rattle.std.specs.List.{AllByRecursion as ByRecursion}
+use Rattle.std.specs.List.{AllByRecursion as ByRecursion, AllZip}
 use Rattle.fast_mutex.specs.Items.{LockId, Ticket, tickets_from, tickets_with}
+use Rattle.mq.specs.Calls.{IsFree}
 use Rattle.mq_model.specs.Record.{Past, Record}
 use Rattle.mq_model.specs.Waits.{open_wait}
 use Rattle.script_runner.specs.Buffer.{buffer_given}
 use Rattle.text_io.specs.Words.{Word}
 use Rattle.script_runner.specs.Meeting.{RunsAndMeets}
-use Rattle.script_runner.specs.Phase.{AllWorkOff, WorksOff, calls_in, text_in}
-use Rattle.script_runner.specs.Runs.{IsReady, NoneWaits, Performs, RunsCalls, RunsPhase, RunsPhases, calls_of}
+use Rattle.script_runner.specs.Phase.{calls_in, text_in}
+use Rattle.script_runner.specs.Runs.{IsReady, IsSameProcess, NoneWaits, Performs, RunsCalls, RunsPhase, RunsPhases, calls_of}
 use Rattle.script_text.specs.Script.{WrittenCall, said_calls, said_phases}
 use Rattle.script_text.specs.declared.line.ScriptCall.{ScriptCall}
 use Rattle.script_text.specs.declared.reply.Completion.{Completion}
@@ -19,6 +20,16 @@ use Rattle.script_runner.specs.declared.turns.Share.{Share}
 use Rattle.script_runner.specs.declared.turns.Worked.{Worked}
 use Rattle.script_runner.proofs.SideBySide.{zip-all}
 use denote.Ref.{Bor}
+
+-- a process made the calls of its share, in order, and has no open wait
+pub record WorksOff (share : Share (Ticket Record)) (worked : Worked (Ticket Record)) : Type 0 where
+  pub same : IsSameProcess share.process worked.process
+  pub free : IsFree worked.process
+  pub calls : RunsCalls (calls_in share.turns.items) worked.completions.items share.process worked.process
+
+-- each process made the calls of its share
+abbrev pub AllWorkOff : List (Share (Ticket Record)) → List (Worked (Ticket Record)) → Type 0
+AllWorkOff shares workers = AllZip WorksOff shares workers
 
 -- one more call
 pub RunsCalls-push : (calls : List WrittenCall) (call : WrittenCall) (completions : List Completion) (completion : Completion) (old mid new : Ticket Record) → RunsCalls calls completions old mid → Performs call.moment call.command (buffer_given call.command) completion.buffer.items mid new completion.outcome → RunsCalls (calls ++ call ∷ []) (completions ++ completion ∷ []) old new

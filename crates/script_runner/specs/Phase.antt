@@ -1,16 +1,13 @@
 -- The effect of a phase on its shares.
-use Rattle.std.specs.Prelude.{◌≡◌, ◌≢◌, ℕ, List, [], None, map}
+use Rattle.std.specs.Prelude.{◌≡◌, ℕ, List, None, map}
 use Rattle.std.specs.List.{All, AllZip, flat_map}
 use Rattle.fast_mutex.specs.Items.{LockId, Ticket}
 use Rattle.mq.specs.Calls.{IsFree}
 use Rattle.mq_model.specs.Record.{Record}
-use Rattle.script_runner.specs.Meeting.{MeetBlocked}
-use Rattle.script_runner.specs.Runs.{IsReady, IsSameProcess, RunsCalls}
-use Rattle.script_runner.specs.Stands.{EndsIn, blocked_lines, blocked_processes}
+use Rattle.script_runner.specs.Runs.{IsReady, IsSameProcess}
+use Rattle.script_runner.specs.Stands.{EndsIn}
 use Rattle.script_text.specs.ReplyLines.{reply_lines}
 use Rattle.script_text.specs.Script.{WrittenCall, said_call}
-use Rattle.script_runner.specs.declared.stop.Stop.{Stop}
-use Rattle.script_runner.specs.declared.stop.Stop.TheVariants.{NoMemory, Output, Stuck}
 use Rattle.script_runner.specs.declared.turns.Share.{Share}
 use Rattle.script_runner.specs.declared.turns.Turn.{Turn}
 use Rattle.script_runner.specs.declared.turns.Worked.{Worked}
@@ -35,27 +32,3 @@ pub record Ends (share : Share (Ticket Record)) (worked : Worked (Ticket Record)
 
 abbrev pub AllEnd : List (Share (Ticket Record)) → List (Worked (Ticket Record)) → Type 0
 AllEnd shares workers = AllZip Ends shares workers
-
--- a process made the calls of its share, in order, and has no open wait
-pub record WorksOff (share : Share (Ticket Record)) (worked : Worked (Ticket Record)) : Type 0 where
-  pub same : IsSameProcess share.process worked.process
-  pub free : IsFree worked.process
-  pub calls : RunsCalls (calls_in share.turns.items) worked.completions.items share.process worked.process
-
--- each process made the calls of its share
-abbrev pub AllWorkOff : List (Share (Ticket Record)) → List (Worked (Ticket Record)) → Type 0
-AllWorkOff shares workers = AllZip WorksOff shares workers
-
--- The phase of these shares deadlocked, in the calls of these lines, and then all processes met.
-pub record EndsInDeadlock (shares : List (Share (Ticket Record))) (lines : List ℕ) (after : List (Ticket Record)) : Type 0 where
-  pub ended : List (Worked (Ticket Record))
-  pub each : AllEnd shares ended
-  pub are : blocked_lines ended ≡ lines
-  pub some : lines ≢ []
-  pub met : MeetBlocked (blocked_processes ended) (map (λ worked. worked.process) ended) after
-
--- why the phase of these shares ended early
-abbrev pub EndsEarly : List (Share (Ticket Record)) → Stop (Ticket Record) → Type 0
-EndsEarly shares NoMemory = Unit {0}
-EndsEarly shares (Stuck after lines) = EndsInDeadlock shares lines.items after.items
-EndsEarly shares Output = ⊥

@@ -8,8 +8,6 @@ use Rattle.script_text.specs.declared.fault.ScriptFault.{ScriptFault}
 use Rattle.script_text.specs.declared.fault.ScriptFault.TheVariants as script
 use Rattle.script_runner.specs.declared.fault.RunFault.{RunFault}
 use Rattle.script_runner.specs.declared.fault.RunFault.TheVariants.{BadCall, Deadlock, Input, Output, NoMemory}
-use Rattle.script_runner.specs.declared.stop.Stop.{Stop}
-use Rattle.script_runner.specs.declared.stop.Stop.TheVariants as stop
 
 -- one line for each line of the script whose call waits, separated by line feeds
 abbrev pub wait_text : ℕ → List ℕ
@@ -45,12 +43,6 @@ of_read_fault read.NoMemory = NoMemory
 abbrev pub of_script_fault : ScriptFault → RunFault
 of_script_fault (script.BadCall line) = BadCall line
 of_script_fault script.NoMemory = NoMemory
-
--- why a run ends if its phases ended early
-abbrev pub fault_of : {P : Type 0} → Stop P → RunFault
-fault_of stop.Output = Output
-fault_of stop.NoMemory = NoMemory
-fault_of (stop.Stuck processes lines) = Deadlock lines
 
 -- a failure after the script was read
 abbrev pub IsLate : RunFault → Type 0

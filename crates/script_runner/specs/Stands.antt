@@ -5,12 +5,9 @@ use Rattle.fast_mutex.specs.Items.{Ticket}
 use Rattle.mq.specs.Blocked.{is_blocked}
 use Rattle.mq_model.specs.Record.{Record}
 use Rattle.script_runner.specs.Buffer.{buffer_given}
-use Rattle.script_runner.specs.Meeting.{MeetBlocked}
 use Rattle.script_runner.specs.Runs.{Blocks, FindsLength, IsSameProcess, RunsCalls, calls_of}
 use Rattle.script_text.specs.Script.{WrittenCall}
 use Rattle.script_text.specs.declared.reply.Completion.{Completion}
-use Rattle.script_runner.specs.declared.stop.Stop.{Stop}
-use Rattle.script_runner.specs.declared.stop.Stop.TheVariants.{NoMemory, Output, Stuck}
 use Rattle.script_runner.specs.declared.turns.Worked.{Worked}
 
 -- A process made some of these calls, the first ones, and then began the call in this line, in
@@ -64,12 +61,3 @@ pub record ComesToAStand (calls : List WrittenCall) (before : List (Ticket Recor
   pub n : ℕ
   pub met : AllZip (FindsLength n) (map (λ worked. worked.process) ended) after
   pub blocked : All (λ process. list_all (is_blocked process.left) (blocked_processes ended) ≡ true) after
-
--- why a phase of these workers ended early: memory was refused, or the calls in these lines wait
--- for ever
-abbrev pub EndsStuck : List (Worked (Ticket Record)) → Stop (Ticket Record) → Type 0
-EndsStuck workers NoMemory = Unit {0}
-EndsStuck workers (Stuck after lines) =
-    MeetBlocked (blocked_processes workers) (map (λ worked. worked.process) workers) after.items
-    × (lines.items ≡ blocked_lines workers) × (lines.items ≢ [])
-EndsStuck workers Output = ⊥

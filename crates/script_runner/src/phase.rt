@@ -1,9 +1,9 @@
 //! A phase: each process that has calls makes them in a thread of its own.
-ghost use Rattle.std.specs.Prelude.{◌≡◌, [], IfErr, IfNone, IfOk, IfSome, vec_len};
+ghost use Rattle.std.specs.Prelude.{◌≡◌, [], IfNone, IfOk, IfSome, vec_len};
 ghost use Rattle.mq.specs.Calls.{IsFree};
 ghost use Rattle.script_runner.specs.Buffer.{buffer_given};
 ghost use Rattle.script_runner.specs.Members.{AllGive, AllHaveShares, Gives};
-ghost use Rattle.script_runner.specs.Phase.{AllEnd, AllWorkOff, AreReady, Ends, EndsEarly};
+ghost use Rattle.script_runner.specs.Phase.{AllEnd, AreReady, Ends};
 ghost use Rattle.script_runner.specs.Runs.{Blocks, IsReady, IsSameProcess, Performs};
 ghost use Rattle.script_text.specs.Grammar.{said};
 ghost use Rattle.script_text.specs.Replies.{HasMessage};
@@ -11,8 +11,6 @@ ghost use Rattle.script_text.specs.Replies.{HasMessage};
 use crate::calls::perform;
 use crate::gate::Gate;
 use crate::peers::{Peer, leave, leave_all, peers_of};
-use crate::settling::settled;
-use crate::stop::Stop;
 use crate::turns::{Share, Turn, Worked};
 use fast_mutex::Look;
 use mq::{Guarded, Mq, Process};
@@ -38,27 +36,6 @@ impl<'s, L: Look<Guarded>> Promise<Worked<Process<L>>> for Works<'s, L> {
 enum Member<'s, L: Look<Guarded>> {
     Idle(Worked<Process<L>>),
     Busy(PromisedHandle<Worked<Process<L>>, Works<'s, L>>),
-}
-
-/// Runs a phase, and joins all its threads. Fails with `Stop::NoMemory` if memory or a thread was
-/// refused; threads that were started have then run to their end. Fails with `Stop::Stuck` if some
-/// processes wait for ever, in the calls of these lines.
-pub fn run_phase<'s, L: Look<Guarded> + Sync, R: Threads + Wait + Clock + Sync, G: Gate + Sync>(
-    rt: &'s R,
-    alloc: Global,
-    mq: &'s Mq<L>,
-    gate: &'s G,
-    shares: Vec<Share<'s, Process<L>>>,
-) -> Result<Vec<Worked<Process<L>>>, Stop<Process<L>>>
-where
-    L::Seat: Send,
-    L::Walk: Send,
-    requires { AreReady mq.now shares.items }
-    ensures through { IfOk result (λ workers. AllWorkOff shares.entry.items workers.items) }
-    ensures fault { IfErr result (EndsEarly shares.entry.items) }
-{
-    let workers = make_calls(rt, alloc, mq, gate, shares)?;
-    settled(rt, alloc, mq, workers)
 }
 
 /// Makes the calls of a phase, each process up to one that waits for ever, and joins all its

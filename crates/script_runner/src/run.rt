@@ -5,29 +5,22 @@ ghost use Rattle.std.specs.Io.KnownBytes.{Appends, Consumes};
 ghost use Rattle.std.specs.List.{All};
 ghost use Rattle.mq_model.specs.Legality.{Legal};
 ghost use Rattle.mq.specs.Calls.{author, stored_in};
-ghost use Rattle.script_runner.specs.RunFault.{IsLate, IsUnwritten, StopsAt, fault_of};
-ghost use Rattle.fast_mutex.specs.Items.{Grows, Ticket};
+ghost use Rattle.script_runner.specs.RunFault.{IsLate, StopsAt};
+ghost use Rattle.fast_mutex.specs.Items.{Grows};
 ghost use Rattle.text_io.specs.Output.{AppendsTooLittle};
-ghost use Rattle.mq_model.specs.Record.{Record};
-ghost use Rattle.script_runner.specs.Meeting.{RunsAndMeets};
-ghost use Rattle.script_runner.specs.Runs.{IsReady, RunsPhase, RunsPhases, RunsScript, RunsWhole, last_line};
-ghost use Rattle.script_runner.specs.Stops.{RunsFront, StopsAfterPhase, StopsBlocked, StopsInDeadlock, StopsInPhase, StopsInWrite};
-ghost use Rattle.script_runner.specs.Stands.{ComesToAStand};
-ghost use Rattle.script_text.specs.Script.{Whole, said_calls, said_phases, said_script, script_written};
+ghost use Rattle.script_runner.specs.Runs.{RunsScript, RunsWhole, last_line};
+ghost use Rattle.script_runner.specs.Stops.{StopsAfterPhase, StopsInDeadlock, StopsInWrite};
+ghost use Rattle.script_text.specs.Script.{Whole, said_script, script_written};
 ghost use Rattle.script_runner.specs.declared.fault.RunFault.TheVariants.{BadCall, Deadlock, Input, NoMemory, Output};
-ghost use Rattle.script_runner.specs.declared.stop.Stop.TheVariants as stop;
 
-use crate::deal::shares_of;
 use crate::fault::RunFault;
 use crate::gate::Gate;
-use crate::meeting::meet;
-use crate::phase::run_phase;
+use crate::runner::Runner;
+use crate::sink::Written;
 use crate::stop::Stop;
-use crate::text::text_of;
 use fast_mutex::Look;
 use mq::{Guarded, Mq, Process, verdict};
 use mq_model::journals::Journal;
-use script_text::line::ScriptCall;
 use script_text::script::{MOST_BYTES, Script, read_script};
 use std::alloc::Global;
 use std::io::Write;
@@ -130,12 +123,12 @@ where
 }
 
 // The same without the last line; returns the journal.
-pub(crate) fn run_whole<L, S, W, G>(
-    rt: &S,
+pub(crate) fn run_whole<'r, L, S, W, G>(
+    rt: &'r S,
     alloc: Global,
     script: &Script<'_>,
     output: &mut W,
-    gate: &G,
+    gate: &'r G,
 ) -> Result<Journal, RunFault>
 where
     L: Look<Guarded> + Sync,
@@ -161,8 +154,14 @@ where
     let Ok((mq, processes)) = Mq::<L>::new(alloc, script.processes) else {
         return Err(RunFault::NoMemory);
     };
+    let runner = Runner {
+        rt,
+        alloc,
+        mq: &mq,
+        gate,
+    };
     let phases = script.phases.as_slice();
-    match run_written_phases(rt, alloc, &mq, output, gate, processes, phases) {
+    match runner.run::<_, Written>(processes, phases, output) {
         Ok(processes) => Ok(journal_of(mq, processes)),
         Err(Stop::Output) => Err(RunFault::Output),
         Err(Stop::NoMemory) => Err(RunFault::NoMemory),
@@ -188,119 +187,6 @@ pub(crate) fn journal_of<L: Look<Guarded>>(mq: Mq<L>, processes: Vec<Process<L>>
         unreachable!()
     };
     journal
-}
-
-// Runs phases in order, and writes the replies of each.
-fn run_written_phases<'s, L, S, W, G>(
-    rt: &'s S,
-    alloc: Global,
-    mq: &'s Mq<L>,
-    output: &mut W,
-    gate: &'s G,
-    mut processes: Vec<Process<L>>,
-    phases: &'s [Vec<ScriptCall<&'s [u8]>>],
-) -> Result<Vec<Process<L>>, Stop<Process<L>>>
-where
-    L: Look<Guarded> + Sync,
-    L::Seat: Send,
-    L::Walk: Send,
-    S: Threads + Wait + Clock + Sync,
-    W: Write,
-    G: Gate + Sync,
-    requires { All (IsReady mq.now) processes.items }
-    ensures no_memory { IsErrOf result stop.NoMemory →
-        RunsFront (said_phases phases.now) processes.items (W.contents output.old)
-        (W.contents output.new) }
-    ensures output { IsErrOf result stop.Output →
-        StopsInPhase (said_phases phases.now) processes.items (W.contents output.old)
-        (W.contents output.new) }
-    ensures deadlock { (after : Vec (Ticket Record) Global) (lines : Vec ℕ Global) →
-        IsErrOf result (stop.Stuck after lines) →
-        StopsBlocked (said_phases phases.now) processes.items lines.items after.items
-        (W.contents output.old) (W.contents output.new) }
-    ensures back { (after : Vec (Ticket Record) Global) (lines : Vec ℕ Global) →
-        IsErrOf result (stop.Stuck after lines) → All (λ process. process.lock ≡ mq.now)
-        after.items × (vec_len after ≡ vec_len processes) }
-    ensures ready { IfOk result (λ after. All (IsReady mq.now) after.items) }
-    ensures count { IfOk result (λ after. vec_len after ≡ vec_len processes) }
-    ensures ran { IfOk result (λ after. (replies : List ℕ) ×
-        RunsPhases (said_phases phases.now) processes.items after.items replies ×
-        Appends (W.contents output.old) (W.contents output.new) replies) }
-{
-    for calls in phases {
-        processes = run_written(rt, alloc, mq, output, gate, processes, calls.as_slice())?;
-    }
-    Ok(processes)
-}
-
-// Runs a phase and writes its replies.
-fn run_written<'s, L, S, W, G>(
-    rt: &'s S,
-    alloc: Global,
-    mq: &'s Mq<L>,
-    output: &mut W,
-    gate: &'s G,
-    processes: Vec<Process<L>>,
-    calls: &[ScriptCall<&'s [u8]>],
-) -> Result<Vec<Process<L>>, Stop<Process<L>>>
-where
-    L: Look<Guarded> + Sync,
-    L::Seat: Send,
-    L::Walk: Send,
-    S: Threads + Wait + Clock + Sync,
-    W: Write,
-    G: Gate + Sync,
-    requires { All (IsReady mq.now) processes.items }
-    ensures no_memory { IsErrOf result stop.NoMemory →
-        W.contents output.new ≡ W.contents output.old }
-    ensures deadlock { (after : Vec (Ticket Record) Global) (lines : Vec ℕ Global) →
-        IsErrOf result (stop.Stuck after lines) →
-        ComesToAStand (said_calls calls.now) processes.items lines.items after.items ×
-        (W.contents output.new ≡ W.contents output.old) }
-    ensures output { IsErrOf result stop.Output → (after : List (Ticket Record)) × (text : List ℕ) ×
-        RunsPhase (said_calls calls.now) processes.items after text ×
-        AppendsTooLittle (W.contents output.old) (W.contents output.new) text }
-    ensures ready { IfOk result (λ after. All (IsReady mq.now) after.items) }
-    ensures count { IfOk result (λ after. vec_len after ≡ vec_len processes) }
-    ensures ran { IfOk result (λ after. (text : List ℕ) ×
-        RunsAndMeets (said_calls calls.now) processes.items after.items text ×
-        Appends (W.contents output.old) (W.contents output.new) text) }
-{
-    let (processes, text) = run_replied(rt, alloc, mq, gate, processes, calls)?;
-    write_all(output, text.as_slice())?;
-    Ok(processes)
-}
-
-// Runs a phase, lets the processes meet, and returns them with the text of their replies.
-pub(crate) fn run_replied<'s, L, S, G>(
-    rt: &'s S,
-    alloc: Global,
-    mq: &'s Mq<L>,
-    gate: &'s G,
-    processes: Vec<Process<L>>,
-    calls: &[ScriptCall<&'s [u8]>],
-) -> Result<(Vec<Process<L>>, Vec<u8>), Stop<Process<L>>>
-where
-    L: Look<Guarded> + Sync,
-    L::Seat: Send,
-    L::Walk: Send,
-    S: Threads + Wait + Clock + Sync,
-    G: Gate + Sync,
-    requires { All (IsReady mq.now) processes.items }
-    ensures fault { IfErr result (λ stop. IsUnwritten (fault_of stop)) }
-    ensures deadlock { (after : Vec (Ticket Record) Global) (lines : Vec ℕ Global) →
-        IsErrOf result (stop.Stuck after lines) →
-        ComesToAStand (said_calls calls.now) processes.items lines.items after.items }
-    ensures ready { IfOk result (λ after. All (IsReady mq.now) after.0.items) }
-    ensures count { IfOk result (λ after. vec_len after.0 ≡ vec_len processes) }
-    ensures ran { IfOk result (λ after.
-        RunsAndMeets (said_calls calls.now) processes.items after.0.items after.1.items) }
-{
-    let shares = shares_of(alloc, processes, calls)?;
-    let workers = run_phase(rt, alloc, mq, gate, shares)?;
-    let text = text_of(alloc, workers.as_slice())?;
-    let processes = meet(rt, alloc, mq, workers, &[])?;
-    Ok((processes, text))
 }
 
 // Writes that the history is ok if the journal is legal. Otherwise writes nothing, and returns the

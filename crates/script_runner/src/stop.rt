@@ -1,9 +1,7 @@
 //! Why the phases of a script ended early, with what is left of the system.
 ghost use Rattle.std.specs.Prelude.{◌≡◌};
-ghost use Rattle.script_runner.specs.RunFault.{fault_of};
 ghost use Rattle.script_runner.specs.declared.stop.Stop.TheVariants.{NoMemory, Output};
 
-use crate::fault::RunFault;
 use std::alloc::AllocError;
 use text_io::output::WriteFailed;
 
@@ -31,20 +29,5 @@ impl<P: Drop> From<WriteFailed> for Stop<P> {
 
     fn from(_failed: WriteFailed) -> Stop<P> {
         Stop::Output
-    }
-}
-
-impl<P: Drop> From<Stop<P>> for RunFault {
-    ghost from_gives = { λ stop fault. fault ≡ fault_of stop };
-
-    fn from(stop: Stop<P>) -> RunFault {
-        match stop {
-            Stop::Output => RunFault::Output,
-            Stop::NoMemory => RunFault::NoMemory,
-            Stop::Stuck {
-                processes: _,
-                lines,
-            } => RunFault::Deadlock(lines),
-        }
     }
 }

@@ -3,8 +3,8 @@ use Rattle.std.proofs.lemmas.Grind.{common_steps}
 use Rattle.script_runner.proofs.Working.{new-count, new-ready}
 use Rattle.script_runner.proofs.run.run_whole.Goals as goal
 
-pub run_written_phases-requires-after_bounds : goal.run_written_phases-requires-after_bounds
-run_written_phases-requires-after_bounds g c h2 within = grind (arith, new-ready)
+pub run-requires-after_bounds : goal.run-requires-after_bounds
+run-requires-after_bounds g c h2 within = grind (arith, new-ready)
 
 pub journal_of-requires-clause-made : goal.journal_of-requires-clause-made
 journal_of-requires-clause-made g c = grind arith
