@@ -39,7 +39,7 @@ impl Stream {
 }
 
 /// How many messages there are, and a sum over them that tells which they are.
-#[derive(Clone, Copy, Debug, PartialEq, Eq)]
+#[derive(Clone, Copy)]
 pub struct Total {
     pub messages: u64,
     pub sum: u64,

@@ -13,7 +13,7 @@ use text_io::input::ReadFault;
 use text_io::output::WriteFailed;
 
 /// Why a workload could not be carried out.
-#[derive(Clone, Copy, Debug, PartialEq, Eq)]
+#[derive(Clone, Copy, Debug)]
 pub enum WorkFault {
     /// Memory was refused.
     NoMemory,
@@ -34,7 +34,7 @@ pub enum WorkFault {
 }
 
 /// What is wrong with a line.
-#[derive(Clone, Copy, Debug, PartialEq, Eq)]
+#[derive(Clone, Copy, Debug)]
 pub enum LineFault {
     /// It names no workload, or has too many or too few words.
     NoWorkload,
@@ -52,7 +52,7 @@ pub enum LineFault {
 
 /// Why a run ended without a result. It prints as the line that the program writes to standard
 /// error.
-#[derive(Clone, Copy, Debug, PartialEq, Eq)]
+#[derive(Clone, Copy, Debug)]
 pub enum BenchFault {
     /// The line does not ask for anything that can be measured.
     BadLine(LineFault),

@@ -8,7 +8,7 @@ use text_io::input::{ReadFault, read_all};
 use text_io::words::{number, words};
 
 /// What the program has taken of the memory.
-#[derive(Clone, Copy, Debug, PartialEq, Eq)]
+#[derive(Clone, Copy)]
 pub struct Footprint {
     /// The memory present, in kilobytes.
     pub resident: u64,

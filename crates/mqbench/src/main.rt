@@ -25,8 +25,6 @@ mod size;
 mod soak;
 mod storm;
 mod tally;
-#[cfg(test)]
-mod tests;
 mod wide;
 mod workload;
 

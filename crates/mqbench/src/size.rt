@@ -7,7 +7,7 @@ use mq_model::limits;
 use text_io::words::count_of;
 
 /// A size of a workload. The usage has a letter for each.
-#[derive(Clone, Copy, Debug, PartialEq, Eq)]
+#[derive(Clone, Copy, Debug)]
 pub enum Size {
     /// How often a workload repeats its work.
     Rounds,

@@ -37,7 +37,7 @@ const FAULTS: [Fault; 10] = [
 ];
 
 /// The number of calls of each kind, and of errors with each name, in a journal.
-#[derive(Clone, Copy, Debug, PartialEq, Eq)]
+#[derive(Clone, Copy)]
 pub struct Tally {
     calls: [u64; 13],
     refusals: [u64; 10],
