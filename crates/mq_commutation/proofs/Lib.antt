@@ -9,3 +9,4 @@ pub mod Pass
 pub mod Independent
 pub mod Symmetry
 pub mod ExploredSteps
+pub mod Collects

@@ -1,5 +1,5 @@
 -- Two calls in both orders.
-use Rattle.std.proofs.Common.{◌≡◌, ◌⊎◌, inl, inr, ℕ, ◌<◌, ◌==◌, Bool, true, false, ◌&&◌, ◌||◌, List, [], ◌∷◌, length, map, Option, Some, None, is_some, if◌then◌else◌, refl, sym, ◌∙◌, ap, subst, arith, eqb-true, eq-eqb, ne_eqb}
+use Rattle.std.proofs.Common.{◌≡◌, ◌⊎◌, inl, inr, ℕ, ◌<◌, ◌==◌, Bool, true, false, ◌&&◌, ◌||◌, List, [], ◌∷◌, length, Option, Some, None, is_some, if◌then◌else◌, refl, sym, ◌∙◌, ap, subst, arith, eqb-true, eq-eqb, ne_eqb}
 use Rattle.std.specs.Prelude.{IsTrue}
 use Rattle.std.specs.List.{filter}
 use Rattle.std.specs.Option.{option_map}
@@ -56,7 +56,7 @@ touched-is past p NextNotice on = refl
 touched-is past p Collect on = refl
 touched-is past p (Withdraw now) on = let bad : false ≡ true = on in absurd (cc)
 
-stays-answered : (past : Past) (r : Record) (p : ℕ) → (r.entry.process ≡ p → ⊥) → is_some (answered_by past p) ≡ true → is_some (answered_by (r ∷ past) p) ≡ true
+pub stays-answered : (past : Past) (r : Record) (p : ℕ) → (r.entry.process ≡ p → ⊥) → is_some (answered_by past p) ≡ true → is_some (answered_by (r ∷ past) p) ≡ true
 stays-answered past r p ne e = split (names_wait r.entry.reply (open_wait past p))
     (λ t. rw (ne_eqb r.entry.process p ne, t) refl)
     (λ f. rw (ne_eqb r.entry.process p ne, f) e)
@@ -122,7 +122,7 @@ apart-clash o u k j e ok uj same =
     absurd (cc)
 
 -- a value of each process, which only a call of that process changes
-own-two : {Z : Type 0} (p q k : ℕ) → (p ≡ q → ⊥) → (va vb h : Z) → (if p == k then va else (if q == k then vb else h)) ≡ (if q == k then vb else (if p == k then va else h))
+pub own-two : {Z : Type 0} (p q k : ℕ) → (p ≡ q → ⊥) → (va vb h : Z) → (if p == k then va else (if q == k then vb else h)) ≡ (if q == k then vb else (if p == k then va else h))
 own-two p q k ne va vb h = split (p == k)
     (λ t. split (q == k)
     (λ u. absurd (ne (eqb-true p k t ∙ sym (eqb-true q k u))))
@@ -148,7 +148,7 @@ queue-back u u' v w back e = by (queue-cases u v w e)
     by (inl h) = rw (back h) refl
     by (inr h) = split u' (λ y. rw y refl) (λ n. rw (n, h.0, h.1) refl)
 
-option-id : {X : Type 0} (f : X → X) → ((v : X) → f v ≡ v) → (o : Option X) → o ≡ option_map f o
+pub option-id : {X : Type 0} (f : X → X) → ((v : X) → f v ≡ v) → (o : Option X) → o ≡ option_map f o
 option-id f same None = refl
 option-id f same (Some v) = ap Some (sym (same v))
 

@@ -1,9 +1,9 @@
 -- Two calls that may be made in either order, with the same effect.
 use Rattle.std.specs.Prelude.{◌≡◌, Bool, true, false, [], ◌∷◌}
-use Rattle.mq_model.specs.Record.{Record, Past}
+use Rattle.mq_model.specs.Record.{Record, Past, Process}
 use Rattle.mq_model.specs.Legality.{IsLegalNext}
 use Rattle.mq_model.specs.declared.entries.Call.{Call}
-use Rattle.mq_model.specs.declared.entries.Call.TheVariants.{MqOpen, MqUnlink, Withdraw}
+use Rattle.mq_model.specs.declared.entries.Call.TheVariants.{MqOpen, MqUnlink, Collect, Withdraw}
 use Rattle.mq_equivalence.specs.Steps.{message_collected, message_given, record_of}
 use Rattle.mq_equivalence.specs.Outline.{outline}
 use Rattle.mq_equivalence.specs.Equivalence.{Equivalent}
@@ -38,3 +38,11 @@ is_covered (MqOpen flags attr) = false
 is_covered MqUnlink = false
 is_covered (Withdraw now) = false
 is_covered _ = true
+
+-- a process collects the answer to its wait
+abbrev pub collect_of : Process → Request
+collect_of p = record { process = p; call = Collect; given = [] }
+
+abbrev pub is_withdrawal : Call → Bool
+is_withdrawal (Withdraw now) = true
+is_withdrawal _ = false

@@ -1,18 +1,19 @@
 //! Independent calls: two processes may make them in either order, with the same effect. A search
 //! over interleavings may try one of the two orders and leave out the other. The laws are functions
 //! that do nothing and take no time: the contract of each is the law. They cover all calls except
-//! `mq_open`, `mq_unlink` and the withdrawal of a wait.
+//! `mq_open`, `mq_unlink` and the withdrawal of a wait. The law on collects covers opens and
+//! unlinks too.
 #![tactic(auto)]
 
 pub mod explored;
 
-ghost use Rattle.std.specs.Prelude.{◌≡◌, ◌∷◌, List, [], true};
-ghost use Rattle.mq_model.specs.Record.{Past};
+ghost use Rattle.std.specs.Prelude.{◌≡◌, ◌==◌, ◌∷◌, List, [], false, true};
+ghost use Rattle.mq_model.specs.Record.{Past, Process};
 ghost use Rattle.mq_model.specs.Legality.{IsLegalNext, Legal};
 ghost use Rattle.mq_equivalence.specs.Equivalence.{Equivalent};
 ghost use Rattle.mq_equivalence.specs.Runs.{Request, after_calls};
 ghost use Rattle.mq_commutation.specs.Independence.{are_independent};
-ghost use Rattle.mq_commutation.specs.Commuting.{Commute, is_covered, record_for};
+ghost use Rattle.mq_commutation.specs.Commuting.{Commute, collect_of, is_covered, is_withdrawal, record_for};
 
 /// If one call is independent of another, the other is independent of it.
 pub fn independence_is_symmetric()
@@ -40,4 +41,12 @@ pub fn exchanged_runs_stay_equivalent()
         Legal (after_calls (after_calls past (b ∷ (a ∷ []))) calls) →
         Equivalent (after_calls (after_calls past (b ∷ (a ∷ []))) calls)
         (after_calls (after_calls past (a ∷ (b ∷ []))) calls) }
+{}
+
+/// A collect commutes with each call that another process may make, except the withdrawal of a wait.
+pub fn collects_commute()
+    ensures { (past : Past) (p : Process) (b : Request) → Legal past →
+        IsLegalNext past (record_for past (collect_of p)) → IsLegalNext past (record_for past b) →
+        (p == b.process) ≡ false → is_withdrawal b.call ≡ false →
+        Commute past (collect_of p) b }
 {}
