@@ -1,5 +1,5 @@
 -- Goals of which nothing was found yet.
-use Rattle.std.proofs.Common.{◌≡◌, ℕ, Bool, true, false, ◌&&◌, ◌||◌, not, ◌==◌, if◌then◌else◌, List, [], ◌∷◌, ◌++◌, Option, refl, sym, ◌∙◌, ap, subst, eq-eqb}
+use Rattle.std.proofs.Common.{◌≡◌, ◌⊎◌, inl, inr, ℕ, Bool, true, false, ◌&&◌, ◌||◌, not, ◌==◌, if◌then◌else◌, List, [], ◌∷◌, ◌++◌, Option, refl, sym, ◌∙◌, ap, subst, eq-eqb}
 use Rattle.std.specs.Cmp.Derive.{both_true}
 use Rattle.std.proofs.lemmas.Bool.{and_parts, eqb-true}
 use Rattle.std.proofs.lemmas.List.Folds.{list_any-append}
@@ -9,21 +9,24 @@ use Rattle.schedules.specs.Observed.{Observed}
 use Rattle.schedules.specs.Schedules.{HasNoGoal}
 use Rattle.schedules.specs.Outcomes.{AreAll, AreDistinct, are_same, is_among, observed_in}
 use Rattle.schedules.specs.declared.outcomes.Witnessed.{Witnessed}
-use Rattle.schedules.proofs.Covering.{Covered}
+use Rattle.schedules.proofs.Covering.{AreDoneBelow, Covered}
+use Rattle.schedules.proofs.Persisting.{Persist}
 
 -- the state is a goal, and nothing that was found tells the same
 abbrev pub is_new_goal : {S : Type 0} → (S → Bool) → (S → Observed) → List Witnessed → S → Bool
 is_new_goal is_goal outcome found s = is_goal s && not (is_among found (outcome s))
 
 -- what is covered remains so if there are fewer goals
-pub covered-fewer : {S : Type 0} (next : S → ℕ → Option S) (is_goal fewer : S → Bool) → ((s : S) → is_goal s ≡ false → fewer s ≡ false) →
-    (path : List ℕ) (s : S) → Covered next is_goal path s → Covered next fewer path s
-covered-fewer next is_goal fewer less [] s covered = tt
-covered-fewer next is_goal fewer less (c ∷ path) s covered = (
-  less s covered.0,
-  (λ before t below step schedule to reaches. less to (covered.1 before t below step schedule to reaches)),
-  (λ t step. covered-fewer next is_goal fewer less path t (covered.2 t step)),
-)
+pub covered-fewer : {S : Type 0} (next : S → ℕ → Option S) (is_goal fewer : S → Bool) (IsPersistent : S → ℕ → Type 0) → ((s : S) → is_goal s ≡ false → fewer s ≡ false) →
+    (path : List ℕ) (s : S) → Covered next is_goal IsPersistent path s → Covered next fewer IsPersistent path s
+covered-fewer next is_goal fewer IsPersistent less [] s covered = tt
+covered-fewer {S} next is_goal fewer IsPersistent less (c ∷ path) s covered =
+    let here : AreDoneBelow next fewer s c ⊎ IsPersistent s c = elim covered.1 [
+      | inl done ↦ inl (λ before t below step schedule to reaches. less to (done before t below step schedule to reaches))
+      | inr persistent ↦ inr persistent
+    ]
+    in
+    (less s covered.0, here, (λ t step. covered-fewer next is_goal fewer IsPersistent less path t (covered.2 t step)))
 
 -- if more was found, there are fewer new goals
 pub new-fewer : {S : Type 0} (is_goal : S → Bool) (outcome : S → Observed) (old new : List Witnessed) →
@@ -144,3 +147,15 @@ new-alike is_goal outcome IsAlike same_goal same_outcome found x y alike =
     let e : is_goal x ≡ is_goal y = same_goal x y alike in
     let f : outcome x ≡ outcome y = same_outcome x y alike in
     ap (λ (b : Bool). b && not (is_among found (outcome x))) e ∙ ap (λ (t : Observed). is_goal y && not (is_among found t)) f
+
+-- what persistent choices promise holds of the new goals too
+pub persist-new : {S : Type 0} (next : S → ℕ → Option S) (is_goal : S → Bool) (outcome : S → Observed) (IsAlike : S → S → Type 0) (IsPersistent : S → ℕ → Type 0) (start : S) →
+    Persist next is_goal IsAlike IsPersistent start → ((x y : S) → IsAlike x y → outcome x ≡ outcome y) →
+    (found : List Witnessed) → Persist next (is_new_goal is_goal outcome found) IsAlike IsPersistent start
+persist-new next is_goal outcome IsAlike IsPersistent start laws same_outcome found = record {
+  same_goal = new-alike is_goal outcome IsAlike laws.same_goal same_outcome found;
+  same_next = laws.same_next;
+  can = laws.can;
+  no_goal = λ x choice reached persistent. rw (laws.no_goal x choice reached persistent) refl;
+  commutes = laws.commutes;
+}

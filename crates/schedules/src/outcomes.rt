@@ -1,6 +1,7 @@
 //! The outcomes of all schedules of a machine.
 ghost use Rattle.std.specs.Prelude.{◌≡◌, ◌++◌, ◌∷◌, [], ℕ, All, IfOk, List, None, OnOk, Some, false, if◌then◌else◌, is_some, true};
 ghost use Rattle.schedules.specs.Choices.{IsFirstFrom};
+ghost use Rattle.schedules.specs.Persistence.{IsFirst, IsFollowing};
 ghost use Rattle.schedules.specs.Schedules.{after};
 ghost use Rattle.schedules.specs.Seen.{Noted, is_done};
 ghost use Rattle.schedules.specs.Observed.{Observed};
@@ -8,9 +9,9 @@ ghost use Rattle.schedules.specs.Outcomes.{AreAll, AreDistinct, IsWitness, are_s
 ghost use Rattle.schedules.specs.Work.{TakesAll};
 ghost use Rattle.schedules.specs.declared.outcomes.Level.{Level};
 
-use crate::keyed::Keyed;
 use crate::machine::Machine;
 use crate::marks::Mark;
+use crate::persistent::PersistentChoices;
 use crate::runs::go_back;
 use crate::seen::Seen;
 use std::alloc::{AllocError, Global};
@@ -37,7 +38,7 @@ pub trait Observable: Machine {
 }
 
 /// A machine whose equivalent states have the same outcome.
-pub trait EquivalentOutcomes: Observable + Keyed {
+pub trait EquivalentOutcomes: Observable + PersistentChoices {
     /// Equivalent states have the same outcome. The method does nothing: its contract is the law.
     fn have_equal_outcomes(&self)
         ensures { (x y : Self) → Self.IsAlike x y → Self.outcome x ≡ Self.outcome y };
@@ -118,6 +119,26 @@ fn first_from<M: Observable>(machine: &M, from: u64) -> Option<u32>
     None
 }
 
+// The choice to take first at a state: a persistent one, if one is known.
+fn first_choice<M: EquivalentOutcomes>(machine: &M) -> Option<u32>
+    ensures { IsFirst M.next M.IsPersistent machine.now result }
+{
+    match machine.persistent() {
+        Some(choice) => Some(choice),
+        None => first_from(machine, 0),
+    }
+}
+
+// The choice to take after this one at a state: none if this one is known to be persistent.
+fn following<M: EquivalentOutcomes>(machine: &M, choice: u32) -> Option<u32>
+    ensures { IsFollowing M.next M.IsPersistent machine.now choice result }
+{
+    match machine.persistent() {
+        Some(persistent) if persistent == choice => None,
+        _ => first_from(machine, u64::from(choice) + 1),
+    }
+}
+
 // What a search knows about a choice on its path: the next one to take instead of it, and the key
 // of the node to which it leads, if that is worth noting.
 #[derive(Drop)]
@@ -128,14 +149,15 @@ struct Level {
 
 // The first choice at a node that was just entered; none if the search is done with a node of the
 // same key.
-fn first_at<M: Observable>(machine: &M, seen: &Seen, key: &Option<Vec<u64>>) -> Option<u32>
-    ensures new { is_done seen.now key.now ≡ false → IsFirstFrom M.next machine.now 0 result }
+fn first_at<M: EquivalentOutcomes>(machine: &M, seen: &Seen, key: &Option<Vec<u64>>) -> Option<u32>
+    ensures new { is_done seen.now key.now ≡ false →
+        IsFirst M.next M.IsPersistent machine.now result }
     ensures done { is_done seen.now key.now ≡ true → result ≡ None }
 {
     if seen.is_done(key) {
         None
     } else {
-        first_from(machine, 0)
+        first_choice(machine)
     }
 }
 
@@ -164,8 +186,9 @@ fn leave(levels: &mut Vec<Level>, seen: &mut Seen) -> Result<Option<u32>, AllocE
 
 /// Tries every schedule of a machine, in at most `budget` steps, and collects the outcomes of the
 /// goals that they lead to. A step takes a choice, or takes one back. After taking one back, the
-/// search returns to the state before it only if another choice follows. Equivalent states, which
-/// have the same key, are explored once. Fails if memory was refused.
+/// search returns to the state before it only if another choice follows. A persistent choice is
+/// taken alone. Equivalent states, which have the same key, are explored once. Fails if memory was
+/// refused.
 pub fn collect<M: EquivalentOutcomes>(
     alloc: Global,
     machine: &mut M,
@@ -181,6 +204,7 @@ pub fn collect<M: EquivalentOutcomes>(
     ensures start { OnOk result (M.start machine.new ≡ M.start machine.old) }
 {
     machine.keeps_alike();
+    machine.choices_commute();
     machine.have_equal_outcomes();
     machine.restart()?;
     let mut path: Vec<u32> = Vec::new(alloc);
@@ -189,11 +213,11 @@ pub fn collect<M: EquivalentOutcomes>(
     let mut seen = Seen::new(alloc);
     let mut found = Vec::new(alloc);
     note(alloc, machine, &path, &mut found)?;
-    let mut next = first_from(machine, 0);
+    let mut next = first_choice(machine);
     for _ in 0..budget {
         match next {
             Some(choice) => {
-                let other = first_from(machine, u64::from(choice) + 1);
+                let other = following(machine, choice);
                 let _went = machine.step(choice)?;
                 path.push(choice)?;
                 note(alloc, machine, &path, &mut found)?;

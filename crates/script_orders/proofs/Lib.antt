@@ -6,3 +6,4 @@ pub mod Printing
 pub mod Likewise
 pub mod Starting
 pub mod Reporting
+pub mod Persisting

@@ -1,5 +1,5 @@
 -- Equivalent stages remain equivalent under each choice.
-use Rattle.std.proofs.Common.{◌≡◌, ◌⊎◌, inl, inr, ℕ, zero, suc, ◌+◌, ◌≤◌, ◌<◌, ◌==◌, Bool, true, false, ◌&&◌, ◌||◌, List, [], ◌∷◌, ◌++◌, length, slice_set, eqb-true, Option, Some, None, is_some, is_none, slice_get, refl, ap, sym, ◌∙◌, subst, arith, if◌then◌else◌, Vec, nat_lt, not}
+use Rattle.std.proofs.Common.{◌≡◌, inl, inr, ℕ, zero, suc, ◌+◌, ◌≤◌, ◌<◌, ◌==◌, Bool, true, false, ◌&&◌, ◌||◌, List, [], ◌∷◌, ◌++◌, length, slice_set, eqb-true, Option, Some, None, is_some, is_none, slice_get, refl, ap, sym, ◌∙◌, subst, arith, if◌then◌else◌, Vec, nat_lt, not}
 use Rattle.std.specs.Option.{option_and_then, option_map, unwrap_or}
 use Rattle.std.specs.declared.alloc.Global.{Global}
 use Rattle.std.proofs.lemmas.Option.{slice_get_within}
@@ -47,7 +47,7 @@ record ScenesAlike (received : Bool) (a b : Scene) : Type 0 where
   text : b.text ≡ a.text
   past : Agree received a.past b.past
 
-may-of : (past : Past) (p : Process) (call : Call) (given : List ℕ) → can_call past p call given ≡ true → may_call past p call ≡ true
+pub may-of : (past : Past) (p : Process) (call : Call) (given : List ℕ) → can_call past p call given ≡ true → may_call past p call ≡ true
 may-of past p call given can = let one = and_parts _ _ can in let two = and_parts _ _ one.0 in two.1
 
 call-alike : {received : Bool} (x y : Past) (text : List ℕ) (p : Process) (call : Call) (given : List ℕ) → may_come received call ≡ true → Agree received x y →
@@ -193,7 +193,7 @@ fewer-receive s t (suc n) fewer e =
     let rest = fewer-receive s t n fewer before in
     rw rest (split (will_receive t n) (λ y. let bad : true ≡ false = sym (fewer n y) ∙ here in absurd (cc)) (λ f. f))
 
-weaken : (received later : Bool) (x y : Past) → (received ≡ false → later ≡ false) → Agree received x y → Agree later x y
+pub weaken : (received later : Bool) (x y : Past) → (received ≡ false → later ≡ false) → Agree received x y → Agree later x y
 weaken true true x y less alike = alike
 weaken true false x y less alike = record {
   to = alike.to;

@@ -236,18 +236,19 @@ set-cases (x ∷ xs) (suc c) (suc i) t s h =
       | inr e ↦ inr e
     ]
 
-record Went (s : Stage) (choice : ℕ) (t : Turned) : Type 0 where
-  program : Vec Planned Global
-  seat : Progress
-  has : slice_get s.programs choice ≡ Some program
-  sits : slice_get s.seats choice ≡ Some seat
-  goes : after_turn s.past s.phase (choice + 1) seat program ≡ Some t
+-- the process at an index took a step
+pub record Went (s : Stage) (choice : ℕ) (t : Turned) : Type 0 where
+  pub program : Vec Planned Global
+  pub seat : Progress
+  pub has : slice_get s.programs choice ≡ Some program
+  pub sits : slice_get s.seats choice ≡ Some seat
+  pub goes : after_turn s.past s.phase (choice + 1) seat program ≡ Some t
 
 went-seat : (s : Stage) (choice : ℕ) (t : Turned) (program : Vec Planned Global) (o : Option Progress) → slice_get s.programs choice ≡ Some program → slice_get s.seats choice ≡ o → option_and_then (λ (seat : Progress). after_turn s.past s.phase (choice + 1) seat program) o ≡ Some t → Went s choice t
 went-seat s choice t program None has sits h = cc
 went-seat s choice t program (Some seat) has sits h = record { program = program; seat = seat; has = has; sits = sits; goes = h }
 
-went-of : (s : Stage) (choice : ℕ) (t : Turned) (o : Option (Vec Planned Global)) → slice_get s.programs choice ≡ o → option_and_then (λ (program : Vec Planned Global). option_and_then (λ (seat : Progress). after_turn s.past s.phase (choice + 1) seat program) (slice_get s.seats choice)) o ≡ Some t → Went s choice t
+pub went-of : (s : Stage) (choice : ℕ) (t : Turned) (o : Option (Vec Planned Global)) → slice_get s.programs choice ≡ o → option_and_then (λ (program : Vec Planned Global). option_and_then (λ (seat : Progress). after_turn s.past s.phase (choice + 1) seat program) (slice_get s.seats choice)) o ≡ Some t → Went s choice t
 went-of s choice t None has h = cc
 went-of s choice t (Some program) has h = went-seat s choice t program (slice_get s.seats choice) has refl h
 

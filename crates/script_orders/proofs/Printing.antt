@@ -36,13 +36,13 @@ said-message past p place =
     in
     goes (record_at past place)
 
-abbrev collect_by : Process → Option (Option Message) → List ℕ
+abbrev pub collect_by : Process → Option (Option Message) → List ℕ
 collect_by p None = reply_line p outcomes.Done []
 collect_by p (Some None) = reply_line p outcomes.Done []
 collect_by p (Some (Some m)) = said_by p (Some m)
 
 -- what is printed for a wait depends on what the entry that answered it sends
-said-collect : (past : Past) (p : Process) (by : Place) → said_of_collect past p by ≡ collect_by p (at told past by)
+pub said-collect : (past : Past) (p : Process) (by : Place) → said_of_collect past p by ≡ collect_by p (at told past by)
 said-collect past p by =
     let sends : Option Record → Bool = λ o. unwrap_or (option_map (λ (r : Record). is_send r.entry.call) o) false in
     let inner : (r : Record) (b : Bool) → (if b then said_by p (Some (sent r)) else reply_line p outcomes.Done []) ≡ collect_by p (Some (if b then Some (sent r) else None)) =
@@ -81,7 +81,7 @@ said-shape past p (Notice v) not = refl
 said-shape past p Done not = refl
 said-shape past p (Refused f) not = refl
 
-said-alike : (x y : Past) (p : Process) (a b : Reply) → is_collected a ≡ false → is_collected b ≡ false → shape b ≡ shape a → message_given y b ≡ message_given x a → said y p b ≡ said x p a
+pub said-alike : (x y : Past) (p : Process) (a b : Reply) → is_collected a ≡ false → is_collected b ≡ false → shape b ≡ shape a → message_given y b ≡ message_given x a → said y p b ≡ said x p a
 said-alike x y p a b not_a not_b e f =
     said-shape y p b not_b ∙ ap (λ (r : Reply). said_of p r (message_given y b)) e ∙ ap (λ (m : Option Message). said_of p (shape a) m) f ∙ sym (said-shape x p a not_a)
 

@@ -11,4 +11,5 @@ pub mod PlayModel
 pub mod Report
 pub mod Orders
 pub mod Likeness
+pub mod Persistence
 pub mod Readback

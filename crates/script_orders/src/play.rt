@@ -16,6 +16,7 @@ use mq_state::trail::Trail;
 use schedules::keyed::Keyed;
 use schedules::machine::Machine;
 use schedules::outcomes::{EquivalentOutcomes, Observable, Outcome};
+use schedules::persistent::PersistentChoices;
 use std::alloc::{AllocError, Global};
 use std::marker::Model;
 
@@ -475,6 +476,26 @@ impl Keyed for Play {
     }
 
     fn keeps_alike(&self) {
+        let _processes = self.programs.len();
+    }
+}
+
+// A collect is persistent: it commutes with each step of another process.
+impl PersistentChoices for Play {
+    ghost use Rattle.script_orders.specs.Persistence.{MayCollect};
+
+    ghost IsPersistent = { MayCollect };
+
+    fn persistent(&self) -> Option<u32> {
+        for index in 0..self.programs.len() {
+            if self.trail.waits(index as u32 + 1) && self.can_turn(index) {
+                return Some(index as u32);
+            }
+        }
+        None
+    }
+
+    fn choices_commute(&self) {
         let _processes = self.programs.len();
     }
 }

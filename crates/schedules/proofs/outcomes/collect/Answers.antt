@@ -1,17 +1,36 @@
 use Rattle.std.proofs.lemmas.List.{nil_from_length}
-use Rattle.std.proofs.Common.{arith, ◌≡◌, ◌+◌, Some, None, IsSome, ℕ, false, List, [], ◌∷◌, ◌++◌, ◌∙◌, ap, is_some, refl, subst, sym, true}
+use Rattle.std.proofs.Common.{arith, ◌≡◌, ◌+◌, Some, None, IsSome, Option, inl, inr, ℕ, false, List, [], ◌∷◌, ◌++◌, ◌∙◌, ap, is_some, refl, subst, sym, true}
 use Rattle.schedules.specs.Schedules.{IsReached, after, HasNoGoal}
 use Rattle.schedules.specs.Likeness.{HasKey}
 use Rattle.schedules.specs.Seen.{is_done}
 use Rattle.schedules.specs.declared.outcomes.Level.{Level}
-use Rattle.schedules.proofs.Covering.{after-push, front_runs}
-use Rattle.schedules.proofs.Collecting.{all-found, is_new_goal, new-alike, new-fewer, noted-is_old}
+use Rattle.schedules.specs.declared.outcomes.Witnessed.{Witnessed}
+use Rattle.schedules.proofs.Covering.{Suffices, after-push, front_runs}
+use Rattle.schedules.specs.Persistence.{IsFirst, IsFollowing}
+use Rattle.schedules.proofs.Collecting.{all-found, is_new_goal, new-alike, new-fewer, noted-is_old, persist-new}
+use Rattle.schedules.proofs.Persisting.{IsReachedPersistent, Persist, suffices}
 use Rattle.schedules.proofs.Alike.{AreDone, done-fewer, done-leads, done-more}
 use Rattle.schedules.proofs.LastKey.{has-kept}
-use Rattle.schedules.proofs.Ahead.{IsLevel, Leaves, Stands, stands-back, stands-fewer, stands-first, stands-push, step-goes}
+use Rattle.schedules.proofs.Ahead.{CanBeTaken, IsLevel, Leaves, Stands, stands-back, stands-fewer, stands-first, stands-push, step-goes}
 use Rattle.schedules.proofs.Working.{HasSpent, spends-entered, spends-first, spends-left, spends-within}
 use Rattle.schedules.proofs.outcomes.collect.Goals as goal
 use Rattle.schedules.proofs.outcomes.collect.Goals.{in-Some+in_ok-_went-in-Some+in_ok-push-in-Some+in_ok-note-in-Some+in_ok-key-in-Some+in_ok-push-in-Some-2, in-None+in-Some-pop+in_ok-next-in-None+then-is_some+in_ok-go_back-in-None, in-None+in-Some-pop+in_ok-next-in-None+else-is_some}
+
+-- the first choice at a state that is reached
+reached-first : {S : Type 0} (next : S → ℕ → Option S) (IsPersistent : S → ℕ → Type 0) (start s : S) (first : Option ℕ) →
+    IsReached next start s → IsFirst next IsPersistent s first → IsFirst next (IsReachedPersistent next IsPersistent start) s first
+reached-first next IsPersistent start s first reached is = elim is [
+  | inl from ↦ inl from
+  | inr alone ↦ inr (record { choice = alone.choice; is = alone.is; persistent = (reached, alone.persistent) })
+]
+
+-- and the choice that follows one
+reached-following : {S : Type 0} (next : S → ℕ → Option S) (IsPersistent : S → ℕ → Type 0) (start s : S) (choice : ℕ) (other : Option ℕ) →
+    IsReached next start s → IsFollowing next IsPersistent s choice other → IsFollowing next (IsReachedPersistent next IsPersistent start) s choice other
+reached-following next IsPersistent start s choice other reached is = elim is [
+  | inl first ↦ inl first
+  | inr alone ↦ inr (alone.0, (reached, alone.1))
+]
 
 pub loop-init : goal.loop-init
 loop-init g c =
@@ -20,12 +39,28 @@ loop-init g c =
     let found = c.note.new.found.items in
     let is_new = is_new_goal g.M.Machine.is_goal g.M.Observable.outcome found in
     let now = c.restart.new.self in
-    let first = c.first_from-next.result in
+    let IsPersistent = g.M.PersistentChoices.IsPersistent in
+    let IsTaken : g.row.M.Denot → ℕ → Type 0 = IsReachedPersistent next IsPersistent start in
+    let laws : Persist next g.M.Machine.is_goal g.M.Keyed.IsAlike IsPersistent start = record {
+      same_goal = c.keeps_alike.ensures.same_goal;
+      same_next = c.keeps_alike.ensures.same_next;
+      can = c.choices_commute.ensures.can;
+      no_goal = c.choices_commute.ensures.no_goal;
+      commutes = c.choices_commute.ensures.commutes;
+    }
+    in
+    let can : CanBeTaken next IsTaken = λ s choice is. laws.can s choice is.0 is.1 in
+    let enough : (found : List Witnessed) → Suffices next (is_new_goal g.M.Machine.is_goal g.M.Observable.outcome found) IsTaken =
+    λ found. suffices next (is_new_goal g.M.Machine.is_goal g.M.Observable.outcome found) g.M.Keyed.IsAlike IsPersistent start
+    (persist-new next g.M.Machine.is_goal g.M.Observable.outcome g.M.Keyed.IsAlike IsPersistent start laws c.have_equal_outcomes.ensures found)
+    in
+    let first = c.first_choice-next.result in
     let at : now ≡ start = c.in_ok-restart.ensures in
     let old : is_new now ≡ false = noted-is_old g.M.Machine.is_goal g.M.Observable.outcome found now c.in_ok-note.ensures.noted in
     let same : g.M.Machine.start now ≡ start = ap g.M.Machine.start at ∙ g.met.M.Machine.start_is_first c.args.machine.now in
-    let begins : Stands next is_new g.M.Keyed.IsKey [] [] start now first =
-    rw at (stands-first next is_new g.M.Keyed.IsKey start first (rw (← at) old) (rw (← at) c.first_from-next.ensures))
+    let is : IsFirst next IsTaken start first = reached-first next IsPersistent start start first ([], refl) (rw (← at) c.first_choice-next.ensures) in
+    let begins : Stands next is_new IsTaken g.M.Keyed.IsKey [] [] start now first =
+    rw at (stands-first next is_new IsTaken g.M.Keyed.IsKey (enough found) can start first (rw (← at) old) is)
     in
     record {
       stands = rw (c.new-path.ensures.items, c.new-levels.ensures.items) begins;
@@ -93,13 +128,28 @@ loop-preserved g c =
     let each : ℕ → ℕ = λ depth. 1 in
     let found = c.loop.found.items in
     let is_new = is_new_goal is_goal outcome found in
+    let IsPersistent = g.M.PersistentChoices.IsPersistent in
+    let IsTaken : g.row.M.Denot → ℕ → Type 0 = IsReachedPersistent next IsPersistent start in
+    let laws : Persist next g.M.Machine.is_goal g.M.Keyed.IsAlike IsPersistent start = record {
+      same_goal = c.keeps_alike.ensures.same_goal;
+      same_next = c.keeps_alike.ensures.same_next;
+      can = c.choices_commute.ensures.can;
+      no_goal = c.choices_commute.ensures.no_goal;
+      commutes = c.choices_commute.ensures.commutes;
+    }
+    in
+    let can : CanBeTaken next IsTaken = λ s choice is. laws.can s choice is.0 is.1 in
+    let enough : (found : List Witnessed) → Suffices next (is_new_goal g.M.Machine.is_goal g.M.Observable.outcome found) IsTaken =
+    λ found. suffices next (is_new_goal g.M.Machine.is_goal g.M.Observable.outcome found) g.M.Keyed.IsAlike IsPersistent start
+    (persist-new next g.M.Machine.is_goal g.M.Observable.outcome g.M.Keyed.IsAlike IsPersistent start laws c.have_equal_outcomes.ensures found)
+    in
     elim c.match-next.branch [
       | in-Some+in_ok-_went-in-Some+in_ok-push-in-Some+in_ok-note-in-Some+in_ok-key-in-Some+in_ok-push-in-Some-2 w ↦
           let choice = w.in-Some.choice in
           let t = w.step.new.self in
           let more = w.note-in-Some.new.found.items in
           let key = w.in_ok-key-in-Some.key in
-          let level : Level = record { other = w.first_from-other.result; key = w.kept-key.result } in
+          let level : Level = record { other = w.following-other.result; key = w.kept-key.result } in
           let stands = (rw w.in-Some.is at c.loop.invariant.stands) in
           let at : now ≡ stands.node = stands.here refl in
           let some : IsSome (next now choice) = rw at stands.ahead.1 in
@@ -109,19 +159,19 @@ loop-preserved g c =
           let reached : IsReached next start t = (path ++ choice ∷ [], after-push next path choice start now t runs step) in
           let old_goal : is_new_goal is_goal outcome more t ≡ false = noted-is_old is_goal outcome more t w.in_ok-note-in-Some.ensures.noted in
           let less = new-fewer is_goal outcome found more w.in_ok-note-in-Some.ensures.kept in
-          let fewer = stands-fewer next is_new (is_new_goal is_goal outcome more) IsKey less path levels start now (Some choice) stands in
+          let fewer = stands-fewer next is_new (is_new_goal is_goal outcome more) IsTaken IsKey less path levels start now (Some choice) stands in
           let done : AreDone next (is_new_goal is_goal outcome more) IsKey start seen =
           done-fewer next is_new (is_new_goal is_goal outcome more) IsKey start seen less c.loop.invariant.done
           in
-          let is : IsLevel next IsKey now choice level = record {
-            first = (rw w.from.ensures at w.first_from-other.ensures);
+          let is : IsLevel next IsTaken IsKey now choice level = record {
+            following = reached-following next IsPersistent start now choice level.other (path, runs) w.following-other.ensures;
             key = λ u there.
                 let e : t ≡ u = cc in
                 has-kept IsKey u key w.kept-key.result (is_some w.first_at-next.result) w.kept-key.ensures (subst (λ (x : g.row.M.Denot). HasKey IsKey x key) e w.in_ok-key-in-Some.ensures);
           }
           in
-          let further = stands-push next (is_new_goal is_goal outcome more) IsKey path levels start now t choice level w.first_at-next.result (is_done seen key) fewer is step old_goal
-          w.first_at-next.ensures.new w.first_at-next.ensures.done
+          let further = stands-push next (is_new_goal is_goal outcome more) IsTaken IsKey (enough more) can path levels start now t choice level w.first_at-next.result (is_done seen key) fewer is step old_goal
+          (λ new. reached-first next IsPersistent start t w.first_at-next.result reached (w.first_at-next.ensures.new new)) w.first_at-next.ensures.done
           (λ seen_before. done-leads next (is_new_goal is_goal outcome more) IsKey start seen key t done reached w.in_ok-key-in-Some.ensures seen_before)
           in
           rw (w.path-is, w.levels-is, w.marks-is, w.machine-is, w.found-is, w.seen-is, w.next-is)
@@ -143,7 +193,7 @@ loop-preserved g c =
           }
       | in-None+in-Some-pop+in_ok-next-in-None+then-is_some+in_ok-go_back-in-None w ↦
           let stands = (rw w.in-None.is at c.loop.invariant.stands) in
-          let back : Leaves next is_new IsKey w.pop.new.self.items w.in-Some-pop._taken levels start stands.node = stands-back next is_new IsKey path w.pop.new.self.items w.in-Some-pop._taken levels start now stands w.in-Some-pop.ensures.items in
+          let back : Leaves next is_new IsTaken IsKey w.pop.new.self.items w.in-Some-pop._taken levels start stands.node = stands-back next is_new IsTaken IsKey (enough found) path w.pop.new.self.items w.in-Some-pop._taken levels start now stands w.in-Some-pop.ensures.items in
           let last = w.in_ok-next-in-None.ensures back.others back.level back.are in
           let runs : after next w.pop.new.self.items start ≡ Some w.go_back.new.machine = (rw (w.deref-then-is_some.ensures.value, c.loop.invariant.start) at w.in_ok-go_back-in-None.ensures.runs) in
           rw (w.path-is, w.levels-is, w.marks-is, w.machine-is, w.found-is, w.seen-is, w.next-is)
@@ -165,7 +215,7 @@ loop-preserved g c =
           }
       | in-None+in-Some-pop+in_ok-next-in-None+else-is_some w ↦
           let stands = (rw w.in-None.is at c.loop.invariant.stands) in
-          let back : Leaves next is_new IsKey w.pop.new.self.items w.in-Some-pop._taken levels start stands.node = stands-back next is_new IsKey path w.pop.new.self.items w.in-Some-pop._taken levels start now stands w.in-Some-pop.ensures.items in
+          let back : Leaves next is_new IsTaken IsKey w.pop.new.self.items w.in-Some-pop._taken levels start stands.node = stands-back next is_new IsTaken IsKey (enough found) path w.pop.new.self.items w.in-Some-pop._taken levels start now stands w.in-Some-pop.ensures.items in
           let last = w.in_ok-next-in-None.ensures back.others back.level back.are in
           let none : is_some back.level.other ≡ false = rw (← last.0) cc in
           let machine : IsSome back.level.other → after next w.pop.new.self.items start ≡ Some now = λ some. let k : true ≡ false = sym some ∙ none in cc in

@@ -5,16 +5,18 @@ use Rattle.schedules.specs.Marks.{AreMarks}
 use Rattle.schedules.proofs.Ahead.{Stands}
 use Rattle.schedules.proofs.Alike.{AreDone}
 use Rattle.schedules.proofs.Collecting.{is_new_goal}
+use Rattle.schedules.proofs.Persisting.{IsReachedPersistent}
 use Rattle.schedules.proofs.Working.{HasSpent}
 use Rattle.schedules.proofs.outcomes.collect.Given as goal
 
--- At the position of the search, the outcome of each goal before it was found, and so was that of
--- each goal after a state whose key was noted. It has made this many steps. The marks are states of
--- the machine.
+-- At the position of the search, the outcome of each goal before it was found, except at persistent
+-- choices, and so was that of each goal after a state whose key was noted. It has made this many
+-- steps. The marks are states of the machine.
 abbrev pub invariant-loop : goal.invariant-loop
 invariant-loop g l = record {
   stands :
-      Stands g.M.Machine.next (is_new_goal g.M.Machine.is_goal g.M.Observable.outcome l.found.items) g.M.Keyed.IsKey l.path.items l.levels.items
+      Stands g.M.Machine.next (is_new_goal g.M.Machine.is_goal g.M.Observable.outcome l.found.items)
+      (IsReachedPersistent g.M.Machine.next g.M.PersistentChoices.IsPersistent (g.M.Machine.start l.fn.machine)) g.M.Keyed.IsKey l.path.items l.levels.items
       (g.M.Machine.start l.fn.machine) l.machine l.next;
   done :
       AreDone g.M.Machine.next (is_new_goal g.M.Machine.is_goal g.M.Observable.outcome l.found.items) g.M.Keyed.IsKey
