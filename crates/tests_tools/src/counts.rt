@@ -162,7 +162,8 @@ fn registrations_and_notices_leave_equivalent_states_merged(rt: HostRuntime) -> 
 }
 
 // Four receives from queues of their own, and sends that end their waits in turn. With a key as long
-// as waits have to end, the search takes 5,101 steps. It would take 25,853 if only lines counted.
+// as waits have to end, the search takes 1,199 steps. It would take 1,819 if only lines counted, and
+// 5,101 if a process whose wait is answered did not return at once.
 static WAITS: &str = "processes 5
 5 open /q1 bc 10 8
 5 open /q2 bc 10 8
@@ -186,5 +187,5 @@ static WAITS: &str = "processes 5
 
 #[test]
 fn waits_to_end_leave_equivalent_states_merged(rt: HostRuntime) -> Result<(), Fail> {
-    has(&rt, rt.alloc(), WAITS, 10_000, (1, 0))
+    has(&rt, rt.alloc(), WAITS, 1_500, (1, 0))
 }
