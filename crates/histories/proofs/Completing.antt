@@ -169,13 +169,13 @@ operations-of histories past index operation is = by (slice_get histories index)
     by None none e = absurd (let bad : None ≡ Some operation = e in cc)
     by (Some v) has e = record { v = v; has = has; at_n = e }
 
-abbrev one_if : Bool → ℕ
+abbrev pub one_if : Bool → ℕ
 one_if b = if b then 1 else 0
 
 length-sent : (prio : ℕ) (message : List ℕ) (past : Past) (r : Record) → length (sent_of prio message (r ∷ past)) ≡ length (sent_of prio message past) + one_if (is_sending prio message r)
 length-sent prio message past r = split (is_sending prio message r) (λ y. rw y (omega arith)) (λ n. rw n (omega arith))
 
-one-le : (a b : Bool) → (a ≡ true → b ≡ true) → one_if a ≤ one_if b
+pub one-le : (a b : Bool) → (a ≡ true → b ≡ true) → one_if a ≤ one_if b
 one-le true b e = rw (e refl) (omega arith)
 one-le false b e = omega arith
 
@@ -253,7 +253,7 @@ receives-given past y (Attributes status) prio message quiet fit got = absurd (l
 receives-given past y (Notice value) prio message quiet fit got = absurd (let bad : false ≡ true = got in cc)
 receives-given past y (Refused fault) prio message quiet fit got = absurd (let bad : false ≡ true = got in cc)
 
-length-with : (o : Option Place) (xs : List ℕ) → length (with_place o xs) ≡ length xs + one_if (is_some o)
+pub length-with : (o : Option Place) (xs : List ℕ) → length (with_place o xs) ≡ length xs + one_if (is_some o)
 length-with None xs = omega arith
 length-with (Some k) xs = omega arith
 

@@ -58,7 +58,7 @@ sent-in prio message (s ∷ past) m r there is = split (m == length past)
     sent-more prio message past s m (sent-in prio message past m r old is))
 
 -- a handed message is that of a send
-handed-sends : (past : Past) (p w : ℕ) (call : Call) → Says past p call (Handed w) → is_send call ≡ true
+pub handed-sends : (past : Past) (p w : ℕ) (call : Call) → Says past p call (Handed w) → is_send call ≡ true
 handed-sends past p w (MqSend d prio len) says = refl
 handed-sends past p w (MqTimedSend d prio len until now) says = refl
 handed-sends past p w (MqOpen flags attr) says = absurd says
@@ -73,7 +73,7 @@ handed-sends past p w NextNotice says = absurd (cc)
 handed-sends past p w Collect says = absurd (cc)
 handed-sends past p w (Withdraw now) says = absurd (cc)
 
-handing : (reply : Reply) → hands reply ≡ true → (w : ℕ) × (reply ≡ Handed w)
+pub handing : (reply : Reply) → hands reply ≡ true → (w : ℕ) × (reply ≡ Handed w)
 handing (Handed w) e = (w, refl)
 handing (Opened d created) e = absurd (let bad : false ≡ true = e in cc)
 handing (Queued n) e = absurd (let bad : false ≡ true = e in cc)

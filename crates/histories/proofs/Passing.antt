@@ -55,7 +55,7 @@ use Rattle.histories.proofs.Taking.{taker}
 use Rattle.histories.proofs.Tracing.{legal-linear, made-record, own-call, record-with}
 
 -- an operation that a test finds among those that had returned by a time
-record HasFound (time : ℕ) (test : Operation → Bool) (histories : Histories) : Type 0 where
+pub record HasFound (time : ℕ) (test : Operation → Bool) (histories : Histories) : Type 0 where
   pub index : ℕ
   pub v : Vec Operation Global
   pub has : slice_get histories index ≡ Some v
@@ -77,25 +77,25 @@ take-at (suc n) [] k x is = absurd (let bad : None ≡ Some x = is in cc)
 take-at (suc n) (y ∷ ys) zero x is = (omega arith, is)
 take-at (suc n) (y ∷ ys) (suc k) x is = let rest = take-at n ys k x is in let lt = rest.0 in (omega (arith, lt), rest.1)
 
-found : (time : ℕ) (test : Operation → Bool) (histories : Histories) → has_returned time test histories ≡ true → HasFound time test histories
+pub found : (time : ℕ) (test : Operation → Bool) (histories : Histories) → has_returned time test histories ≡ true → HasFound time test histories
 found time test histories e =
     let a = any-at (λ (v : Vec Operation Global). list_any test (returned_by time v.items)) histories e in
     let b = any-at test (returned_by time a.1.items) a.3 in
     let c = take-at (count_returned time a.1.items) a.1.items b.0 b.1 b.2 in
     record { index = a.0; v = a.1; has = a.2; k = b.0; below = c.0; operation = b.1; is = c.1; passes = b.3 }
 
-found-at : (time : ℕ) (test : Operation → Bool) (histories : Histories) (x : HasFound time test histories) → operation_at histories x.index x.k ≡ Some x.operation
+pub found-at : (time : ℕ) (test : Operation → Bool) (histories : Histories) (x : HasFound time test histories) → operation_at histories x.index x.k ≡ Some x.operation
 found-at time test histories x = rw x.has x.is
 
 -- what had returned by a time at which no operation is left is completed
-found-completed : (time : ℕ) (test : Operation → Bool) (histories : Histories) (past : Past) (x : HasFound time test histories) → is_through_by time (current_of histories past x.index) ≡ true → x.k < completed past (x.index + 1)
+pub found-completed : (time : ℕ) (test : Operation → Bool) (histories : Histories) (past : Past) (x : HasFound time test histories) → is_through_by time (current_of histories past x.index) ≡ true → x.k < completed past (x.index + 1)
 found-completed time test histories past x through =
     let here : is_through_by time (slice_get x.v.items (completed past (x.index + 1))) ≡ true = rw x.has at through in
     let le = returned-completed time x.v.items (completed past (x.index + 1)) here in
     let lt = x.below in
     omega (arith, le, lt)
 
-through-all : (histories : Histories) (past : Past) → is_complete histories past ≡ true → (i : ℕ) → is_through (current_of histories past i) ≡ true
+pub through-all : (histories : Histories) (past : Past) → is_complete histories past ≡ true → (i : ℕ) → is_through (current_of histories past i) ≡ true
 through-all histories past complete i = elim (cases_lt i (length histories)) [
   | inl inside ↦ through-each histories past (length histories) i complete inside
   | inr outside ↦ rw (slice_get_past histories i outside) refl
@@ -221,7 +221,7 @@ receive-contradicts : (past : Past) (r : Record) (o : Operation) → Legal past 
 receive-contradicts past r o legal next call q m prio there same only fit receive pass =
     finds-passes-not past prio r.entry.reply o.outcome (finds-now past r o legal next call q m prio there same only receive) fit pass
 
-completed-made : (past : Past) (p : ℕ) → completed past p ≤ made past p
+pub completed-made : (past : Past) (p : ℕ) → completed past p ≤ made past p
 completed-made past p = by (is_some (open_wait past p))
   where
     by : (b : Bool) → (if b then made past p - 1 else made past p) ≤ made past p

@@ -49,7 +49,7 @@ pub record IsWaiting (time : ℕ) (histories : Histories) (past : Past) (p w : �
   pub call : IsCallOf r operation
   pub waits : is_wait r.entry.reply ≡ true
 
-ending-waits-not : (past : Past) (r : Record) → IsLegalNext past r → is_wait r.entry.reply ≡ true → ends_wait r.entry.call ≡ false
+pub ending-waits-not : (past : Past) (r : Record) → IsLegalNext past r → is_wait r.entry.reply ≡ true → ends_wait r.entry.call ≡ false
 ending-waits-not past r legal waits = split (ends_wait r.entry.call)
     (λ ends.
     let quiet : is_wait r.entry.reply ≡ false = subst (λ (y : Reply). is_wait y ≡ false) (sym legal.reply) (end-waits-not past r.entry.process r.entry.call r.payload ends) in

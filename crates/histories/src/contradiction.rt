@@ -4,6 +4,7 @@ ghost use Rattle.histories.specs.Contradiction.{IsContradiction};
 ghost use Rattle.histories.specs.Excess.{HasNoOrder};
 
 use crate::excess::{Excess, find_excess};
+use crate::not_full::{NotFull, find_not_full};
 use crate::operation::Operation;
 use crate::passed::{Passed, find_passed};
 use std::alloc::{AllocError, Global};
@@ -13,6 +14,7 @@ use std::alloc::{AllocError, Global};
 pub enum Contradiction {
     Excess(Excess),
     Passed(Passed),
+    NotFull(NotFull),
 }
 
 /// A contradiction, if one is found. Such a history has no linearization.
@@ -26,8 +28,11 @@ pub fn find_contradiction(
     if let Some(excess) = find_excess(alloc, histories)? {
         return Ok(Some(Contradiction::Excess(excess)));
     }
-    match find_passed(alloc, histories)? {
+    if let Some(passed) = find_passed(alloc, histories)? {
+        return Ok(Some(Contradiction::Passed(passed)));
+    }
+    match find_not_full(alloc, histories)? {
         None => Ok(None),
-        Some(passed) => Ok(Some(Contradiction::Passed(passed))),
+        Some(found) => Ok(Some(Contradiction::NotFull(found))),
     }
 }

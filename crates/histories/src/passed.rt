@@ -137,8 +137,8 @@ fn may_receive(time: u64, prio: u32, message: &[u8], operation: &Operation) -> b
             || (operation.call.is_receive() && is_pending(&operation.outcome)))
 }
 
-// Whether an operation began by this time, and opens a queue of another name or unlinks one.
-fn leaves_queue(time: u64, name: &[u8], operation: &Operation) -> bool
+/// Whether an operation began by this time, and opens a queue of another name or unlinks one.
+pub fn leaves_queue(time: u64, name: &[u8], operation: &Operation) -> bool
     ensures { result ≡ leaves_queue time name.now operation.now }
 {
     operation.begin <= time
@@ -225,8 +225,8 @@ fn was_received(time: u64, prio: u32, message: &[u8], histories: &Vec<Vec<Operat
     found
 }
 
-// Whether a call that began by this time opens a queue of another name, or unlinks one.
-fn was_left(time: u64, name: &[u8], histories: &Vec<Vec<Operation>>) -> bool
+/// Whether a call that began by this time opens a queue of another name, or unlinks one.
+pub fn was_left(time: u64, name: &[u8], histories: &Vec<Vec<Operation>>) -> bool
     ensures { result ≡ has_any (leaves_queue time name.now) histories.now.items }
 {
     let mut found = false;
@@ -253,8 +253,8 @@ fn checked(passed: Passed, histories: &Vec<Vec<Operation>>) -> Option<Passed>
     }
 }
 
-// The name of the queue that was opened first.
-fn first_name(histories: &Vec<Vec<Operation>>) -> Option<&[u8]> {
+/// The name of the queue that was opened first.
+pub fn first_name(histories: &Vec<Vec<Operation>>) -> Option<&[u8]> {
     let mut first: Option<&Operation> = None;
     for operations in histories {
         for operation in operations {

@@ -1,0 +1,335 @@
+-- How many messages entered queues at each record of a linearization.
+use Rattle.std.proofs.Common.{◌≡◌, ℕ, ◌+◌, ◌≤◌, ◌<◌, ◌-◌, ◌==◌, Bool, true, false, ◌&&◌, [], ◌∷◌, length, take, Option, Some, None, is_some, Vec, refl, sym, ◌∙◌, ap, subst, arith, if◌then◌else◌, slice_get, count_by, eqb-true, eq-eqb, le-leb}
+use Rattle.std.specs.declared.alloc.Global.{Global}
+use Rattle.std.proofs.lemmas.Bool.{eqb-false}
+use Rattle.std.proofs.lemmas.Option.{slice_get_within}
+use Rattle.mq_model.specs.Record.{Record, Past}
+use Rattle.mq_model.specs.Messages.{admits, blocked_sends, is_send, waiting_sends}
+use Rattle.mq_model.specs.Waits.{answered_by, is_answered, is_wait, named_wait, names_wait, open_wait}
+use Rattle.mq_model.specs.declared.entries.Call.{Call}
+use Rattle.mq_model.specs.declared.entries.Call.TheVariants.{MqOpen, MqClose, MqUnlink, MqSend, MqReceive, MqGetattr, MqSetattr, MqNotify, NextNotice, Collect, MqTimedSend, MqTimedReceive, Withdraw}
+use Rattle.mq_model.specs.declared.entries.Reply.{Reply}
+use Rattle.mq_model.specs.declared.entries.Reply.TheVariants as reply
+use Rattle.mq_model.specs.declared.owners.WaitKind.TheVariants.{Send}
+use Rattle.mq_model.proofs.Cases.{Says}
+use Rattle.mq_model.proofs.Frames.{answered_by-none}
+use Rattle.mq_model.proofs.LegalReplies.{legal_says}
+use Rattle.mq_model.proofs.NamedWaits.{least-in}
+use Rattle.mq_model.proofs.Places.{is_in-filter, split}
+use Rattle.mq_model.proofs.Waiters.{admits-least, waiter}
+use Rattle.mq_laws.proofs.GivenOnce.{answered-named}
+use Rattle.mq_laws.proofs.LegalPlaces.{has-here}
+use Rattle.mq_laws.proofs.SentMessages.{blocked-sent}
+use Rattle.histories.specs.OwnCalls.{ends_wait, made}
+use Rattle.histories.specs.declared.operation.Operation.{Operation}
+use Rattle.histories.specs.declared.operation.Outcome.{Outcome}
+use Rattle.histories.specs.declared.operation.Outcome.TheVariants.{Pending, Done, Opened, Got, Attributes, Notice, Refused}
+use Rattle.histories.specs.Histories.{Histories, completed, current_of, is_through}
+use Rattle.histories.specs.Linearizations.{IsLinearization}
+use Rattle.histories.specs.Outcomes.{fits, hands, is_handed}
+use Rattle.histories.specs.NotFull.{enters_by, may_enter}
+use Rattle.histories.proofs.Admitting.{IsAdmitted, admitted-enters}
+use Rattle.histories.proofs.Completing.{completed-free, completed-other, free, made-other, made-own, made-same, one_if, operations-of}
+use Rattle.histories.proofs.Cutting.{AreBegun, Ends}
+use Rattle.histories.proofs.Giving.{handed-sends}
+use Rattle.histories.proofs.Passing.{completed-made}
+use Rattle.histories.proofs.Totals.{count-fewer, count-more, of_process, total, total-grows}
+use Rattle.histories.proofs.Tracing.{current-other, ending-waits-not, legal-linear, own-call, waits-for}
+
+-- the current operation of a process is a send whose message may enter
+abbrev pub enters_now : ℕ → Option Operation → Bool
+enters_now time None = false
+enters_now time (Some o) = enters_by time o
+
+-- how many messages of a process entered queues, with that of a send whose wait was served
+abbrev pub entered_by : ℕ → Histories → Past → ℕ → ℕ
+entered_by time histories past i =
+    of_process (λ (v : Vec Operation Global). count_by (enters_by time) (take (completed past (i + 1)) v.items)) (slice_get histories i)
+    + one_if (is_answered past (i + 1) && enters_now time (current_of histories past i))
+
+-- a reply by which the message of its send enters at once
+abbrev pub own_come : Reply → ℕ
+own_come (reply.Queued n) = 1
+own_come (reply.Handed w) = 1
+own_come _ = 0
+
+answer-step : (a c : Bool) (o : Option ℕ) (k n : ℕ) → n + one_if (is_some o && c) ≤ n + one_if (is_some (if a then Some k else o) && c)
+answer-step true c None k n = omega arith
+answer-step true c (Some j) k n = omega arith
+answer-step false c o k n = omega arith
+
+other-entered : (time : ℕ) (histories : Histories) (past : Past) (r : Record) (i : ℕ) → (r.entry.process == i + 1) ≡ false → entered_by time histories past i ≤ entered_by time histories (r ∷ past) i
+other-entered time histories past r i other =
+    let e = completed-other past r (i + 1) (eqb-false _ _ other) in
+    let now : enters_now time (current_of histories (r ∷ past) i) ≡ enters_now time (current_of histories past i) = ap (enters_now time) (current-other histories past r i other) in
+    let n : ℕ = of_process (λ (v : Vec Operation Global). count_by (enters_by time) (take (completed past (i + 1)) v.items)) (slice_get histories i) in
+    let step = answer-step (names_wait r.entry.reply (open_wait past (i + 1))) (enters_now time (current_of histories (r ∷ past) i)) (answered_by past (i + 1)) (length past) n in
+    let same : one_if (is_answered past (i + 1) && enters_now time (current_of histories (r ∷ past) i)) ≡ one_if (is_answered past (i + 1) && enters_now time (current_of histories past i)) = ap (λ (b : Bool). one_if (is_answered past (i + 1) && b)) now in
+    rw (e, other) (omega (arith, step, same))
+
+-- a process that waits has made a call
+waits-made : (histories : Histories) (past : Past) → IsLinearization histories past → (p w : ℕ) → open_wait past p ≡ Some w → 1 ≤ made past p
+waits-made histories [] linear p w e = absurd (let bad : None ≡ Some w = e in cc)
+waits-made histories (r ∷ past) linear p w e = split (r.entry.process == p)
+    (λ own.
+    let last : (if is_wait r.entry.reply then Some (length past) else None) ≡ Some w = rw own at e in
+    split (is_wait r.entry.reply)
+    (λ t.
+    let more = made-own past r p (eqb-true _ _ own) (ending-waits-not past r linear.1 t) in
+    omega (arith, more))
+    (λ f. let bad : None ≡ Some w = rw f at last in absurd (cc)))
+    (λ other.
+    let old : open_wait past p ≡ Some w = rw other at e in
+    let same = made-other past r p (eqb-false _ _ other) in
+    let before = waits-made histories past linear.0 p w old in
+    omega (arith, same, before))
+
+-- a message is queued by a send
+pub queued-sends : (past : Past) (p : ℕ) (n : Option ℕ) (call : Call) → Says past p call (reply.Queued n) → is_send call ≡ true
+queued-sends past p n (MqSend d prio len) says = refl
+queued-sends past p n (MqTimedSend d prio len until now) says = refl
+queued-sends past p n (MqOpen flags attr) says = absurd says
+queued-sends past p n (MqClose d) says = absurd says.0
+queued-sends past p n MqUnlink says = absurd says
+queued-sends past p n (MqReceive d room) says = absurd says.3
+queued-sends past p n (MqTimedReceive d room until now) says = absurd says.3
+queued-sends past p n (MqGetattr d) says = absurd says
+queued-sends past p n (MqSetattr d nonblock) says = absurd says
+queued-sends past p n (MqNotify d value) says = absurd says
+queued-sends past p n NextNotice says = absurd (cc)
+queued-sends past p n Collect says = absurd (cc)
+queued-sends past p n (Withdraw now) says = absurd (cc)
+
+done-enters : (past : Past) (y : Reply) (x : Outcome) → own_come y ≡ 1 → fits past y x ≡ true → may_enter x ≡ true
+done-enters past y Pending come fit = refl
+done-enters past y Done come fit = refl
+done-enters past (reply.Queued n) (Opened d) come fit = absurd (let bad : false ≡ true = fit in cc)
+done-enters past (reply.Queued n) (Got p m) come fit = absurd (let bad : false ≡ true = fit in cc)
+done-enters past (reply.Queued n) (Attributes s) come fit = absurd (let bad : false ≡ true = fit in cc)
+done-enters past (reply.Queued n) (Notice v) come fit = absurd (let bad : false ≡ true = fit in cc)
+done-enters past (reply.Queued n) (Refused f) come fit = absurd (let bad : false ≡ true = fit in cc)
+done-enters past (reply.Handed w) (Opened d) come fit = absurd (let bad : false ≡ true = fit in cc)
+done-enters past (reply.Handed w) (Got p m) come fit = absurd (let bad : false ≡ true = fit in cc)
+done-enters past (reply.Handed w) (Attributes s) come fit = absurd (let bad : false ≡ true = fit in cc)
+done-enters past (reply.Handed w) (Notice v) come fit = absurd (let bad : false ≡ true = fit in cc)
+done-enters past (reply.Handed w) (Refused f) come fit = absurd (let bad : false ≡ true = fit in cc)
+done-enters past (reply.Opened d c) x come fit = absurd (omega (arith, come))
+done-enters past (reply.Got m a n) x come fit = absurd (omega (arith, come))
+done-enters past reply.Waits x come fit = absurd (omega (arith, come))
+done-enters past (reply.Collected b) x come fit = absurd (omega (arith, come))
+done-enters past (reply.Withdrawn w) x come fit = absurd (omega (arith, come))
+done-enters past (reply.Attrs s) x come fit = absurd (omega (arith, come))
+done-enters past (reply.Notice v) x come fit = absurd (omega (arith, come))
+done-enters past reply.Done x come fit = absurd (omega (arith, come))
+done-enters past (reply.Refused f) x come fit = absurd (omega (arith, come))
+
+-- what a reply of the call of an operation brings into a queue is its message
+come-le : (time : ℕ) (histories : Histories) (past : Past) (r : Record) (linear : IsLinearization histories (r ∷ past)) → linear.2.operation.begin ≤ time → ends_wait r.entry.call ≡ false →
+    own_come r.entry.reply ≤ one_if (enters_by time linear.2.operation)
+come-le time histories past r linear begun own = by r.entry.reply refl
+  where
+    enters : is_send r.entry.call ≡ true → own_come r.entry.reply ≡ 1 → one_if (enters_by time linear.2.operation) ≡ 1
+    enters send come =
+        let call = own-call histories past r linear.2 own in
+        let sends : is_send linear.2.operation.call ≡ true = ap is_send (sym call.call) ∙ send in
+        let may = done-enters past r.entry.reply linear.2.operation.outcome come linear.2.fits in
+        rw (le-leb _ _ begun, sends, may) refl
+
+    by : (y : Reply) → r.entry.reply ≡ y → own_come y ≤ one_if (enters_by time linear.2.operation)
+    by (reply.Queued n) is =
+        let send = queued-sends past r.entry.process n r.entry.call (subst (λ (y : Reply). Says past r.entry.process r.entry.call y) is (legal_says past r linear.1)) in
+        let e = enters send (ap own_come is) in
+        omega (arith, e)
+    by (reply.Handed w) is =
+        let send = handed-sends past r.entry.process w r.entry.call (subst (λ (y : Reply). Says past r.entry.process r.entry.call y) is (legal_says past r linear.1)) in
+        let e = enters send (ap own_come is) in
+        omega (arith, e)
+    by (reply.Opened d c) is = omega arith
+    by (reply.Got m a n) is = omega arith
+    by reply.Waits is = omega arith
+    by (reply.Collected b) is = omega arith
+    by (reply.Withdrawn w) is = omega arith
+    by (reply.Attrs s) is = omega arith
+    by (reply.Notice v) is = omega arith
+    by reply.Done is = omega arith
+    by (reply.Refused f) is = omega arith
+
+-- a collect and a withdrawal bring in nothing
+ending-come : (past : Past) (p : ℕ) (call : Call) (y : Reply) → Says past p call y → ends_wait call ≡ true → own_come y ≡ 0
+ending-come past p Collect y says ends = ap own_come says
+ending-come past p (Withdraw now) y says ends = ap own_come says
+ending-come past p _ y says ends = absurd (let bad : false ≡ true = ends in cc)
+
+some-of : (o : Option ℕ) → is_some o ≡ true → (b : ℕ) × (o ≡ Some b)
+some-of None e = absurd (let bad : false ≡ true = e in cc)
+some-of (Some b) e = (b, refl)
+
+none-of : (o : Option ℕ) → is_some o ≡ false → o ≡ None
+none-of None e = refl
+none-of (Some b) e = absurd (let bad : true ≡ false = e in cc)
+
+wait-come : (y : Reply) → is_wait y ≡ true → own_come y ≡ 0
+wait-come (reply.Queued n) e = absurd (let bad : false ≡ true = e in cc)
+wait-come (reply.Handed w) e = absurd (let bad : false ≡ true = e in cc)
+wait-come _ e = refl
+
+-- the count at a process, by the operations that it has completed
+entered-quiet : (time : ℕ) (histories : Histories) (past : Past) (i : ℕ) (v : Vec Operation Global) → slice_get histories i ≡ Some v → is_answered past (i + 1) ≡ false →
+    entered_by time histories past i ≡ count_by (enters_by time) (take (completed past (i + 1)) v.items)
+entered-quiet time histories past i v has quiet = rw (has, quiet) (omega arith)
+
+entered-is : (time : ℕ) (histories : Histories) (past : Past) (i : ℕ) (v : Vec Operation Global) (o : Operation) → slice_get histories i ≡ Some v → current_of histories past i ≡ Some o → is_answered past (i + 1) ≡ true →
+    entered_by time histories past i ≡ count_by (enters_by time) (take (completed past (i + 1)) v.items) + one_if (enters_by time o)
+entered-is time histories past i v o has is answered =
+    let now : enters_now time (current_of histories past i) ≡ enters_by time o = ap (enters_now time) is in
+    let one : one_if (is_answered past (i + 1) && enters_now time (current_of histories past i)) ≡ one_if (enters_by time o) = rw answered (ap one_if now) in
+    let count : of_process (λ (w : Vec Operation Global). count_by (enters_by time) (take (completed past (i + 1)) w.items)) (slice_get histories i) ≡ count_by (enters_by time) (take (completed past (i + 1)) v.items) = rw has refl in
+    omega (arith, one, count)
+
+own-entered : (time : ℕ) (histories : Histories) (past : Past) (r : Record) (linear : IsLinearization histories (r ∷ past)) → linear.2.operation.begin ≤ time →
+    entered_by time histories past linear.2.index + own_come r.entry.reply ≤ entered_by time histories (r ∷ past) linear.2.index
+own-entered time histories past r linear begun =
+    let ops = operations-of histories past linear.2.index linear.2.operation linear.2.is in
+    let after = entered-quiet time histories (r ∷ past) linear.2.index ops.v ops.has quiet_now in
+    split (ends_wait r.entry.call)
+    (λ ends.
+    let none = ending-come past r.entry.process r.entry.call r.entry.reply (legal_says past r linear.1) ends in
+    let waits_not : is_wait r.entry.reply ≡ false = split (is_wait r.entry.reply)
+    (λ t. let own = ending-waits-not past r linear.1 t in let bad : true ≡ false = sym ends ∙ own in absurd (cc))
+    (λ f. f) in
+    let free_now : is_some (open_wait (r ∷ past) (linear.2.index + 1)) ≡ false = rw (eq-eqb _ _ linear.2.process, waits_not) refl in
+    let number : completed (r ∷ past) (linear.2.index + 1) ≡ made past (linear.2.index + 1) = completed-free (r ∷ past) (linear.2.index + 1) free_now ∙ made-same past r (linear.2.index + 1) ends in
+    split (is_answered past (linear.2.index + 1))
+    (λ t.
+    let b = some-of (answered_by past (linear.2.index + 1)) t in
+    let named = answered-named past (linear.2.index + 1) b.0 b.1 in
+    let some = waits-made histories past linear.0 (linear.2.index + 1) named.w named.opened in
+    let before : completed past (linear.2.index + 1) ≡ made past (linear.2.index + 1) - 1 = rw named.opened refl in
+    let next : completed (r ∷ past) (linear.2.index + 1) ≡ completed past (linear.2.index + 1) + 1 = omega (arith, number, before, some) in
+    let more = count-more (enters_by time) ops.v.items (completed past (linear.2.index + 1)) linear.2.operation ops.at_n in
+    let old = entered-is time histories past linear.2.index ops.v linear.2.operation ops.has linear.2.is t in
+    let new : count_by (enters_by time) (take (completed (r ∷ past) (linear.2.index + 1)) ops.v.items) ≡ count_by (enters_by time) (take (completed past (linear.2.index + 1) + 1) ops.v.items) = ap (λ (k : ℕ). count_by (enters_by time) (take k ops.v.items)) next in
+    omega (arith, none, after, more, old, new))
+    (λ f.
+    let old = entered-quiet time histories past linear.2.index ops.v ops.has f in
+    let most = completed-made past (linear.2.index + 1) in
+    let more = count-fewer (enters_by time) ops.v.items (completed past (linear.2.index + 1)) (completed (r ∷ past) (linear.2.index + 1)) (omega (arith, most, number)) in
+    omega (arith, none, after, old, more)))
+    (λ own.
+    let none = free past r (linear.2.index + 1) linear.2.process linear.1 own in
+    let quiet : is_answered past (linear.2.index + 1) ≡ false = ap is_some (answered_by-none past (linear.2.index + 1) (none-of (open_wait past (linear.2.index + 1)) none)) in
+    let old = entered-quiet time histories past linear.2.index ops.v ops.has quiet in
+    let number = completed-free past (linear.2.index + 1) none in
+    let more = made-own past r (linear.2.index + 1) linear.2.process own in
+    split (is_wait r.entry.reply)
+    (λ waits.
+    let come = wait-come r.entry.reply waits in
+    let some_now : is_some (open_wait (r ∷ past) (linear.2.index + 1)) ≡ true = rw (eq-eqb _ _ linear.2.process, waits) refl in
+    let before : completed (r ∷ past) (linear.2.index + 1) ≡ made (r ∷ past) (linear.2.index + 1) - 1 = rw some_now refl in
+    let same : completed (r ∷ past) (linear.2.index + 1) ≡ completed past (linear.2.index + 1) = omega (arith, before, more, number) in
+    let new : count_by (enters_by time) (take (completed (r ∷ past) (linear.2.index + 1)) ops.v.items) ≡ count_by (enters_by time) (take (completed past (linear.2.index + 1)) ops.v.items) = ap (λ (k : ℕ). count_by (enters_by time) (take k ops.v.items)) same in
+    omega (arith, come, after, old, new))
+    (λ goes.
+    let free_now : is_some (open_wait (r ∷ past) (linear.2.index + 1)) ≡ false = rw (eq-eqb _ _ linear.2.process, goes) refl in
+    let after_made = completed-free (r ∷ past) (linear.2.index + 1) free_now in
+    let next : completed (r ∷ past) (linear.2.index + 1) ≡ completed past (linear.2.index + 1) + 1 = omega (arith, after_made, more, number) in
+    let step = count-more (enters_by time) ops.v.items (completed past (linear.2.index + 1)) linear.2.operation ops.at_n in
+    let new : count_by (enters_by time) (take (completed (r ∷ past) (linear.2.index + 1)) ops.v.items) ≡ count_by (enters_by time) (take (completed past (linear.2.index + 1) + 1) ops.v.items) = ap (λ (k : ℕ). count_by (enters_by time) (take k ops.v.items)) next in
+    let le = come-le time histories past r linear begun own in
+    omega (arith, after, old, step, new, le)))
+  where
+    quiet_now : is_answered (r ∷ past) (linear.2.index + 1) ≡ false
+    quiet_now = rw (eq-eqb _ _ linear.2.process) refl
+
+-- a waiting send that a receive admits ------------------------------------------------------------------------------------
+
+got-own : (past : Past) (p m : ℕ) (a n : Option ℕ) (call : Call) → Says past p call (reply.Got m a n) → ends_wait call ≡ false
+got-own past p m a n Collect says = absurd (cc)
+got-own past p m a n (Withdraw now) says = absurd (cc)
+got-own past p m a n _ says = refl
+
+-- the process of the send
+record HasAdmitted (time : ℕ) (histories : Histories) (past : Past) (r : Record) : Type 0 where
+  pub index : ℕ
+  pub within : index < length histories
+  pub grows : entered_by time histories past index + 1 ≤ entered_by time histories (r ∷ past) index
+
+admits-one : (time : ℕ) (histories : Histories) (full past : Past) (r : Record) (linear : IsLinearization histories (r ∷ past)) → AreBegun time histories (r ∷ past) linear → IsLinearization histories full → Ends (r ∷ past) full →
+    ((i : ℕ) → is_through (current_of histories full i) ≡ true) → (m w : ℕ) (n : Option ℕ) → r.entry.reply ≡ reply.Got m (Some w) n → HasAdmitted time histories past r
+admits-one time histories full past r linear begun whole ends through m w n is =
+    let legal = legal-linear histories past linear.0 in
+    let says : Says past r.entry.process r.entry.call (reply.Got m (Some w) n) = subst (λ (y : Reply). Says past r.entry.process r.entry.call y) is (legal_says past r linear.1) in
+    let x = admits-least past r.entry.process r.entry.call m (Some w) n says in
+    let there = least-in (waiting_sends past x.0) w (sym x.1) in
+    let y = waiter past legal Send x.0 w there in
+    let z = waits-for time histories past linear.0 begun.0 y.0 w y.1 in
+    let blocked = (is_in-filter _ (blocked_sends past x.0) w there).0 in
+    let sent = blocked-sent past x.0 w blocked in
+    let both : Some sent.r ≡ Some z.r = sym sent.at ∙ z.at in
+    let same : sent.r ≡ z.r = cc in
+    let send : is_send z.operation.call ≡ true = ap is_send (sym z.call.call) ∙ ap (λ (s : Record). is_send s.entry.call) (sym same) ∙ sent.send in
+    let opened : open_wait past (z.index + 1) ≡ Some w = subst (λ (k : ℕ). open_wait past k ≡ Some w) z.process y.1 in
+    let free_yet : answered_by past (z.index + 1) ≡ None = subst (λ (k : ℕ). answered_by past k ≡ None) z.process y.2 in
+    let own = got-own past r.entry.process m (Some w) n r.entry.call says in
+    let apart : (r.entry.process == z.index + 1) ≡ false = split (r.entry.process == z.index + 1)
+    (λ t. let mine : r.entry.process ≡ z.index + 1 = eqb-true _ _ t in
+    let none = free past r (z.index + 1) mine linear.1 own in
+    let bad : true ≡ false = rw opened at none in absurd (cc))
+    (λ f. f) in
+    let still : current_of histories (r ∷ past) z.index ≡ Some z.operation = current-other histories past r z.index apart ∙ z.is in
+    let admitted : IsAdmitted histories (r ∷ past) z.index w (length past) z.operation = record {
+      opened = rw apart opened;
+      is = still;
+      named = has-here named_wait past r w (ap named_wait is);
+      kept = kept_here (ap hands is);
+    } in
+    let may = admitted-enters histories (r ∷ past) full whole ends z.index w (length past) z.operation (through z.index) admitted in
+    let enters : enters_by time z.operation ≡ true = rw (le-leb _ _ z.begun, send, may) refl in
+    let ops = operations-of histories past z.index z.operation z.is in
+    let quiet : is_answered past (z.index + 1) ≡ false = ap is_some free_yet in
+    let old = entered-quiet time histories past z.index ops.v ops.has quiet in
+    let names : names_wait r.entry.reply (open_wait past (z.index + 1)) ≡ true =
+    ap (λ (y : Reply). names_wait y (open_wait past (z.index + 1))) is ∙ ap (λ (o : Option ℕ). names_wait (reply.Got m (Some w) n) o) opened ∙ eq-eqb w w refl in
+    let answered : is_answered (r ∷ past) (z.index + 1) ≡ true = rw (apart, names) refl in
+    let new = entered-is time histories (r ∷ past) z.index ops.v z.operation ops.has still answered in
+    let number = completed-other past r (z.index + 1) (eqb-false _ _ apart) in
+    let counts : count_by (enters_by time) (take (completed (r ∷ past) (z.index + 1)) ops.v.items) ≡ count_by (enters_by time) (take (completed past (z.index + 1)) ops.v.items) = ap (λ (k : ℕ). count_by (enters_by time) (take k ops.v.items)) number in
+    let one : one_if (enters_by time z.operation) ≡ 1 = ap one_if enters in
+    record { index = z.index; within = slice_get_within histories z.index ops.v ops.has; grows = omega (arith, old, new, counts, one) }
+  where
+    kept_here : hands r.entry.reply ≡ false → is_handed (r ∷ past) (length past) ≡ false
+    kept_here e = rw (eq-eqb (length past) (length past) refl) e
+
+admitting-got : (y : Reply) (w : ℕ) → admits y ≡ Some w → (m : ℕ) × (n : Option ℕ) × (y ≡ reply.Got m (Some w) n)
+admitting-got (reply.Got m a n) w e = (m, n, ap (λ (b : Option ℕ). reply.Got m b n) e)
+admitting-got _ w e = absurd (let bad : None ≡ Some w = e in cc)
+
+-- what one record adds to the messages that entered
+pub entered-step : (time : ℕ) (histories : Histories) (full past : Past) (r : Record) (linear : IsLinearization histories (r ∷ past)) → AreBegun time histories (r ∷ past) linear → IsLinearization histories full → Ends (r ∷ past) full →
+    ((i : ℕ) → is_through (current_of histories full i) ≡ true) →
+    total (entered_by time histories past) (length histories) + (own_come r.entry.reply + one_if (is_some (admits r.entry.reply))) ≤ total (entered_by time histories (r ∷ past)) (length histories)
+entered-step time histories full past r linear begun whole ends through = by (admits r.entry.reply) refl
+  where
+    own : entered_by time histories past linear.2.index + own_come r.entry.reply ≤ entered_by time histories (r ∷ past) linear.2.index
+    own = own-entered time histories past r linear begun.1
+
+    each : (i : ℕ) → entered_by time histories past i ≤ entered_by time histories (r ∷ past) i
+    each i = split (r.entry.process == i + 1)
+        (λ mine.
+        let at : linear.2.index ≡ i = let p = linear.2.process in let e : r.entry.process ≡ i + 1 = eqb-true _ _ mine in omega (arith, p, e) in
+        let le = own in
+        subst (λ (k : ℕ). entered_by time histories past k ≤ entered_by time histories (r ∷ past) k) at (omega (arith, le)))
+        (λ other. other-entered time histories past r i other)
+
+    by : (o : Option ℕ) → admits r.entry.reply ≡ o →
+        total (entered_by time histories past) (length histories) + (own_come r.entry.reply + one_if (is_some (admits r.entry.reply))) ≤ total (entered_by time histories (r ∷ past)) (length histories)
+    by None e =
+        let ops = operations-of histories past linear.2.index linear.2.operation linear.2.is in
+        let grows = total-grows (entered_by time histories past) (entered_by time histories (r ∷ past)) (length histories) linear.2.index (own_come r.entry.reply) (slice_get_within histories linear.2.index ops.v ops.has) (λ i apart. each i) own in
+        rw e (omega (arith, grows))
+    by (Some w) e =
+        let g = admitting-got r.entry.reply w e in
+        let x = admits-one time histories full past r linear begun whole ends through g.0 w g.1 g.2 in
+        let grows = total-grows (entered_by time histories past) (entered_by time histories (r ∷ past)) (length histories) x.index 1 x.within (λ i apart. each i) x.grows in
+        let none : own_come r.entry.reply ≡ 0 = ap own_come g.2 in
+        rw e (omega (arith, grows, none))

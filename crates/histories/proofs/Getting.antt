@@ -1,0 +1,229 @@
+-- How many messages the processes got at each record of a linearization.
+use Rattle.std.proofs.Common.{◌≡◌, ◌≢◌, ℕ, ◌+◌, ◌≤◌, ◌==◌, Bool, true, false, ◌&&◌, List, [], ◌∷◌, length, take, Option, Some, None, Vec, refl, sym, ◌∙◌, ap, subst, arith, if◌then◌else◌, slice_get, count_by, eqb-true, eq-eqb, ne_eqb}
+use Rattle.std.specs.Option.{option_map}
+use Rattle.std.specs.declared.alloc.Global.{Global}
+use Rattle.std.proofs.lemmas.Bool.{and_parts, eqb-false}
+use Rattle.mq_model.specs.Record.{Record, Past, Process}
+use Rattle.mq_model.specs.Messages.{waiting_receives}
+use Rattle.mq_model.specs.Waits.{answered_by, is_wait, named_wait, names_wait, open_wait}
+use Rattle.mq_model.specs.Legality.{Legal}
+use Rattle.mq_model.specs.declared.entries.Reply.{Reply}
+use Rattle.mq_model.specs.declared.entries.Reply.TheVariants as reply
+use Rattle.mq_model.specs.declared.owners.WaitKind.TheVariants.{Receive}
+use Rattle.mq_model.proofs.Cases.{Says}
+use Rattle.mq_model.proofs.Frames.{record_at-older}
+use Rattle.mq_model.proofs.LegalReplies.{legal_says}
+use Rattle.mq_model.proofs.NamedWaits.{least-in}
+use Rattle.mq_model.proofs.OpenWaits.{same-waiter}
+use Rattle.mq_model.proofs.Places.{split}
+use Rattle.mq_model.proofs.Prefixes.{record_at-below}
+use Rattle.mq_model.proofs.Waiters.{hands-least, waiter}
+use Rattle.mq_laws.specs.Laws.{cause}
+use Rattle.mq_laws.proofs.GivenOnce.{answered-named, collected}
+use Rattle.mq_laws.proofs.LegalPlaces.{has-record}
+use Rattle.histories.specs.OwnCalls.{ends_wait}
+use Rattle.histories.specs.declared.operation.Operation.{Operation}
+use Rattle.histories.specs.declared.operation.Outcome.{Outcome}
+use Rattle.histories.specs.declared.operation.Outcome.TheVariants.{Pending, Done, Opened, Got, Attributes, Notice, Refused}
+use Rattle.histories.specs.Histories.{Histories, completed}
+use Rattle.histories.specs.Linearizations.{ComesFrom, IsLinearization}
+use Rattle.histories.specs.Outcomes.{brings, fits, has_handed, hands, is_handed, is_message}
+use Rattle.histories.specs.NotFull.{is_got, takes_out}
+use Rattle.histories.proofs.Accepting.{ending-reply}
+use Rattle.histories.proofs.Completing.{added, completed-other, completed-own, free, one_if, operations-of}
+use Rattle.histories.proofs.Cutting.{AreBegun}
+use Rattle.histories.proofs.Giving.{handing}
+use Rattle.histories.proofs.Totals.{count-fewer, count-more, of_process, total, total-more}
+use Rattle.histories.proofs.Tracing.{legal-linear, waits-for}
+
+apart-of : (p q : ℕ) → (p == q) ≡ false → p ≢ q
+apart-of p q e = eqb-false p q e
+
+-- receives ---------------------------------------------------------------------------------------------------------------
+
+-- a message was handed to the process, which waits for one
+abbrev pub handed_wait : Past → Process → Bool
+handed_wait [] p = false
+handed_wait (r ∷ past) p =
+    if r.entry.process == p then false
+    else (if names_wait r.entry.reply (open_wait past p) then hands r.entry.reply else handed_wait past p)
+
+-- how many messages a process got, with one that was handed to it
+abbrev pub got_by : Histories → Past → ℕ → ℕ
+got_by histories past i =
+    of_process (λ (v : Vec Operation Global). count_by takes_out (take (completed past (i + 1)) v.items)) (slice_get histories i) + one_if (handed_wait past (i + 1))
+
+answered-handed : (past : Past) (p b : ℕ) → answered_by past p ≡ Some b → is_handed past b ≡ true → handed_wait past p ≡ true
+answered-handed [] p b e handed = absurd (let bad : None ≡ Some b = e in cc)
+answered-handed (r ∷ past) p b e handed = split (r.entry.process == p)
+    (λ own. let bad : None ≡ Some b = rw own at e in absurd (cc))
+    (λ other.
+    let rest : (if names_wait r.entry.reply (open_wait past p) then Some (length past) else answered_by past p) ≡ Some b = rw other at e in
+    split (names_wait r.entry.reply (open_wait past p))
+    (λ t.
+    let here : Some (length past) ≡ Some b = rw t at rest in
+    let place : length past ≡ b = cc in
+    let it : is_handed (r ∷ past) (length past) ≡ true = ap (is_handed (r ∷ past)) place ∙ handed in
+    let gives : hands r.entry.reply ≡ true = rw (eq-eqb (length past) (length past) refl) at it in
+    rw (other, t) gives)
+    (λ f.
+    let old : answered_by past p ≡ Some b = rw f at rest in
+    let named = answered-named past p b old in
+    let x = has-record named_wait past b named.w named.named in
+    let same = record_at-older past r b (record_at-below past b x.r x.at) in
+    let before : is_handed past b ≡ true = ap (λ (o : Option Record). has_handed (option_map (λ (y : Record). y.entry) o)) (sym same) ∙ handed in
+    rw (other, f) (answered-handed past p b old before)))
+
+-- a reply by which its process gets a message at once
+abbrev pub own_gain : Reply → ℕ
+own_gain (reply.Got m a n) = 1
+own_gain _ = 0
+
+wait-step : (a b c : Bool) (n : ℕ) → n + one_if (if a then b else c) ≤ n + one_if c + one_if (a && b)
+wait-step true true c n = split c (λ t. rw t (omega arith)) (λ f. rw f (omega arith))
+wait-step true false c n = split c (λ t. rw t (omega arith)) (λ f. rw f (omega arith))
+wait-step false b c n = omega arith
+
+other-got : (histories : Histories) (past : Past) (r : Record) (i : ℕ) → (r.entry.process == i + 1) ≡ false →
+    got_by histories (r ∷ past) i ≤ got_by histories past i + one_if (names_wait r.entry.reply (open_wait past (i + 1)) && hands r.entry.reply)
+other-got histories past r i other =
+    let e = completed-other past r (i + 1) (apart-of _ _ other) in
+    rw (e, other) (wait-step (names_wait r.entry.reply (open_wait past (i + 1))) (hands r.entry.reply) (handed_wait past (i + 1)) _)
+
+record Brings (past : Past) (y : Reply) : Type 0 where
+  pub prio : ℕ
+  pub bytes : List ℕ
+  pub is : brings past y prio bytes ≡ true
+
+got-brings : (past : Past) (y : Reply) (x : Outcome) → is_got x ≡ true → fits past y x ≡ true → Brings past y
+got-brings past y (Got p m) got fit = record { prio = p; bytes = m.items; is = fit }
+got-brings past y Pending got fit = absurd (let bad : false ≡ true = got in cc)
+got-brings past y Done got fit = absurd (let bad : false ≡ true = got in cc)
+got-brings past y (Opened d) got fit = absurd (let bad : false ≡ true = got in cc)
+got-brings past y (Attributes s) got fit = absurd (let bad : false ≡ true = got in cc)
+got-brings past y (Notice v) got fit = absurd (let bad : false ≡ true = got in cc)
+got-brings past y (Refused f) got fit = absurd (let bad : false ≡ true = got in cc)
+
+-- what the reply of a call adds to the messages that its process got
+abbrev gain : Reply → Bool → ℕ
+gain y got = if is_wait y then 0 else one_if got
+
+gain-le : (past : Past) (p : ℕ) (y : Reply) (x : Outcome) → fits past y x ≡ true → ((b : ℕ) → y ≡ reply.Collected b → is_handed past b ≡ true → handed_wait past p ≡ true) →
+    gain y (is_got x) ≤ one_if (handed_wait past p) + own_gain y
+gain-le past p y x fit served = split (is_got x)
+    (λ t. rw t (by y refl (got-brings past y x t fit)))
+    (λ f. rw f (split (is_wait y) (λ w. rw w (omega arith)) (λ w. rw w (omega arith))))
+  where
+    by : (z : Reply) → y ≡ z → Brings past z → gain z true ≤ one_if (handed_wait past p) + own_gain z
+    by (reply.Got m a n) is b = omega arith
+    by reply.Waits is b = omega arith
+    by (reply.Collected k) is b =
+        let parts = and_parts (is_handed past k) (is_message past k b.prio b.bytes) b.is in
+        rw (served k is parts.0) (omega arith)
+    by (reply.Opened d c) is b = absurd (let bad : false ≡ true = b.is in cc)
+    by (reply.Queued n) is b = absurd (let bad : false ≡ true = b.is in cc)
+    by (reply.Handed w) is b = absurd (let bad : false ≡ true = b.is in cc)
+    by (reply.Withdrawn w) is b = absurd (let bad : false ≡ true = b.is in cc)
+    by (reply.Attrs s) is b = absurd (let bad : false ≡ true = b.is in cc)
+    by (reply.Notice v) is b = absurd (let bad : false ≡ true = b.is in cc)
+    by reply.Done is b = absurd (let bad : false ≡ true = b.is in cc)
+    by (reply.Refused f) is b = absurd (let bad : false ≡ true = b.is in cc)
+
+count-gain : (xs : List Operation) (n m : ℕ) (y : Reply) (o : Operation) → slice_get xs n ≡ Some o → m ≤ n + added y →
+    count_by takes_out (take m xs) ≤ count_by takes_out (take n xs) + gain y (takes_out o)
+count-gain xs n m y o there le = split (is_wait y)
+    (λ waits.
+    let few : m ≤ n + 0 = rw waits at le in
+    let fewer = count-fewer takes_out xs m n (omega (arith, few)) in
+    rw waits (omega (arith, fewer)))
+    (λ quiet.
+    let few : m ≤ n + 1 = rw quiet at le in
+    let fewer = count-fewer takes_out xs m (n + 1) few in
+    let step = count-more takes_out xs n o there in
+    rw quiet (omega (arith, fewer, step)))
+
+own-got : (histories : Histories) (past : Past) (r : Record) (linear : IsLinearization histories (r ∷ past)) →
+    got_by histories (r ∷ past) linear.2.index ≤ got_by histories past linear.2.index + own_gain r.entry.reply
+own-got histories past r linear =
+    let from : ComesFrom histories past r = linear.2 in
+    let ops = operations-of histories past from.index from.operation from.is in
+    let le = completed-own past r (from.index + 1) from.process linear.1 in
+    let counts = count-gain ops.v.items (completed past (from.index + 1)) (completed (r ∷ past) (from.index + 1)) r.entry.reply from.operation ops.at_n le in
+    let gains = gain-le past (from.index + 1) r.entry.reply from.operation.outcome from.fits served in
+    let none : handed_wait (r ∷ past) (from.index + 1) ≡ false = rw (eq-eqb _ _ from.process) refl in
+    rw (ops.has, none) (omega (arith, counts, gains))
+  where
+    served : (b : ℕ) → r.entry.reply ≡ reply.Collected b → is_handed past b ≡ true → handed_wait past (linear.2.index + 1) ≡ true
+    served b is handed =
+        let a = collected past r linear.1 b (ap cause is) in
+        let answered : answered_by past (linear.2.index + 1) ≡ Some b = subst (λ (k : ℕ). answered_by past k ≡ Some b) linear.2.process a.answered in
+        answered-handed past (linear.2.index + 1) b answered handed
+
+-- what one record adds to the messages that were got
+pub got-step : (time : ℕ) (histories : Histories) (past : Past) (r : Record) (linear : IsLinearization histories (r ∷ past)) → AreBegun time histories (r ∷ past) linear →
+    total (got_by histories (r ∷ past)) (length histories) ≤ total (got_by histories past) (length histories) + (own_gain r.entry.reply + one_if (hands r.entry.reply))
+got-step time histories past r linear begun = split (hands r.entry.reply)
+    (λ t.
+    let h = handing r.entry.reply t in
+    let le = handed h.0 h.1 in
+    let gain : own_gain r.entry.reply + one_if (hands r.entry.reply) ≡ 1 = ap (λ (y : Reply). own_gain y + one_if (hands y)) h.1 in
+    omega (arith, le, gain))
+    (λ f.
+    let more = total-more (got_by histories past) (got_by histories (r ∷ past)) (length histories) linear.2.index (own_gain r.entry.reply)
+    (λ i apart.
+    let other : (r.entry.process == i + 1) ≡ false = ne_eqb _ _ (λ e. apart (let p = linear.2.process in omega (arith, e, p))) in
+    let le = other-got histories past r i other in
+    let none : one_if (names_wait r.entry.reply (open_wait past (i + 1)) && hands r.entry.reply) ≡ 0 = rw f (nothing (names_wait r.entry.reply (open_wait past (i + 1)))) in
+    omega (arith, le, none))
+    (own-got histories past r linear) in
+    rw f (omega (arith, more)))
+  where
+    nothing : (b : Bool) → one_if (b && false) ≡ 0
+    nothing true = refl
+    nothing false = refl
+
+    legal : Legal past
+    legal = legal-linear histories past linear.0
+
+    handed : (w : ℕ) → r.entry.reply ≡ reply.Handed w → total (got_by histories (r ∷ past)) (length histories) ≤ total (got_by histories past) (length histories) + 1
+    handed w is =
+        let says : Says past r.entry.process r.entry.call (reply.Handed w) = subst (λ (y : Reply). Says past r.entry.process r.entry.call y) is (legal_says past r linear.1) in
+        let x = hands-least past r.entry.process r.entry.call w says in
+        let there = least-in (waiting_receives past x.0) w x.1 in
+        let y = waiter past legal Receive x.0 w there in
+        let z = waits-for time histories past linear.0 begun.0 y.0 w y.1 in
+        let opened : open_wait past (z.index + 1) ≡ Some w = subst (λ (k : ℕ). open_wait past k ≡ Some w) z.process y.1 in
+        let own : ends_wait r.entry.call ≡ false = ending-reply past r.entry.process r.entry.call (reply.Handed w) says refl in
+        let apart : (r.entry.process == z.index + 1) ≡ false = split (r.entry.process == z.index + 1)
+        (λ t. let mine : r.entry.process ≡ z.index + 1 = eqb-true _ _ t in
+        let none = free past r (z.index + 1) mine linear.1 own in
+        let bad : true ≡ false = rw opened at none in absurd (cc))
+        (λ f. f) in
+        total-more (got_by histories past) (got_by histories (r ∷ past)) (length histories) z.index 1
+        (λ i ne. split (r.entry.process == i + 1)
+        (λ mine.
+        let at : linear.2.index ≡ i = let p = linear.2.process in let e : r.entry.process ≡ i + 1 = eqb-true _ _ mine in omega (arith, p, e) in
+        let le = own-got histories past r linear in
+        let none : own_gain r.entry.reply ≡ 0 = ap own_gain is in
+        subst (λ (k : ℕ). got_by histories (r ∷ past) k ≤ got_by histories past k) at (omega (arith, le, none)))
+        (λ other.
+        let le = other-got histories past r i other in
+        let none : one_if (names_wait r.entry.reply (open_wait past (i + 1)) && hands r.entry.reply) ≡ 0 = ap (λ (y : Reply). one_if (names_wait y (open_wait past (i + 1)) && hands y)) is ∙ unnamed i (open_wait past (i + 1)) refl z.index opened ne in
+        omega (arith, le, none)))
+        (let le = other-got histories past r z.index apart in
+        let most = one-most (names_wait r.entry.reply (open_wait past (z.index + 1)) && hands r.entry.reply) in
+        omega (arith, le, most))
+      where
+        one-most : (b : Bool) → one_if b ≤ 1
+        one-most true = omega arith
+        one-most false = omega arith
+
+        unnamed : (i : ℕ) → (o : Option ℕ) → open_wait past (i + 1) ≡ o → (k : ℕ) → open_wait past (k + 1) ≡ Some w → i ≢ k → one_if (names_wait (reply.Handed w) o && true) ≡ 0
+        unnamed i None e k opened ne = refl
+        unnamed i (Some v) e k opened ne = split (w == v)
+            (λ t.
+            let same : w ≡ v = eqb-true _ _ t in
+            let mine : open_wait past (i + 1) ≡ Some w = e ∙ ap Some (sym same) in
+            let one = same-waiter past (i + 1) (k + 1) w mine opened in
+            absurd (ne (omega (arith, one))))
+            (λ f. rw f refl)

@@ -1,0 +1,8 @@
+use Rattle.std.proofs.Common.{◌≡◌, ◌≤◌, take}
+use Rattle.std.specs.List.{count_by}
+use Rattle.histories.specs.NotFull.{takes_out}
+use Rattle.histories.proofs.not_full.taken_out.Given as goal
+
+abbrev pub invariant-loop-operation : goal.invariant-loop-operation
+invariant-loop-operation l =
+    (l.count ≡ count_by takes_out (take l.operation-index l.operations)) × (l.count ≤ l.operation-index)
