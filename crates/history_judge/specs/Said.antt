@@ -3,7 +3,7 @@ use Rattle.std.specs.Prelude.{ℕ, ◌+◌, ◌-◌, ◌^◌, Bool, min, List, [
 use Rattle.std.specs.Fmt.{decimal}
 use Rattle.journal_format.specs.Text.{payload_text}
 use Rattle.histories.specs.declared.contradiction.Contradiction.{Contradiction}
-use Rattle.histories.specs.declared.contradiction.Contradiction.TheVariants.{Excess, Passed}
+use Rattle.histories.specs.declared.contradiction.Contradiction.TheVariants.{Excess, Passed, NotFull}
 use Rattle.history_judge.specs.Text.{history_text}
 use Rattle.history_judge.specs.Processes.{process_count}
 use Rattle.history_judge.specs.declared.line.Called.{Called}
@@ -23,8 +23,19 @@ possible_line calls processes =
 abbrev pub shortness : Bool → List ℕ
 shortness is_shortest = if is_shortest then [] else codes ", perhaps not the shortest"
 
+-- a send of a message, and when it was made
+abbrev pub send_text : ℕ → List ℕ → ℕ → ℕ → List ℕ
+send_text prio message from to =
+    decimal prio ++ (payload_text message ++ (codes " between " ++
+    (decimal from ++ (codes " and " ++ decimal to))))
+
+abbrev pub count_text : ℕ → ℕ → List ℕ
+count_text most capacity =
+    decimal most ++ (codes " of " ++ (decimal capacity ++ codes " messages"))
+
 -- A message that was received more often than it was sent, or that lay in the queue while a
--- receive passed over it. Messages are written as in a line of a history.
+-- receive passed over it; or a send that found a queue full that was not. Messages are written as in
+-- a line of a history.
 abbrev pub contradiction_text : Contradiction → List ℕ
 contradiction_text (Excess e) =
     codes "; " ++ (decimal e.received ++ (codes " receives, " ++ (decimal e.sent ++
@@ -32,6 +43,9 @@ contradiction_text (Excess e) =
 contradiction_text (Passed e) =
     codes "; " ++ (decimal e.prio ++ (payload_text e.message.items ++ (codes " lay in the queue from " ++
     (decimal e.from ++ (codes " to " ++ decimal e.to)))))
+contradiction_text (NotFull e) =
+    codes "; a send of " ++ (send_text e.prio e.message.items e.from e.to ++
+    (codes " found the queue full with at most " ++ count_text (e.sent - e.received) e.capacity))
 
 abbrev pub reason : Option Contradiction → List ℕ
 reason None = []

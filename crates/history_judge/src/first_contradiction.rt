@@ -1,7 +1,9 @@
 //! The first prefix in which calls may contradict each other.
 use crate::line::Called;
 use histories::excess::may_have_sent;
+use histories::not_full::{NotFull, has_failed};
 use histories::operation::Outcome;
+use mq_model::entries::Call;
 use std::alloc::{AllocError, Global};
 
 // A message with its priority.
@@ -88,6 +90,49 @@ pub fn first_passed(calls: &[Called], returns: &Vec<(u64, usize)>, to: u64) -> O
             last = last.max(called.operation.end);
         }
     }
+    prefix_until(returns, last)
+}
+
+/// The index of the first prefix in which a send that found its queue full contradicts the others:
+/// so many of the sends that began by then have returned without success that the queue can't have
+/// been full, and each open that failed has returned. It is a guess, so the caller checks that
+/// prefix.
+pub fn first_not_full(
+    alloc: Global,
+    calls: &[Called],
+    returns: &Vec<(u64, usize)>,
+    found: &NotFull,
+) -> Result<Option<usize>, AllocError> {
+    let mut last = found.to;
+    let mut ends: Vec<u64> = Vec::new(alloc);
+    for called in calls {
+        let operation = &called.operation;
+        if operation.begin <= found.to && has_failed(&operation.outcome) {
+            if operation.call.is_send() && found.to < operation.end {
+                ends.push(operation.end)?;
+            }
+            if matches!(operation.call, Call::MqOpen { .. }) {
+                last = last.max(operation.end);
+            }
+        }
+    }
+    ends.sort()?;
+    // how many of these sends may be under way
+    let most = found.received.saturating_add(u128::from(found.capacity));
+    let spare = most.saturating_sub(found.sent).saturating_sub(1);
+    let count = ends.len() as u128;
+    if spare < count {
+        if let Ok(needed) = usize::try_from(count - 1 - spare) {
+            if needed < ends.len() {
+                last = last.max(ends[needed]);
+            }
+        }
+    }
+    Ok(prefix_until(returns, last))
+}
+
+// The index of the prefix with the returns until this time.
+fn prefix_until(returns: &Vec<(u64, usize)>, last: u64) -> Option<usize> {
     match returns.iter().position(|one| last < one.0) {
         Some(behind) => behind.checked_sub(1),
         None => returns.len().checked_sub(1),

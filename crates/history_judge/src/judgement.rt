@@ -6,7 +6,7 @@ ghost use Rattle.history_judge.specs.Processes.{AreOfProcesses};
 ghost use Rattle.history_judge.specs.Verdicts.{AreHistoriesOf, HasContradiction, IsAnswer, IsImpossible, IsJudgement, are_pending, front_budget};
 
 use crate::descriptors::rename;
-use crate::first_contradiction::{first_excess, first_passed};
+use crate::first_contradiction::{first_excess, first_not_full, first_passed};
 use crate::front::{front_of, returns_of, whole_of};
 use crate::hints::hints_of;
 use crate::line::Called;
@@ -14,6 +14,7 @@ use crate::processes::{by_process, process_count};
 use histories::contradiction::{Contradiction, find_contradiction};
 use histories::judge::judge;
 use histories::linearizer::Linearizer;
+use histories::not_full::find_not_full;
 use histories::operation::Operation;
 use histories::passed::find_passed;
 use journal_format::text::write_journal;
@@ -168,10 +169,19 @@ fn guess(
         None => None,
         Some(passed) => first_passed(calls, returns, passed.to),
     };
-    match (excess, passed) {
-        (Some(excess), Some(passed)) => Ok(Some(excess.min(passed))),
-        (Some(excess), None) => Ok(Some(excess)),
-        (None, passed) => Ok(passed),
+    let not_full = match find_not_full(alloc, &histories)? {
+        None => None,
+        Some(found) => first_not_full(alloc, calls, returns, &found)?,
+    };
+    Ok(first_of(first_of(excess, passed), not_full))
+}
+
+// The lesser of two indices, of those that there are.
+fn first_of(one: Option<usize>, other: Option<usize>) -> Option<usize> {
+    match (one, other) {
+        (Some(one), Some(other)) => Some(one.min(other)),
+        (Some(one), None) => Some(one),
+        (None, other) => other,
     }
 }
 

@@ -1,7 +1,7 @@
 //! The text of the result of checking a history.
 ghost use Rattle.std.specs.Prelude.{◌≡◌, IfOk, Some, string_bytes};
 ghost use Rattle.histories.specs.declared.contradiction.Contradiction.TheVariants as contradiction;
-ghost use Rattle.history_judge.specs.Said.{contradiction_text, impossible_line, judgement_text, possible_line, reason, shortness, status_of};
+ghost use Rattle.history_judge.specs.Said.{contradiction_text, count_text, impossible_line, judgement_text, possible_line, reason, send_text, shortness, status_of};
 
 use crate::judgement::Judgement;
 use crate::line::Called;
@@ -9,6 +9,7 @@ use crate::processes::process_count;
 use crate::text::write_history;
 use histories::contradiction::Contradiction;
 use histories::excess::Excess;
+use histories::not_full::NotFull;
 use histories::passed::Passed;
 use journal_format::payload::payload_text;
 use std::alloc::{AllocError, Global};
@@ -39,6 +40,7 @@ fn reason(alloc: Global, found: &Option<Contradiction>) -> Result<String, AllocE
         None => Ok(String::new(alloc)),
         Some(Contradiction::Excess(excess)) => excess_text(alloc, excess),
         Some(Contradiction::Passed(passed)) => passed_text(alloc, passed),
+        Some(Contradiction::NotFull(found)) => not_full_text(alloc, found),
     }
 }
 
@@ -51,6 +53,36 @@ fn passed_text(alloc: Global, passed: &Passed) -> Result<String, AllocError>
     let from = passed.from;
     let to = passed.to;
     format!(in alloc; "; {prio}{message} lay in the queue from {from} to {to}")
+}
+
+// A send of a message, and when it was made.
+fn send_text(
+    alloc: Global,
+    prio: u32,
+    message: &[u8],
+    from: u64,
+    to: u64,
+) -> Result<String, AllocError>
+    ensures { IfOk result (λ text. string_bytes text ≡ send_text prio message.now from to) }
+{
+    let message = payload_text(alloc, message)?;
+    format!(in alloc; "{prio}{message} between {from} and {to}")
+}
+
+fn count_text(alloc: Global, most: u128, capacity: u64) -> Result<String, AllocError>
+    ensures { IfOk result (λ text. string_bytes text ≡ count_text most capacity) }
+{
+    format!(in alloc; "{most} of {capacity} messages")
+}
+
+fn not_full_text(alloc: Global, found: &NotFull) -> Result<String, AllocError>
+    ensures { IfOk result (λ text.
+        string_bytes text ≡ contradiction_text (contradiction.NotFull found.now)) }
+{
+    let send = send_text(alloc, found.prio, &found.message, found.from, found.to)?;
+    let most = found.sent.saturating_sub(found.received);
+    let count = count_text(alloc, most, found.capacity)?;
+    format!(in alloc; "; a send of {send} found the queue full with at most {count}")
 }
 
 fn excess_text(alloc: Global, excess: &Excess) -> Result<String, AllocError>
