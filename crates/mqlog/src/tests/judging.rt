@@ -31,7 +31,7 @@ fn is_judged(
 
 // Linearizable histories, each with a variant that is not, and the line of the call whose return
 // made it so.
-static TURNED: [(&str, &str, &str); 8] = [
+static TURNED: [(&str, &str, &str); 11] = [
     // Another message.
     (
         "1 0 10 open bc limits 2 8 \"/q\" -> fd 3\n\
@@ -141,6 +141,48 @@ static TURNED: [(&str, &str, &str); 8] = [
          1 12 15 send 3 1 1 \"a\" -> ok\n\
          1 20 30 trecv 3 8 until 5 0 at 4 0 -> ETIMEDOUT\n",
         "impossible: line 3, front part of 3 calls; 1 \"a\" lay in the queue from 15 to 30\n",
+    ),
+    // A send that found the queue full: a receive overlaps it, or had returned before.
+    (
+        "1 0 10 open bcn limits 2 8 \"/q\" -> fd 3\n\
+         1 20 30 send 3 1 1 \"a\" -> ok\n\
+         1 40 50 send 3 1 1 \"b\" -> ok\n\
+         1 60 70 send 3 1 1 \"c\" -> EAGAIN\n\
+         2 0 15 open b \"/q\" -> fd 3\n\
+         2 55 65 recv 3 8 -> got 1 \"a\"\n",
+        "1 0 10 open bcn limits 2 8 \"/q\" -> fd 3\n\
+         1 20 30 send 3 1 1 \"a\" -> ok\n\
+         1 40 50 send 3 1 1 \"b\" -> ok\n\
+         1 60 70 send 3 1 1 \"c\" -> EAGAIN\n\
+         2 0 15 open b \"/q\" -> fd 3\n\
+         2 55 59 recv 3 8 -> got 1 \"a\"\n",
+        "impossible: line 4, front part of 6 calls; a send of 1 \"c\" between 59 and 70 found \
+         the queue full with at most 1 of 2 messages\n",
+    ),
+    // Another send, which began before it and returned after it, succeeds or fails.
+    (
+        "1 0 10 open bcn limits 2 8 \"/q\" -> fd 3\n\
+         1 20 30 send 3 1 1 \"a\" -> ok\n\
+         1 40 50 send 3 1 1 \"c\" -> EAGAIN\n\
+         2 0 15 open bn \"/q\" -> fd 3\n\
+         2 25 90 send 3 1 1 \"b\" -> ok\n",
+        "1 0 10 open bcn limits 2 8 \"/q\" -> fd 3\n\
+         1 20 30 send 3 1 1 \"a\" -> ok\n\
+         1 40 50 send 3 1 1 \"c\" -> EAGAIN\n\
+         2 0 15 open bn \"/q\" -> fd 3\n\
+         2 25 90 send 3 1 1 \"b\" -> EAGAIN\n",
+        "impossible: line 5, front part of 5 calls; a send of 1 \"c\" between 39 and 50 found \
+         the queue full with at most 1 of 2 messages\n",
+    ),
+    // A timed send that timed out: with a message in the queue, and although it was empty.
+    (
+        "1 0 10 open bc limits 1 8 \"/q\" -> fd 3\n\
+         1 12 15 send 3 1 1 \"a\" -> ok\n\
+         1 20 30 tsend 3 0 0 until 5 0 at 4 0 -> ETIMEDOUT\n",
+        "1 0 10 open bc limits 1 8 \"/q\" -> fd 3\n\
+         1 20 30 tsend 3 0 0 until 5 0 at 4 0 -> ETIMEDOUT\n",
+        "impossible: line 2, front part of 2 calls; a send of 0 between 19 and 30 found the \
+         queue full with at most 0 of 1 messages\n",
     ),
 ];
 
