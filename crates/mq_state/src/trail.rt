@@ -2,7 +2,10 @@
 ghost use Rattle.std.specs.Prelude.{◌≡◌, [], Some, None, IfOk, IsTrue, IsFalse, is_some, OnErr};
 ghost use Rattle.mq_model.specs.Legality.{reply_to, Legal};
 ghost use Rattle.mq_state.specs.Trails.{can_call, with_call};
+ghost use Rattle.mq_model.specs.Descriptors.{held};
+ghost use Rattle.mq_model.specs.Notices.{registered};
 ghost use Rattle.mq_model.specs.Waits.{open_wait};
+ghost use Rattle.std.specs.Option.{option_and_then, option_map};
 
 use crate::prefixes::Prefix;
 use crate::tables::Tables;
@@ -112,6 +115,23 @@ impl Trail {
         ensures { result ≡ is_some (open_wait self.now p) }
     {
         self.tables.wait(p).is_some()
+    }
+
+    /// The queue of descriptor d of process p, if it holds one.
+    pub fn held_queue(&self, p: u32, d: u32) -> Option<u64>
+        ensures { result ≡ option_map (λ h. h.queue) (held self.now p d) }
+    {
+        self.tables.held_queue(&Prefix::of(&self.journal), p, d)
+    }
+
+    /// Whether a process is registered for notification on the queue of descriptor d of process p.
+    pub fn has_registration(&self, p: u32, d: u32) -> bool
+        ensures { result ≡ is_some (option_and_then (registered self.now)
+            (option_map (λ h. h.queue) (held self.now p d))) }
+    {
+        self.tables
+            .held_registration(&Prefix::of(&self.journal), p, d)
+            .is_some()
     }
 
     /// Drops the tables and returns the journal.

@@ -1,7 +1,7 @@
 //! What the tables say about the journal: the facts that a reply depends on, and the reply that the
 //! order of errors gives for them.
 ghost use Rattle.std.specs.Prelude.{◌≡◌, ◌<◌, ◌≤◌, ◌^◌, IfSome, IsSome, IsTrue, false, ℕ, List, length};
-ghost use Rattle.std.specs.Option.{option_map};
+ghost use Rattle.std.specs.Option.{option_and_then, option_map};
 ghost use Rattle.mq_model.specs.Names.{attributes, bound_queue};
 ghost use Rattle.mq_model.specs.Descriptors.{held, alive};
 ghost use Rattle.mq_model.specs.Record.{Past};
@@ -68,6 +68,30 @@ impl Tables {
         ensures alive { IfSome result (λ h. IsTrue (is_in (alive journal.now.records) h.queue)) }
     {
         owners::held(&self.owners, p, d)
+    }
+
+    /// The queue of descriptor d of process p, if it holds one.
+    pub fn held_queue(&self, journal: &Prefix<'_>, p: u32, d: u32) -> Option<u64>
+        requires { Mirrors journal.now self.now }
+        ensures { result ≡ option_map (λ h. h.queue) (held journal.now.records p d) }
+    {
+        match owners::held(&self.owners, p, d) {
+            None => None,
+            Some(h) => Some(h.queue),
+        }
+    }
+
+    /// The registration on the queue of descriptor d of process p.
+    pub fn held_registration(&self, journal: &Prefix<'_>, p: u32, d: u32) -> Option<Registration>
+        requires mirror { Mirrors journal.now self.now }
+        requires legal { Legal journal.now.records }
+        ensures { result ≡ option_and_then (registered journal.now.records)
+            (option_map (λ h. h.queue) (held journal.now.records p d)) }
+    {
+        match self.held(journal, p, d) {
+            None => None,
+            Some(h) => self.line(journal, h.queue, self.hint(h.queue)).registration,
+        }
     }
 
     // The queue that a name is bound to.
