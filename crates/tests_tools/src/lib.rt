@@ -1,7 +1,7 @@
 //! Tests of what the programs rest on: the bytes, words and numbers that `text_io` reads and
-//! writes, every interleaving of a script's calls, and the exploration of small programs, compared
-//! with all their interleavings. They are in a crate of their own, so that none of those crates is
-//! proved again for them.
+//! writes, every interleaving of a script's calls, the exploration of small programs, compared with
+//! all their interleavings, and the tasks of `mqlog`. They are in a crate of their own, so that none
+//! of those crates is proved again for them.
 #![tactic(auto)]
 
 #[cfg(test)]
@@ -12,6 +12,8 @@ mod counts;
 mod generated;
 #[cfg(test)]
 mod interleavings;
+#[cfg(test)]
+mod logs;
 #[cfg(test)]
 mod malformed;
 #[cfg(test)]
