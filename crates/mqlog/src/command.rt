@@ -191,7 +191,7 @@ fn orders<'a>(alloc: Global) -> Result<Command<'a>, AllocError> {
 }
 
 /// A file that a task reads.
-#[derive(Clone, Copy, Debug, PartialEq, Eq)]
+#[derive(Clone, Copy)]
 pub enum Source<'a> {
     StandardInput,
     Path(&'a str),
@@ -200,7 +200,7 @@ pub enum Source<'a> {
 /// A task and the file that it reads, and for a task that reads two the second one: the script of
 /// `resume`, the journal of `orders`. Then the file that names the threads of a journal, and
 /// whether `judge` writes a page.
-#[derive(Clone, Copy, Debug, PartialEq, Eq)]
+#[derive(Clone, Copy)]
 pub struct Asked<'a> {
     pub task: Task,
     pub file: Source<'a>,

@@ -7,8 +7,6 @@ mod pages;
 mod progress;
 mod scripts;
 mod task;
-#[cfg(test)]
-mod tests;
 
 use command::{Asked, Source, asked_by, command};
 use fast_mutex::FastMutex;

@@ -6,7 +6,7 @@ use journal_tasks::{LAST, PLAIN, Question, REPORT, Trial, WHOLE, Wanted, Window}
 use journal_views::Form;
 
 /// What the program is asked to do.
-#[derive(Clone, Copy, Debug, PartialEq, Eq)]
+#[derive(Clone, Copy)]
 pub enum Task {
     /// Runs a script and writes its journal.
     Run,
@@ -31,7 +31,7 @@ pub enum Task {
 }
 
 /// The options that were given.
-#[derive(Clone, Copy, Debug, PartialEq, Eq)]
+#[derive(Clone, Copy)]
 pub struct Options {
     pub from: Option<u64>,
     pub to: Option<u64>,
