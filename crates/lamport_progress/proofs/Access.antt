@@ -7,7 +7,7 @@ use Rattle.std.proofs.lemmas.Bool.{cases_eq}
 use Rattle.lamport_core.specs.State.{State, Reach, IsProcess, IsSchedule, IsInside, IsInsidePoint, process_count, point_of, next, run, step_from, with_process, after_TestY, after_AwaitY, after_TestX, after_Scan, after_SlowY, after_SlowAwait, flag_of}
 use Rattle.lamport_core.proofs.LineSteps.{next_line}
 use Rattle.lamport_core.proofs.Worlds.{enters_alone}
-use Rattle.lamport_progress.specs.Progress.{IsOccupied, IsEntering, HasSetY, CanEnter}
+use Rattle.lamport_progress.specs.Progress.{IsOccupied, IsEntering, CanEnter}
 use Rattle.lamport_progress.proofs.Sums.{total_less, total_at_most, term-le-total}
 use Rattle.lamport_progress.proofs.Measure.{measure}
 use Rattle.lamport_progress.proofs.Enabled.{some_enabled}
@@ -27,12 +27,10 @@ abbrev begun_count : State → ℕ
 begun_count w = sum_by begun w.points
 
 begun-le : (P : At) → begun P ≤ 1
-begun-le Rest = omega arith
-begun-le _ = omega arith
+begun-le P = grind arith
 
 begun_is : (P : At) → P ≢ Rest → begun P ≡ 1
-begun_is Rest ne = absurd (ne refl)
-begun_is _ ne = refl
+begun_is P ne = grind arith
 
 -- a step moves its own process
 points_from : (P : At) (w : State) (i : ℕ) → (Q : At) × ((step_from P w i).points ≡ with_process w.points i Q)
@@ -58,14 +56,11 @@ module _ (n : ℕ) (w : State) (j : ℕ) (s : IsSound n w) (p : IsProcess n j) w
 
   -- the step of a process that is not at rest starts no other
   starts_nobody : point_of w j ≢ Rest → begun_count (next w j) ≤ begun_count w
-  starts_nobody ne = let q = points_from (point_of w j) w j in
-      subst (λ ps. sum_by begun ps ≤ begun_count w) (sym q.1)
-      (total_at_most begun w.points j q.0 in_points (omega (arith, begun-le q.0, begun_is (point_of w j) ne)))
+  starts_nobody ne = grind (arith, points_from, total_at_most, in_points, begun-le, begun_is)
 
   -- and its last step leaves fewer that are not at rest
   ends_one : point_of w j ≡ Leaving → begun_count (next w j) < begun_count w
-  ends_one at = subst (λ P. sum_by begun (step_from P w j).points < begun_count w) (sym at)
-      (total_less begun begun w.points j Rest in_points (λ q. omega arith) (subst (λ P. 0 < begun P) (sym at) (omega arith)))
+  ends_one at = grind (arith, total_less, in_points)
 
 run-append : (w : State) (is js : List ℕ) → run w (is ++ js) ≡ run (run w is) js
 run-append w [] js = refl
@@ -113,11 +108,7 @@ drive n p (suc m) w c le =
     ]
 
 can_after : (n i : ℕ) (w : State) (is : List ℕ) → IsSchedule n is → CanEnter n (run w is) i → CanEnter n w i
-can_after n i w is s c = record {
-  steps = is ++ c.steps;
-  processes = schedule-append n is c.steps s c.processes;
-  inside = subst (λ v. IsInside v i) (sym (run-append w is c.steps)) c.inside;
-}
+can_after n i w is s c = grind (arith, schedule-append, run-append)
 
 at_once_in : (n i : ℕ) (w : State) → IsInside w i → CanEnter n w i
 at_once_in n i w h = record { steps = []; processes = tt; inside = h }
@@ -137,11 +128,7 @@ data Stand (P : At) : Type 0 where
   coming : IsEntering P → Stand P
 
 stand : (P : At) → Stand P
-stand Rest = resting refl
-stand Leaving = leaving refl
-stand Fast = is_inside (inl refl)
-stand Slow = is_inside (inr refl)
-stand _ = coming tt
+stand P = grind arith
 
 module _ (n i : ℕ) (p : IsProcess n i) where
   -- the claim, if at most c processes are not at rest
@@ -191,14 +178,10 @@ module _ (n i : ℕ) (p : IsProcess n i) where
   begun_some w j le ne = let h = term-le-total begun w.points j refl in let one = begun_is (point_of w j) ne in omega arith
 
   rest_is : (P : At) → (P ≢ Rest → ⊥) → P ≡ Rest
-  rest_is Rest h = refl
-  rest_is P h = absurd (h (λ e. cc))
+  rest_is P h = grind arith
 
   zero_y : (w : State) → IsSound n w → begun_count w ≤ 0 → w.y ≡ 0
-  zero_y w s le = elim (cases_eq w.y 0) [
-    | inl e ↦ e
-    | inr ne ↦ absurd (begun_some w w.y le (λ e. subst HasSetY e (s.owned ne)))
-  ]
+  zero_y w s le = grind (arith, cases_eq, begun_some)
 
   can_from : (c : ℕ) → Fewer c
   can_from zero w s le = alone_in n i w s p (zero_y w s le) (rest_is (point_of w i) (begun_some w i le))

@@ -19,13 +19,10 @@ use Rattle.lamport_progress.proofs.Claims.{claim_rank, Low, AllSettled, advance_
 use Rattle.lamport_progress.proofs.Spent.{IsClaim, Claimed, Spent, Taken, Stage, NoneLeaves, stage_run, none_run, taken_round, spent_round, spent_sum, spent_two}
 use Rattle.lamport_progress.proofs.Entries.{find_point, occupied_or_not, leads_enters, pending_all, inside-ne-Rest, inside_steady, first_round, enters-append, enters_later, schedule_concat}
 use Rattle.lamport_core.specs.declared.At.{At}
-use Rattle.lamport_core.specs.declared.At.TheVariants.{Rest, Start, SetX, TestY, BackB, AwaitY, SetY, TestX, SlowB, Scan, SlowY, SlowAwait, Fast, Slow, Leaving}
+use Rattle.lamport_core.specs.declared.At.TheVariants.{Rest}
 
 pending_some : (n p : ℕ) (w : State) → Pending n p w → 1 ≤ n
-pending_some n p w c =
-    let q = c.sound.safe.safe.process p (λ e. subst IsEntering e c.entering) in
-    let counts = c.sound.counts in
-    omega arith
+pending_some n p w c = grind arith
 
 -- the rule of fair rounds, while y is not 0
 measure_rounds : (n p : ℕ) (w : State) (rounds : List (List ℕ)) → Pending n p w → w.y ≢ 0 →
@@ -77,29 +74,13 @@ first_rounds n p w (is ∷ rounds) c ne u t a some le = elim (pending_all n p is
 
 -- what holds at a stage, depending on whether y is 0
 stage_taken : (w : State) → w.y ≢ 0 → Stage w → Taken w
-stage_taken w ne (inl h) = absurd (ne h.0)
-stage_taken w ne (inr h) = h.1
+stage_taken w ne h2 = grind arith
 
 settled_free : (w : State) → w.y ≡ 0 → Settled 0 w → AllSettled w
-settled_free w z (inl ne) = absurd (ne z)
-settled_free w z (inr h) = h
+settled_free w z h2 = grind arith
 
 settled_few : (P : At) → unsettled P ≤ 0 → clear P ≤ 4
-settled_few Leaving h = absurd (omega arith)
-settled_few Rest h = omega arith
-settled_few Start h = omega arith
-settled_few SetX h = omega arith
-settled_few TestY h = omega arith
-settled_few BackB h = omega arith
-settled_few AwaitY h = omega arith
-settled_few SetY h = omega arith
-settled_few TestX h = omega arith
-settled_few SlowB h = omega arith
-settled_few (Scan j) h = omega arith
-settled_few SlowY h = omega arith
-settled_few SlowAwait h = omega arith
-settled_few Fast h = omega arith
-settled_few Slow h = omega arith
+settled_few P h = grind arith
 
 -- while y is 0 and a process has fewer than m steps left until it is about to store to y
 claim_rounds : (m n p : ℕ) (w : State) (rounds : List (List ℕ)) → Pending n p w → w.y ≡ 0 →
@@ -162,14 +143,10 @@ low_rounds (suc m) n p w (is ∷ rounds) c l few a le = elim (cases_eq w.y 0) [
 ]
 
 claim_or_not : (P : At) → IsClaim P ⊎ (IsClaim P → ⊥)
-claim_or_not TestY = inl tt
-claim_or_not SetY = inl tt
-claim_or_not _ = inr (λ h. h)
+claim_or_not P = grind arith
 
 claim_low : (n : ℕ) (P : At) → IsClaim P → claim_rank n P < 2
-claim_low n TestY h = omega arith
-claim_low n SetY h = omega arith
-claim_low n _ h = absurd h
+claim_low n P h = grind arith
 
 pending_rounds : (n p : ℕ) (w : State) (rounds : List (List ℕ)) → Pending n p w →
     AreFairRounds n w rounds → 6 * n + 4 ≤ length rounds → Enters w (concat rounds)

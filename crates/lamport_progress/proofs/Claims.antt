@@ -2,8 +2,7 @@
 -- no flag. So each fair round takes a process one step closer to it.
 use Rattle.std.proofs.Common.{◌≡◌, ◌≢◌, ◌==◌, ◌<◌, ◌≤◌, ◌+◌, ◌-◌, ◌⊎◌, ℕ, suc, Bool, true, false, cond, List, [], ◌∷◌, length, refl, sym, ◌∙◌, subst, inl, inr, arith}
 use Rattle.std.specs.List.{Contains}
-use Rattle.std.proofs.lemmas.Bool.{cases_eq, eq-eqb, ne_eqb, true≢false}
-use Rattle.std.proofs.lemmas.Bool.Decides.{eqb_tells}
+use Rattle.std.proofs.lemmas.Bool.{cases_eq, eq-eqb}
 use Rattle.lamport_core.specs.State.{State, IsProcess, IsSchedule, IsInsidePoint, process_count, point_of, next, run, step_from, with_process, of_process, after_Scan, flag_of}
 use Rattle.lamport_core.specs.Safe.{IsPoint, FlagFits}
 use Rattle.lamport_core.proofs.Worlds.{of-with_same}
@@ -61,74 +60,30 @@ module _ (w : State) (i : ℕ) (there : IsProcess (length w.points) i) (z : w.y 
   free_load Q R m le = subst (λ t. claim_rank n (cond t Q R) ≤ m) (sym (eq-eqb w.y 0 z)) le
 
   top : (b : Bool) → claim_rank n (cond b Fast SlowB) ≤ n + 6
-  top true = omega arith
-  top false = omega arith
+  top b = grind arith
 
   slow : (b : Bool) → w.y == i ≡ b → claim_rank n (cond b Slow SlowAwait) ≤ 4
-  slow true e = absurd (true≢false (sym e ∙ ne_eqb w.y i (λ h. omega arith)))
-  slow false e = omega arith
+  slow b e = grind arith
 
   down : (j : ℕ) → IsProcess n j → claim_rank n (after_Scan n j false) ≤ n + 5 - j
-  down j r = elim (eqb_tells j n) [
-    | inl e ↦ subst (λ t. claim_rank n (cond t SlowY (Scan (j + 1))) ≤ n + 5 - j) (sym e.0) (omega arith)
-    | inr e ↦ subst (λ t. claim_rank n (cond t SlowY (Scan (j + 1))) ≤ n + 5 - j) (sym e.0) (omega arith)
-  ]
+  down j r = grind arith
 
   scan : (j : ℕ) (f : Bool) → IsProcess n j → claim_rank n (after_Scan n j f) ≤ n + 6 - j
-  scan j true r = omega arith
-  scan j false r = let h = down j r in omega arith
+  scan j f r = grind arith
 
   -- no step increases the distance
   keeps_from : (P : At) → IsPoint n P → (IsInsidePoint P → ⊥) → Leaves (claim_rank n P) (step_from P w i)
-  keeps_from Rest h out = inr (at_Q (n + 6) SetX (omega arith))
-  keeps_from Start h out = inr (at_Q 3 SetX (omega arith))
-  keeps_from SetX h out = inr (at_Q 2 TestY (omega arith))
-  keeps_from TestY h out = inr (at_Q 1 _ (free_load SetY BackB 1 (omega arith)))
-  keeps_from BackB h out = inr (at_Q (n + 6) AwaitY (omega arith))
-  keeps_from AwaitY h out = inr (at_Q 4 _ (free_load Start AwaitY 4 (omega arith)))
-  keeps_from SetY h out = inl (λ e. omega arith)
-  keeps_from TestX h out = inr (at_Q (n + 6) _ (top (w.x == i)))
-  keeps_from SlowB h out = inr (at_Q (n + 6) (Scan 1) (omega arith))
-  keeps_from (Scan j) h out = inr (at_Q (n + 6 - j) _ (scan j (flag_of w j) h))
-  keeps_from SlowY h out = inr (at_Q 5 _ (let le = slow (w.y == i) refl in omega arith))
-  keeps_from SlowAwait h out = inr (at_Q 4 _ (free_load Start SlowAwait 4 (omega arith)))
-  keeps_from Fast h out = absurd (out (inl refl))
-  keeps_from Slow h out = absurd (out (inr refl))
-  keeps_from Leaving h out = inr (at_Q (n + 6) Rest (omega arith))
+  keeps_from P h out = grind (arith, at_Q, free_load, top, scan, slow)
 
   -- and a step that moves decreases it
   lowers_from : (P : At) → IsPoint n P → IsGoing (flag_of w) P →
       Leaves (claim_rank n P - 1) (step_from P w i)
-  lowers_from Start h g = inr (at_Q 2 SetX (omega arith))
-  lowers_from SetX h g = inr (at_Q 1 TestY (omega arith))
-  lowers_from TestY h g = inr (at_Q 0 _ (free_load SetY BackB 0 (omega arith)))
-  lowers_from AwaitY h g = inr (at_Q 3 _ (free_load Start AwaitY 3 (omega arith)))
-  lowers_from SetY h g = inl (λ e. omega arith)
-  lowers_from (Scan j) h g = inr (at_Q (n + 6 - j - 1) _
-      (subst (λ f. claim_rank n (after_Scan n j f) ≤ n + 6 - j - 1) (sym g)
-      (let le = down j h in omega arith)))
-  lowers_from SlowY h g = inr (at_Q 4 _ (slow (w.y == i) refl))
-  lowers_from SlowAwait h g = inr (at_Q 3 _ (free_load Start SlowAwait 3 (omega arith)))
-  lowers_from _ h g = absurd g
+  lowers_from P h g = grind (arith, at_Q, free_load, down, slow)
 
 -- a settled process with its flag up is close to its store
 up_low : (n : ℕ) (P : At) → FlagFits P true → (IsInsidePoint P → ⊥) → unsettled P ≤ 0 →
     claim_rank n P < 3
-up_low n Rest f out u = absurd (true≢false f)
-up_low n Start f out u = absurd (true≢false f)
-up_low n AwaitY f out u = absurd (true≢false f)
-up_low n (Scan j) f out u = absurd (true≢false f)
-up_low n SlowY f out u = absurd (true≢false f)
-up_low n SlowAwait f out u = absurd (true≢false f)
-up_low n Fast f out u = absurd (out (inl refl))
-up_low n Slow f out u = absurd (out (inr refl))
-up_low n SetX f out u = omega arith
-up_low n TestY f out u = omega arith
-up_low n SetY f out u = omega arith
-up_low n BackB f out u = absurd (omega arith)
-up_low n TestX f out u = absurd (omega arith)
-up_low n SlowB f out u = absurd (omega arith)
-up_low n Leaving f out u = absurd (omega arith)
+up_low n P f out u = grind arith
 
 -- each process is settled, or some process is so close that it meets no scan
 abbrev pub Unblocked : ℕ → State → Type 0
@@ -194,10 +149,7 @@ module _ (n p : ℕ) (m : ℕ) (most : suc m ≤ n + 6) where
 
     lowers_next : IsGoing (flag_of w) (point_of w i) →
         Or (claim_rank n (point_of (next w i) i) ≤ claim_rank n (point_of w i) - 1)
-    lowers_next g = subst
-        (λ k. ((next w i).y ≢ 0) ⊎ (claim_rank k (point_of (next w i) i) ≤ claim_rank k (point_of w i) - 1))
-        c.0.sound.counts
-        (lowers_from w i there z (point_of w i) (c.0.sound.safe.safe.point i) g)
+    lowers_next g = grind (arith, lowers_from, there)
 
     low_next : Low n m w → Or (Low n m (next w i))
     low_next l = elim (cases_eq l.0 i) [
@@ -218,8 +170,7 @@ module _ (n p : ℕ) (m : ℕ) (most : suc m ≤ n + 6) where
     ]
 
     unblocked_next : Unblocked m w → Or (Unblocked m (next w i))
-    unblocked_next (inr few) = inr (inr few)
-    unblocked_next (inl u) = elim (settled_next u) [ inl ne ↦ inl ne | inr h ↦ inr (inl h) ]
+    unblocked_next h0 = grind (arith, settled_next)
 
   -- some process has fewer than m steps left, or m of them and it takes a step
   abbrev LowDue : State → List ℕ → Type 0
@@ -289,15 +240,4 @@ module _ (n p : ℕ) (m : ℕ) (most : suc m ≤ n + 6) where
 
 -- a settled process in its entry has a rank
 pub entering_low : (n : ℕ) (P : At) → IsPoint n P → IsEntering P → unsettled P ≤ 0 → claim_rank n P < n + 6
-entering_low n Start q h u = omega arith
-entering_low n SetX q h u = omega arith
-entering_low n TestY q h u = omega arith
-entering_low n AwaitY q h u = omega arith
-entering_low n SetY q h u = omega arith
-entering_low n (Scan j) q h u = let some = q.0 in omega arith
-entering_low n SlowY q h u = omega arith
-entering_low n SlowAwait q h u = omega arith
-entering_low n BackB q h u = absurd (omega arith)
-entering_low n TestX q h u = absurd (omega arith)
-entering_low n SlowB q h u = absurd (omega arith)
-entering_low n _ q h u = absurd h
+entering_low n P q h u = grind arith

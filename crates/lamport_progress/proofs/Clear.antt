@@ -49,47 +49,25 @@ fair_measure_at n y at ps = sum_by clear ps + owner_part (storing_count ps) n (a
 abbrev pub fair_measure : State → ℕ
 fair_measure w = fair_measure_at (process_count w) w.y (point_of w) w.points
 
-scan-le : (n : ℕ) (p : At) → scan_rank n p ≤ n
-scan-le n TestX = omega arith
-scan-le n SlowB = omega arith
-scan-le n (Scan j) = omega arith
-scan-le n _ = omega arith
-
 pub owner-le : (c n : ℕ) (Q : At) → owner_part c n Q ≤ n
-owner-le zero n Q = scan-le n Q
-owner-le (suc c) n Q = omega arith
+owner-le c n Q = grind arith
 
 pub owner_falls : (c c' n : ℕ) (Q Q' : At) → c' ≤ c → scan_rank n Q' ≤ scan_rank n Q →
     owner_part c' n Q' ≤ owner_part c n Q
-owner_falls zero zero n Q Q' h l = l
-owner_falls zero (suc c') n Q Q' h l = absurd (omega arith)
-owner_falls (suc c) c' n Q Q' h l = owner-le c' n Q'
+owner_falls c c' n Q Q' h l = grind arith
 
 pub owner_lower : (c c' n : ℕ) (Q Q' : At) → c ≡ 0 → c' ≤ c → scan_rank n Q' < scan_rank n Q →
     owner_part c' n Q' < owner_part c n Q
-owner_lower zero zero n Q Q' e h l = l
-owner_lower zero (suc c') n Q Q' e h l = absurd (omega arith)
-owner_lower (suc c) c' n Q Q' e h l = absurd (omega arith)
+owner_lower c c' n Q Q' e h l = grind arith
 
 pub owner_full : (c n : ℕ) (Q : At) → 0 < c → owner_part c n Q ≡ n
-owner_full zero n Q h = absurd (omega arith)
-owner_full (suc c) n Q h = refl
+owner_full c n Q h = grind arith
 
 pub clear-le : (p : At) → clear p ≤ 5
-clear-le Rest = omega arith
-clear-le Start = omega arith
-clear-le SetX = omega arith
-clear-le TestY = omega arith
-clear-le BackB = omega arith
-clear-le SetY = omega arith
-clear-le TestX = omega arith
-clear-le SlowB = omega arith
-clear-le Leaving = omega arith
-clear-le _ = omega arith
+clear-le p = grind arith
 
 is_storing : (p : At) → (storing p ≡ 0) ⊎ (p ≡ SetY)
-is_storing SetY = inr refl
-is_storing _ = inl refl
+is_storing p = grind arith
 
 -- no process is at SetY, or some process is
 pub find_storing : (ps : List At) → (storing_count ps ≡ 0) ⊎ ((k : ℕ) × (get_or ps k Rest ≡ SetY))

@@ -16,8 +16,7 @@ use Rattle.lamport_core.specs.declared.At.{At}
 use Rattle.lamport_core.specs.declared.At.TheVariants.{Rest, Fast, Slow, SetY}
 
 both : (a b : Bool) → cond a b false ≡ true → (a ≡ true) × (b ≡ true)
-both true b e = (refl, e)
-both false b e = absurd (true≢false (sym e))
+both a b e = grind arith
 
 abbrev is_inside : At → Bool
 is_inside Fast = true

@@ -1,6 +1,6 @@
 -- Steps that take a process into its critical section, and schedules in which no process enters. If
 -- some process is in its critical section when a fair round begins, it leaves in that round.
-use Rattle.std.proofs.Common.{◌≡◌, ◌≢◌, ◌⊎◌, ℕ, zero, suc, List, [], ◌∷◌, ◌++◌, get_or, sym, ◌∙◌, subst, inl, inr, arith}
+use Rattle.std.proofs.Common.{◌≡◌, ◌≢◌, ◌⊎◌, ℕ, zero, suc, List, [], ◌∷◌, ◌++◌, get_or, sym, subst, inl, inr, arith}
 use Rattle.std.proofs.lemmas.Bool.{cases_eq}
 use Rattle.std.specs.List.{Contains, concat}
 use Rattle.lamport_core.specs.State.{State, IsProcess, IsSchedule, IsInside, IsInsidePoint, process_count, point_of, next, run}
@@ -13,11 +13,10 @@ use Rattle.lamport_progress.proofs.Enabled.{IsSteady}
 use Rattle.lamport_progress.proofs.Rounds.{Pending, pending_next, others_next, contains_head, entering_line}
 use Rattle.lamport_progress.proofs.Settled.{StaysPending, pending_end}
 use Rattle.lamport_core.specs.declared.At.{At}
-use Rattle.lamport_core.specs.declared.At.TheVariants.{Rest, Fast, Slow, Leaving}
+use Rattle.lamport_core.specs.declared.At.TheVariants.{Rest, Leaving}
 
 pub rest_outside : IsInsidePoint Rest → ⊥
-rest_outside (inl e) = cc
-rest_outside (inr e) = cc
+rest_outside h0 = grind arith
 
 -- some process is at such a point, or none is
 pub find_point : (has : At → Type 0) → ((P : At) → has P ⊎ (has P → ⊥)) → (has Rest → ⊥) →
@@ -67,24 +66,20 @@ pending_all n p (i ∷ is) w c s = elim (pending_next n p i w c s.0) [
 ]
 
 entering_outside : (P : At) → IsEntering P → IsInsidePoint P → ⊥
-entering_outside P h (inl e) = subst IsEntering e h
-entering_outside P h (inr e) = subst IsEntering e h
+entering_outside P h h2 = grind arith
 
 pub inside-ne-Rest : (P : At) → IsInsidePoint P → P ≢ Rest
 inside-ne-Rest P h e = rest_outside (subst IsInsidePoint e h)
 
 pub inside_steady : (P : At) → IsInsidePoint P → IsSteady P
-inside_steady P (inl e) = subst IsSteady (sym e) tt
-inside_steady P (inr e) = subst IsSteady (sym e) tt
+inside_steady P h1 = grind arith
 
 -- from a point in the critical section, a step leads to Leaving
 pub leaves : (n : ℕ) (P Q : At) → IsInsidePoint P → IsLine n P Q → Q ≡ Leaving
-leaves n P Q (inl e) l = subst (λ R. IsLine n R Q) e l
-leaves n P Q (inr e) l = subst (λ R. IsLine n R Q) e l
+leaves n P Q h3 l = grind arith
 
 leaving_outside : (Q : At) → Q ≡ Leaving → IsInsidePoint Q → ⊥
-leaving_outside Q l (inl e) = let d : Leaving ≡ Fast = sym l ∙ e in cc
-leaving_outside Q l (inr e) = let d : Leaving ≡ Slow = sym l ∙ e in cc
+leaving_outside Q l h2 = grind arith
 
 module _ (n p : ℕ) where
   -- process p is still in its entry after a step, unless it enters by it

@@ -1,21 +1,16 @@
 -- The process that takes the next step on the way into a critical section: process 1 while y is 0,
 -- else the process that y names; or, if that one waits in its scan, the process whose flag it waits
 -- for.
-use Rattle.std.proofs.Common.{◌≡◌, ◌≢◌, ◌<◌, ◌≤◌, ◌+◌, ◌⊎◌, ℕ, List, [], ◌∷◌, ◌++◌, length, refl, sym, ap, ◌∙◌, subst, inl, inr, arith, length-append}
-use Rattle.lamport_core.specs.State.{State, IsProcess, IsSchedule, process_count, point_of, next, run, start}
-use Rattle.lamport_core.specs.Safe.{IsSafe, IsPoint}
+use Rattle.std.proofs.Common.{◌≡◌, ◌≢◌, ◌<◌, ◌≤◌, ◌+◌, ◌⊎◌, ℕ, List, [], ◌∷◌, ◌++◌, length, refl, sym, ap, ◌∙◌, subst, arith, length-append}
+use Rattle.lamport_core.specs.State.{State, IsProcess, IsSchedule, process_count, next, run, start}
 use Rattle.lamport_progress.specs.Progress.{IsOccupied, IsEnabled, work_bound}
 use Rattle.lamport_progress.proofs.Measure.{measure}
 use Rattle.lamport_progress.proofs.Work.{IsSound, reach_sound, one_step, sound_next, sound-measure-le}
 use Rattle.lamport_core.specs.declared.At.{At}
-use Rattle.lamport_core.specs.declared.At.TheVariants.{Rest, Scan}
+use Rattle.lamport_core.specs.declared.At.TheVariants.{Rest}
 
 rest_or_not : (P : At) → (P ≡ Rest) ⊎ (P ≢ Rest)
-rest_or_not Rest = inl refl
-rest_or_not _ = inr (λ e. cc)
-
-pub scan_process : (w : State) (i j : ℕ) → IsSafe w → point_of w i ≡ Scan j → IsProcess (process_count w) j
-scan_process w i j s at = subst (IsPoint (process_count w)) at (s.safe.point i)
+rest_or_not P = grind arith
 
 -- one more step at the end of a schedule
 pub run_push : (w : State) (is : List ℕ) (i : ℕ) → run w (is ++ i ∷ []) ≡ next (run w is) i
@@ -28,11 +23,7 @@ schedule_push n (j ∷ is) i s p = (s.0, schedule_push n is i s.1 p)
 
 -- while no process is in its critical section, an enabled process lowers the measure
 pub enabled_lowers : (n : ℕ) (w : State) (i : ℕ) → IsSound n w → IsProcess n i → (IsOccupied w → ⊥) → IsEnabled w i → measure (next w i) < measure w
-enabled_lowers n w i s p out r = elim (one_step n w i s p) [
-  | inl h ↦ absurd (out h)
-  | inr (inl e) ↦ absurd (r e)
-  | inr (inr less) ↦ less
-]
+enabled_lowers n w i s p out r = grind (arith, one_step)
 
 -- steps have led from the world after a schedule to w, and each has lowered the measure
 pub record Led (n : ℕ) (schedule : List ℕ) (w : State) (steps : List ℕ) : Type 0 where

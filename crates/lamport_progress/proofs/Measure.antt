@@ -54,51 +54,13 @@ abbrev pub measure : State → ℕ
 measure w = sum_by (rank (w.y == 0) (process_count w)) w.points
 
 pub lower : (t : Bool) (n : ℕ) (P Q : At) → free_rank n Q < free_rank n P → taken_rank n Q < taken_rank n P → rank t n Q < rank t n P
-lower true n P Q f g = omega arith
-lower false n P Q f g = g
-
--- a store of a process number to y raises no rank
-taken-le-free : (n : ℕ) (p : At) → taken_rank n p ≤ n + 3 + free_rank n p
-taken-le-free n Rest = omega arith
-taken-le-free n Start = omega arith
-taken-le-free n SetX = omega arith
-taken-le-free n TestY = omega arith
-taken-le-free n BackB = omega arith
-taken-le-free n AwaitY = omega arith
-taken-le-free n SetY = omega arith
-taken-le-free n TestX = omega arith
-taken-le-free n SlowB = omega arith
-taken-le-free n (Scan j) = omega arith
-taken-le-free n SlowY = omega arith
-taken-le-free n SlowAwait = omega arith
-taken-le-free n Fast = omega arith
-taken-le-free n Slow = omega arith
-taken-le-free n Leaving = omega arith
+lower t n P Q f g = grind arith
 
 pub taken-le-rank : (t : Bool) (n : ℕ) (p : At) → taken_rank n p ≤ rank t n p
-taken-le-rank true n p = taken-le-free n p
-taken-le-rank false n p = omega arith
-
-pub free-le : (n : ℕ) (p : At) → free_rank n p ≤ n + 8
-free-le n Rest = omega arith
-free-le n Start = omega arith
-free-le n SetX = omega arith
-free-le n TestY = omega arith
-free-le n BackB = omega arith
-free-le n AwaitY = omega arith
-free-le n SetY = omega arith
-free-le n TestX = omega arith
-free-le n SlowB = omega arith
-free-le n (Scan j) = omega arith
-free-le n SlowY = omega arith
-free-le n SlowAwait = omega arith
-free-le n Fast = omega arith
-free-le n Slow = omega arith
-free-le n Leaving = omega arith
+taken-le-rank t n p = grind arith
 
 rank-le : (t : Bool) (n : ℕ) (p : At) → rank t n p ≤ 2 * n + 11
-rank-le true n p = omega (arith, free-le n p)
-rank-le false n p = omega (arith, free-le n p, taken-le-free n p)
+rank-le t n p = grind arith
 
 -- the measure is at most the bound
 pub measure-le : (w : State) → length w.points ≡ process_count w → measure w ≤ work_bound (process_count w)

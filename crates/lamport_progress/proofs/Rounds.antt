@@ -2,63 +2,28 @@
 -- critical section, and that at each time some process helps: its step lowers the measure, and it
 -- keeps helping while steps of others leave the measure unchanged. Then each fair round lowers the
 -- measure, or some process enters its critical section in it.
-use Rattle.std.proofs.Common.{◌≡◌, ◌≢◌, ◌<◌, ◌≤◌, ◌⊎◌, ℕ, zero, suc, List, [], ◌∷◌, ◌++◌, length, get_or, refl, sym, subst, ap, inl, inr, arith}
+use Rattle.std.proofs.Common.{◌≡◌, ◌≢◌, ◌<◌, ◌≤◌, ◌⊎◌, ℕ, List, [], ◌∷◌, ◌++◌, length, get_or, sym, subst, inl, inr, arith}
 use Rattle.std.proofs.lemmas.Bool.{cases_eq}
 use Rattle.std.specs.List.{Contains, concat}
-use Rattle.lamport_core.specs.State.{State, IsProcess, IsSchedule, IsInsidePoint, process_count, point_of, next, run, step_from, after_TestY, after_AwaitY, after_TestX, after_Scan, after_SlowY, after_SlowAwait, flag_of}
+use Rattle.lamport_core.specs.State.{State, IsProcess, IsSchedule, IsInsidePoint, process_count, point_of, next, run, step_from}
 use Rattle.lamport_core.specs.Line.{IsLine}
 use Rattle.lamport_core.proofs.LineSteps.{next_line}
 use Rattle.lamport_core.proofs.Worlds.{of-with_other}
 use Rattle.lamport_progress.specs.Progress.{IsOccupied, LeadsInside, IsEnabled, IsEntering, AreFairRounds}
 use Rattle.lamport_progress.proofs.Work.{IsSound, sound_next, at_once, inside_or_not}
 use Rattle.lamport_core.specs.declared.At.{At}
-use Rattle.lamport_core.specs.declared.At.TheVariants.{Rest, Start, SetX, TestY, BackB, AwaitY, SetY, TestX, SlowB, Scan, SlowY, SlowAwait, Fast, Slow, Leaving}
+use Rattle.lamport_core.specs.declared.At.TheVariants.{Rest}
 
 -- a step does not change the points of the other processes
 pub others_from : (P : At) (w : State) (i j : ℕ) → j ≢ i → point_of (step_from P w i) j ≡ point_of w j
-others_from Rest w i j ne = of-with_other Rest w.points i j SetX ne
-others_from Start w i j ne = of-with_other Rest w.points i j SetX ne
-others_from SetX w i j ne = of-with_other Rest w.points i j TestY ne
-others_from TestY w i j ne = of-with_other Rest w.points i j (after_TestY w.y) ne
-others_from BackB w i j ne = of-with_other Rest w.points i j AwaitY ne
-others_from AwaitY w i j ne = of-with_other Rest w.points i j (after_AwaitY w.y) ne
-others_from SetY w i j ne = of-with_other Rest w.points i j TestX ne
-others_from TestX w i j ne = of-with_other Rest w.points i j (after_TestX i w.x) ne
-others_from SlowB w i j ne = of-with_other Rest w.points i j (Scan 1) ne
-others_from (Scan k) w i j ne = of-with_other Rest w.points i j (after_Scan (process_count w) k (flag_of w k)) ne
-others_from SlowY w i j ne = of-with_other Rest w.points i j (after_SlowY i w.y) ne
-others_from SlowAwait w i j ne = of-with_other Rest w.points i j (after_SlowAwait w.y) ne
-others_from Fast w i j ne = of-with_other Rest w.points i j Leaving ne
-others_from Slow w i j ne = of-with_other Rest w.points i j Leaving ne
-others_from Leaving w i j ne = of-with_other Rest w.points i j Rest ne
+others_from P w i j ne = grind (arith, of-with_other)
 
 pub others_next : (w : State) (i j : ℕ) → j ≢ i → point_of (next w i) j ≡ point_of w j
 others_next w i = others_from (point_of w i) w i
 
 -- a process in its entry stays in it until it is in its critical section
 pub entering_line : (n : ℕ) (P Q : At) → IsEntering P → IsLine n P Q → (IsInsidePoint Q → ⊥) → IsEntering Q
-entering_line n Rest Q h l out = absurd h
-entering_line n Start Q h l out = subst IsEntering (sym l) tt
-entering_line n SetX Q h l out = subst IsEntering (sym l) tt
-entering_line n TestY Q h (inl l) out = subst IsEntering (sym l) tt
-entering_line n TestY Q h (inr l) out = subst IsEntering (sym l) tt
-entering_line n BackB Q h l out = subst IsEntering (sym l) tt
-entering_line n AwaitY Q h (inl l) out = subst IsEntering (sym l) tt
-entering_line n AwaitY Q h (inr l) out = subst IsEntering (sym l) tt
-entering_line n SetY Q h l out = subst IsEntering (sym l) tt
-entering_line n TestX Q h (inl l) out = absurd (out (inl l))
-entering_line n TestX Q h (inr l) out = subst IsEntering (sym l) tt
-entering_line n SlowB Q h l out = subst IsEntering (sym l) tt
-entering_line n (Scan j) Q h (inl l) out = subst IsEntering (sym l) tt
-entering_line n (Scan j) Q h (inr (inl l)) out = subst IsEntering (sym l.1) tt
-entering_line n (Scan j) Q h (inr (inr l)) out = subst IsEntering (sym l.1) tt
-entering_line n SlowY Q h (inl l) out = absurd (out (inr l))
-entering_line n SlowY Q h (inr l) out = subst IsEntering (sym l) tt
-entering_line n SlowAwait Q h (inl l) out = subst IsEntering (sym l) tt
-entering_line n SlowAwait Q h (inr l) out = subst IsEntering (sym l) tt
-entering_line n Fast Q h l out = absurd h
-entering_line n Slow Q h l out = absurd h
-entering_line n Leaving Q h l out = absurd h
+entering_line n P Q h l out = grind arith
 
 -- process p of n is in its entry, and no process is in its critical section
 pub record Pending (n p : ℕ) (w : State) : Type 0 where
@@ -71,10 +36,7 @@ module _ (n p i : ℕ) (w : State) (c : Pending n p w) (q : IsProcess n i) where
   line = next_line w i c.sound.safe (subst (λ m. IsProcess m i) (sym c.sound.counts) q)
 
   still_out : (IsInsidePoint (point_of (next w i) i) → ⊥) → IsOccupied (next w i) → ⊥
-  still_out out h = elim (cases_eq h.0 i) [
-    | inl e ↦ out (subst (λ k. IsInsidePoint (point_of (next w i) k)) e h.1)
-    | inr ne ↦ c.outside (h.0, subst IsInsidePoint (others_next w i h.0 ne) h.1)
-  ]
+  still_out out h = grind (arith, cases_eq, others_next)
 
   still_entering : (IsInsidePoint (point_of (next w i) i) → ⊥) → IsEntering (point_of (next w i) p)
   still_entering out = elim (cases_eq p i) [
@@ -92,21 +54,7 @@ module _ (n p i : ℕ) (w : State) (c : Pending n p w) (q : IsProcess n i) where
 -- a step while no process is in its critical section does not set y to 0
 pub taken_from : (P : At) (w : State) (i : ℕ) → 0 < i → (IsInsidePoint P → ⊥) → w.y ≢ 0 →
     (step_from P w i).y ≢ 0
-taken_from SetY w i p out ne = λ e. omega arith
-taken_from Fast w i p out ne = absurd (out (inl refl))
-taken_from Slow w i p out ne = absurd (out (inr refl))
-taken_from Rest w i p out ne = ne
-taken_from Start w i p out ne = ne
-taken_from SetX w i p out ne = ne
-taken_from TestY w i p out ne = ne
-taken_from BackB w i p out ne = ne
-taken_from AwaitY w i p out ne = ne
-taken_from TestX w i p out ne = ne
-taken_from SlowB w i p out ne = ne
-taken_from (Scan j) w i p out ne = ne
-taken_from SlowY w i p out ne = ne
-taken_from SlowAwait w i p out ne = ne
-taken_from Leaving w i p out ne = ne
+taken_from P w i p out ne = grind arith
 
 -- and y is not 0
 pub record Held (n p : ℕ) (w : State) : Type 0 where
@@ -133,8 +81,7 @@ leads_later w [] js h = h
 leads_later w (i ∷ is) js h = inr (leads_later (next w i) is js h)
 
 pub contains_head : (i j : ℕ) (is : List ℕ) (k : ℕ) → k < length (i ∷ is) → get_or (i ∷ is) k j ≡ j → (i ≡ j) ⊎ Contains is j
-contains_head i j is zero lt e = inl e
-contains_head i j is (suc k) lt e = inr (k, omega arith, e)
+contains_head i j is k lt e = grind arith
 
 -- a process that is not at rest, and helps
 pub record Helper (helps : State → ℕ → Type 0) (w : State) : Type 0 where
@@ -202,10 +149,7 @@ module _ (n p : ℕ) (measure : State → ℕ) (helps : State → ℕ → Type 0
 
   -- a process that helps does not wait
   helper_enabled : (w : State) (j : ℕ) → Held n p w → IsProcess n j → helps w j → IsEnabled w j
-  helper_enabled w j c q h e = elim (f.lowers w j c q h) [
-    | inl g ↦ c.pending.outside (subst IsOccupied e g)
-    | inr g ↦ let same : measure (next w j) ≡ measure w = ap measure e in omega arith
-  ]
+  helper_enabled w j c q h e = grind arith
 
   pub rounds_lead : (rounds : List (List ℕ)) (w : State) → Held n p w → AreFairRounds n w rounds → measure w < length rounds → LeadsInside w (concat rounds)
   rounds_lead [] w c r lt = absurd (omega arith)

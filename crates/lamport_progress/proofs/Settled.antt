@@ -1,16 +1,16 @@
 -- After two fair rounds y is not 0, or each process is settled: none is at TestX, SlowB, BackB or
 -- Leaving.
-use Rattle.std.proofs.Common.{◌≡◌, ◌≢◌, ◌==◌, ◌<◌, ◌≤◌, ◌+◌, ◌-◌, ◌⊎◌, ℕ, suc, Bool, true, false, cond, List, [], ◌∷◌, length, refl, sym, ◌∙◌, subst, inl, inr, arith}
+use Rattle.std.proofs.Common.{◌≡◌, ◌≢◌, ◌<◌, ◌≤◌, ◌-◌, ◌⊎◌, ℕ, suc, List, [], ◌∷◌, length, sym, subst, inl, inr, arith}
 use Rattle.std.specs.List.{Contains}
 use Rattle.std.proofs.lemmas.Bool.{cases_eq, cases_lt, eq-eqb}
-use Rattle.lamport_core.specs.State.{State, IsProcess, IsSchedule, IsInside, IsInsidePoint, process_count, point_of, next, run, step_from, with_process, of_process, flag_of}
+use Rattle.lamport_core.specs.State.{State, IsProcess, IsSchedule, IsInside, IsInsidePoint, point_of, next, run, step_from, with_process, of_process}
 use Rattle.lamport_core.specs.Safe.{IsSafe}
 use Rattle.lamport_core.proofs.Worlds.{of-with_same}
 use Rattle.lamport_progress.specs.Progress.{IsFairRound}
 use Rattle.lamport_progress.proofs.Enabled.{IsSteady, steady_enabled, steady-ne-Rest}
 use Rattle.lamport_progress.proofs.Rounds.{Pending, others_next, contains_head, taken_from}
 use Rattle.lamport_core.specs.declared.At.{At}
-use Rattle.lamport_core.specs.declared.At.TheVariants.{Rest, Start, SetX, TestY, BackB, AwaitY, SetY, TestX, SlowB, Scan, SlowY, SlowAwait, Fast, Slow, Leaving}
+use Rattle.lamport_core.specs.declared.At.TheVariants.{Rest, BackB, TestX, SlowB, Leaving}
 
 -- the steps of a process until it is settled, while y is 0
 abbrev pub unsettled : At → ℕ
@@ -29,21 +29,13 @@ StaysPending n p w [] = Pending n p w
 StaysPending n p w (i ∷ is) = Pending n p w × StaysPending n p (next w i) is
 
 unsettled-le : (P : At) → unsettled P ≤ 2
-unsettled-le TestX = omega arith
-unsettled-le SlowB = omega arith
-unsettled-le BackB = omega arith
-unsettled-le Leaving = omega arith
-unsettled-le _ = omega arith
+unsettled-le P = grind arith
 
 pub settled_two : (w : State) → Settled 2 w
 settled_two w = inr (λ j. unsettled-le (point_of w j))
 
 unsettled_steady : (P : At) → 0 < unsettled P → IsSteady P
-unsettled_steady TestX h = tt
-unsettled_steady SlowB h = tt
-unsettled_steady BackB h = tt
-unsettled_steady Leaving h = tt
-unsettled_steady _ h = absurd (omega arith)
+unsettled_steady P h = grind arith
 
 module _ (w : State) (i : ℕ) (there : IsProcess (length w.points) i) where
   -- what remains to settle after a step of process i to v, if it was k + 1 or 0
@@ -58,37 +50,7 @@ module _ (w : State) (i : ℕ) (there : IsProcess (length w.points) i) where
   inside_Q Q h = subst IsInsidePoint (sym (of-with_same Rest w.points i Q there)) h
 
   settles_from : (P : At) → w.y ≡ 0 → (IsInsidePoint P → ⊥) → Settles (unsettled P - 1) (step_from P w i)
-  settles_from Rest z out = inr (inr (at_Q 0 SetX (omega arith)))
-  settles_from Start z out = inr (inr (at_Q 0 SetX (omega arith)))
-  settles_from SetX z out = inr (inr (at_Q 0 TestY (omega arith)))
-  settles_from TestY z out = inr (inr (at_Q 0 _
-      (subst (λ t. unsettled (cond t SetY BackB) ≤ 0) (sym (eq-eqb w.y 0 z)) (omega arith))))
-  settles_from BackB z out = inr (inr (at_Q 0 AwaitY (omega arith)))
-  settles_from AwaitY z out = inr (inr (at_Q 0 _
-      (subst (λ t. unsettled (cond t Start AwaitY) ≤ 0) (sym (eq-eqb w.y 0 z)) (omega arith))))
-  settles_from SetY z out = inr (inl (λ e. omega arith))
-  settles_from TestX z out = test_x (w.x == i)
-    where
-      test_x : (t : Bool) → (IsInsidePoint (of_process Rest (with_process w.points i (cond t Fast SlowB)) i)) ⊎ ((w.y ≢ 0) ⊎ (unsettled (of_process Rest (with_process w.points i (cond t Fast SlowB)) i) ≤ 1))
-      test_x true = inl (inside_Q Fast (inl refl))
-      test_x false = inr (inr (at_Q 1 SlowB (omega arith)))
-  settles_from SlowB z out = inr (inr (at_Q 0 (Scan 1) (omega arith)))
-  settles_from (Scan j) z out = inr (inr (at_Q 0 _ (scan (flag_of w j) (j == process_count w))))
-    where
-      scan : (f t : Bool) → unsettled (cond f (Scan j) (cond t SlowY (Scan (j + 1)))) ≤ 0
-      scan true t = omega arith
-      scan false true = omega arith
-      scan false false = omega arith
-  settles_from SlowY z out = inr (inr (at_Q 0 _ (slow_y (w.y == i))))
-    where
-      slow_y : (t : Bool) → unsettled (cond t Slow SlowAwait) ≤ 0
-      slow_y true = omega arith
-      slow_y false = omega arith
-  settles_from SlowAwait z out = inr (inr (at_Q 0 _
-      (subst (λ t. unsettled (cond t Start SlowAwait) ≤ 0) (sym (eq-eqb w.y 0 z)) (omega arith))))
-  settles_from Fast z out = absurd (out (inl refl))
-  settles_from Slow z out = absurd (out (inr refl))
-  settles_from Leaving z out = inr (inr (at_Q 0 Rest (omega arith)))
+  settles_from P z out = grind (arith, at_Q, eq-eqb, inside_Q)
 
 -- process j has at most m steps left by the measure f, or one more and it takes a step
 abbrev pub Due : (At → ℕ) → ℕ → ℕ → State → List ℕ → Type 0
@@ -96,27 +58,17 @@ Due f j m w is = (f (point_of w j) ≤ m) ⊎ ((f (point_of w j) ≤ suc m) × C
 
 pub due-le : (f : At → ℕ) (j m : ℕ) (w : State) (is : List ℕ) → Due f j m w is →
     f (point_of w j) ≤ suc m
-due-le f j m w is (inl h) = omega arith
-due-le f j m w is (inr h) = h.0
+due-le f j m w is h5 = grind arith
 
 -- the same after a step of another
 pub due_on : (f : At → ℕ) (i j m : ℕ) (w : State) (is : List ℕ) → j ≢ i → Due f j m w (i ∷ is) →
     Due f j m (next w i) is
-due_on f i j m w is ne (inl h) = inl (subst (λ a. f a ≤ m) (sym (others_next w i j ne)) h)
-due_on f i j m w is ne (inr h) = elim (contains_head i j is h.1.0 h.1.1 h.1.2) [
-  | inl e ↦ absurd (ne (sym e))
-  | inr u ↦ inr (subst (λ a. f a ≤ suc m) (sym (others_next w i j ne)) h.0, u)
-]
+due_on f i j m w is ne h7 = grind (arith, others_next, contains_head)
 
 -- and so it is after a fair round
 pub due_now : (f : At → ℕ) (j m : ℕ) (w : State) (is : List ℕ) → IsSafe w → IsFairRound w is →
     (0 < f (point_of w j) → IsSteady (point_of w j)) → f (point_of w j) ≤ suc m → Due f j m w is
-due_now f j m w is s r steady le = elim (cases_lt m (f (point_of w j))) [
-  | inr h ↦ inl h
-  | inl h ↦
-      let goes = steady (omega arith) in
-      inr (le, r j (steady-ne-Rest (point_of w j) goes) (steady_enabled w s j goes))
-]
+due_now f j m w is s r steady le = grind (arith, cases_lt, steady-ne-Rest, steady_enabled)
 
 module _ (n p : ℕ) where
   pub taken_run : (is : List ℕ) (w : State) → StaysPending n p w is → IsSchedule n is → w.y ≢ 0 →
@@ -135,12 +87,7 @@ module _ (n p : ℕ) where
 
   pub settles_next : (i : ℕ) (is : List ℕ) (w : State) → StaysPending n p w (i ∷ is) → IsProcess n i →
       w.y ≡ 0 → ((next w i).y ≢ 0) ⊎ (unsettled (point_of (next w i) i) ≤ unsettled (point_of w i) - 1)
-  settles_next i is w c q z =
-      let there = subst (λ m. IsProcess m i) (sym (c.0.sound.safe.same_count ∙ c.0.sound.counts)) q in
-      elim (settles_from w i there (point_of w i) z (λ h. c.0.outside (i, h))) [
-        | inl h ↦ absurd ((pending_now is (next w i) c.1).outside (i, h))
-        | inr h ↦ h
-      ]
+  settles_next i is w c q z = grind (arith, settles_from, pending_now)
 
   settles_run : (j m : ℕ) (is : List ℕ) (w : State) → StaysPending n p w is → IsSchedule n is →
       Due unsettled j m w is → ((run w is).y ≢ 0) ⊎ (unsettled (point_of (run w is) j) ≤ m)

@@ -1,5 +1,5 @@
 -- Sums over the processes when one of them moves to another point.
-use Rattle.std.proofs.Common.{◌<◌, ◌≤◌, ◌≢◌, ◌+◌, ◌*◌, refl, ℕ, zero, suc, List, [], ◌∷◌, length, get_or, ap, ◌∙◌, ◌≡◌, inl, inr, arith}
+use Rattle.std.proofs.Common.{◌<◌, ◌≤◌, ◌≢◌, ◌+◌, ◌*◌, refl, ℕ, zero, suc, List, [], ◌∷◌, length, get_or, ap, ◌≡◌, arith}
 use Rattle.std.specs.List.{sum_by}
 use Rattle.std.proofs.lemmas.Bool.{cases_lt}
 use Rattle.std.proofs.lemmas.List.{get_or_past}
@@ -16,8 +16,7 @@ set_less f g (p ∷ ps) (suc k) Q lt h l = omega (arith, sum_by-cons g p (set ps
 
 -- if no term increases, and that of the process that moves decreases, the sum decreases
 pub total_less : (f g : At → ℕ) (ps : List At) (i : ℕ) (Q : At) → IsProcess (length ps) i → ((q : At) → g q ≤ f q) → g Q < f (of_process Rest ps i) → sum_by g (with_process ps i Q) < sum_by f ps
-total_less f g ps zero Q p h l = absurd (omega arith)
-total_less f g ps (suc k) Q p h l = set_less f g ps k Q (omega arith) h l
+total_less f g ps i Q p h l = grind (arith, set_less)
 
 pub total_le : (f : At → ℕ) (m : ℕ) (ps : List At) → ((q : At) → f q ≤ m) → sum_by f ps ≤ length ps * m
 total_le f m [] h = omega arith
@@ -66,13 +65,8 @@ set_at_most f (p ∷ ps) (suc k) Q lt l = omega (arith, sum_by-cons f p (set ps 
 
 -- if the term of the process that moves does not increase, the sum does not
 pub total_at_most : (f : At → ℕ) (ps : List At) (i : ℕ) (Q : At) → IsProcess (length ps) i → f Q ≤ f (of_process Rest ps i) → sum_by f (with_process ps i Q) ≤ sum_by f ps
-total_at_most f ps zero Q p l = absurd (omega arith)
-total_at_most f ps (suc k) Q p l = set_at_most f ps k Q (omega arith) l
+total_at_most f ps i Q p l = grind (arith, set_at_most)
 
 -- the term of each number, whether or not it is that of a process, is at most the sum
 pub term-le-total : (f : At → ℕ) (ps : List At) (i : ℕ) → f Rest ≡ 0 → f (of_process Rest ps i) ≤ sum_by f ps
-term-le-total f ps zero e = omega arith
-term-le-total f ps (suc k) e = elim (cases_lt k (length ps)) [
-  | inl h ↦ get_or-le-sum_by f ps k Rest h
-  | inr h ↦ let past : f (get_or ps k Rest) ≡ 0 = ap f (get_or_past ps k Rest h) ∙ e in omega arith
-]
+term-le-total f ps i e = grind (arith, cases_lt, get_or-le-sum_by, get_or_past)

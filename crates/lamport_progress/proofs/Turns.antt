@@ -76,8 +76,7 @@ is_round (suc (suc zero)) ne go = absurd (ne refl)
 is_round (suc (suc (suc k))) ne go = absurd (ne refl)
 
 awaits : (p : At) → p ≡ AwaitY → (p ≡ Fast) ⊎ (p ≡ Slow) → ⊥
-awaits p e (inl h) = let d : AwaitY ≡ Fast = sym e ∙ h in cc
-awaits p e (inr h) = let d : AwaitY ≡ Slow = sym e ∙ h in cc
+awaits p e h2 = grind arith
 
 not_inside : IsInside hungry 1 → ⊥
 unfolding hungry

@@ -11,12 +11,10 @@ use Rattle.lamport_progress.proofs.Measure.{measure, measure-le}
 use Rattle.lamport_progress.proofs.Falls.{outcome}
 use Rattle.lamport_progress.proofs.Enabled.{owned_next, some_enabled, start_enabled, reach_owned}
 use Rattle.lamport_core.specs.declared.At.{At}
-use Rattle.lamport_core.specs.declared.At.TheVariants.{Rest, Fast, Slow}
+use Rattle.lamport_core.specs.declared.At.TheVariants.{Rest}
 
 pub inside_or_not : (p : At) → IsInsidePoint p ⊎ (IsInsidePoint p → ⊥)
-inside_or_not Fast = inl (inl refl)
-inside_or_not Slow = inl (inr refl)
-inside_or_not _ = inr (λ h. elim h [ inl e ↦ cc | inr e ↦ cc ])
+inside_or_not p = grind arith
 
 -- what holds from a reachable world on
 pub record IsSound (n : ℕ) (w : State) : Type 0 where
@@ -49,10 +47,7 @@ at_once w (i ∷ is) h = inl h
 
 -- while no process is in its critical section, a step waits or lowers the measure
 pub one_step : (n : ℕ) (w : State) (i : ℕ) → IsSound n w → IsProcess n i → IsOccupied w ⊎ ((next w i ≡ w) ⊎ (measure (next w i) < measure w))
-one_step n w i s p = elim (inside_or_not (point_of w i)) [
-  | inl h ↦ inl (i, h)
-  | inr out ↦ inr (outcome w i s.safe (subst (λ m. IsProcess m i) (sym s.counts) p) out)
-]
+one_step n w i s p = grind (arith, inside_or_not, outcome)
 
 -- if more steps than the measure change the world, some process enters its critical section
 steps_lead : (n : ℕ) (is : List ℕ) (w : State) → IsSound n w → IsSchedule n is → NeverWaits w is → measure w < length is → LeadsInside w is
@@ -64,13 +59,10 @@ steps_lead n (i ∷ is) w s p b lt = elim (one_step n w i s p.0) [
 ]
 
 pub work : (n : ℕ) (w : State) (is : List ℕ) → IsSound n w → IsSchedule n is → NeverWaits w is → work_bound n < length is → LeadsInside w is
-work n w is s p b lt =
-    let few : measure w ≤ work_bound n = subst (λ m. measure w ≤ work_bound m) s.counts (measure-le w s.safe.same_count) in
-    steps_lead n is w s p b (omega arith)
+work n w is s p b lt = grind (arith, measure, measure-le, steps_lead)
 
 rest_or_not : (p : At) → (p ≡ Rest) ⊎ (p ≢ Rest)
-rest_or_not Rest = inl refl
-rest_or_not _ = inr (λ e. cc)
+rest_or_not p = grind arith
 
 -- some process is enabled in each world of one process or more
 record Mover (n : ℕ) (w : State) : Type 0 where
