@@ -26,9 +26,6 @@ begun _ = 1
 abbrev begun_count : State → ℕ
 begun_count w = sum_by begun w.points
 
-begun-le : (P : At) → begun P ≤ 1
-begun-le P = grind arith
-
 begun_is : (P : At) → P ≢ Rest → begun P ≡ 1
 begun_is P ne = grind arith
 
@@ -56,7 +53,7 @@ module _ (n : ℕ) (w : State) (j : ℕ) (s : IsSound n w) (p : IsProcess n j) w
 
   -- the step of a process that is not at rest starts no other
   starts_nobody : point_of w j ≢ Rest → begun_count (next w j) ≤ begun_count w
-  starts_nobody ne = grind (arith, points_from, total_at_most, in_points, begun-le, begun_is)
+  starts_nobody ne = grind (arith, points_from, total_at_most, in_points, begun_is)
 
   -- and its last step leaves fewer that are not at rest
   ends_one : point_of w j ≡ Leaving → begun_count (next w j) < begun_count w

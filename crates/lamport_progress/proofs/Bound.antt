@@ -16,7 +16,7 @@ use Rattle.lamport_progress.proofs.Clear.{clear, clear-le, storing_count, owner-
 use Rattle.lamport_progress.proofs.Helping.{Helps, fair}
 use Rattle.lamport_progress.proofs.Settled.{Settled, unsettled, settled_two, settles_round, pending_end, taken_run}
 use Rattle.lamport_progress.proofs.Claims.{claim_rank, Low, AllSettled, advance_round, entering_low}
-use Rattle.lamport_progress.proofs.Spent.{IsClaim, Claimed, Spent, Taken, Stage, NoneLeaves, stage_run, none_run, taken_round, spent_round, spent_sum, spent_two}
+use Rattle.lamport_progress.proofs.Spent.{IsClaim, Claimed, Spent, Taken, Stage, NoneLeaves, stage_run, none_run, taken_round, spent_round, spent_sum}
 use Rattle.lamport_progress.proofs.Entries.{find_point, occupied_or_not, leads_enters, pending_all, inside-ne-Rest, inside_steady, first_round, enters-append, enters_later, schedule_concat}
 use Rattle.lamport_core.specs.declared.At.{At}
 use Rattle.lamport_core.specs.declared.At.TheVariants.{Rest}
@@ -52,8 +52,7 @@ spent_rounds n p w rounds c ne u s a le =
 second_rounds : (n p : ℕ) (w : State) (rounds : List (List ℕ)) → Pending n p w → w.y ≢ 0 →
     NoneLeaves w → Spent 1 2 w → AreFairRounds n w rounds → 5 * n ≤ length rounds + 5 →
     Enters w (concat rounds)
-second_rounds n p w [] c ne u s a le =
-    let two = spent_two n p 1 2 w c (omega arith) (omega arith) s in absurd (omega arith)
+second_rounds n p w [] c ne u s a le = grind arith
 second_rounds n p w (is ∷ rounds) c ne u s a le = elim (pending_all n p is w c a.0) [
   | inl g ↦ enters-append w is (concat rounds) g
   | inr all ↦ enters_later w is (concat rounds) (spent_rounds n p (run w is) rounds

@@ -11,7 +11,7 @@ use Rattle.lamport_progress.proofs.Enabled.{free_enabled, down_enabled, at_zero_
 use Rattle.lamport_progress.proofs.Rounds.{Pending, others_next, contains_head}
 use Rattle.lamport_progress.proofs.Settled.{unsettled, StaysPending, settles_next, taken_run, pending_now}
 use Rattle.lamport_core.specs.declared.At.{At}
-use Rattle.lamport_core.specs.declared.At.TheVariants.{Rest, Start, SetX, TestY, BackB, AwaitY, SetY, TestX, SlowB, Scan, SlowY, SlowAwait, Fast, Slow, Leaving}
+use Rattle.lamport_core.specs.declared.At.TheVariants.{Rest, Start, SetX, TestY, AwaitY, SetY, Scan, SlowY, SlowAwait}
 
 -- the steps of a settled process in its entry until it is about to store to y
 abbrev pub claim_rank : ℕ → At → ℕ
@@ -59,26 +59,12 @@ module _ (w : State) (i : ℕ) (there : IsProcess (length w.points) i) (z : w.y 
   free_load : (Q R : At) (m : ℕ) → claim_rank n Q ≤ m → claim_rank n (cond (w.y == 0) Q R) ≤ m
   free_load Q R m le = subst (λ t. claim_rank n (cond t Q R) ≤ m) (sym (eq-eqb w.y 0 z)) le
 
-  top : (b : Bool) → claim_rank n (cond b Fast SlowB) ≤ n + 6
-  top b = grind arith
-
-  slow : (b : Bool) → w.y == i ≡ b → claim_rank n (cond b Slow SlowAwait) ≤ 4
-  slow b e = grind arith
-
-  down : (j : ℕ) → IsProcess n j → claim_rank n (after_Scan n j false) ≤ n + 5 - j
-  down j r = grind arith
-
   scan : (j : ℕ) (f : Bool) → IsProcess n j → claim_rank n (after_Scan n j f) ≤ n + 6 - j
   scan j f r = grind arith
 
   -- no step increases the distance
   keeps_from : (P : At) → IsPoint n P → (IsInsidePoint P → ⊥) → Leaves (claim_rank n P) (step_from P w i)
-  keeps_from P h out = grind (arith, at_Q, free_load, top, scan, slow)
-
-  -- and a step that moves decreases it
-  lowers_from : (P : At) → IsPoint n P → IsGoing (flag_of w) P →
-      Leaves (claim_rank n P - 1) (step_from P w i)
-  lowers_from P h g = grind (arith, at_Q, free_load, down, slow)
+  keeps_from P h out = grind (arith, at_Q, free_load, scan)
 
 -- a settled process with its flag up is close to its store
 up_low : (n : ℕ) (P : At) → FlagFits P true → (IsInsidePoint P → ⊥) → unsettled P ≤ 0 →
@@ -105,20 +91,7 @@ module _ (n p : ℕ) (m : ℕ) (most : suc m ≤ n + 6) where
     going : (j : ℕ) (P : At) → IsPoint n P → claim_rank n P < suc m → Unblocked m w →
         Low n m w ⊎ IsGoing (flag_of w) P
     going j (Scan k) h lt u = scan_going j k (flag_of w k) refl h lt u
-    going j Start h lt u = inr tt
-    going j SetX h lt u = inr tt
-    going j TestY h lt u = inr tt
-    going j AwaitY h lt u = inr tt
-    going j SetY h lt u = inr tt
-    going j SlowY h lt u = inr tt
-    going j SlowAwait h lt u = inr tt
-    going j Rest h lt u = absurd (omega arith)
-    going j BackB h lt u = absurd (omega arith)
-    going j TestX h lt u = absurd (omega arith)
-    going j SlowB h lt u = absurd (omega arith)
-    going j Fast h lt u = absurd (omega arith)
-    going j Slow h lt u = absurd (omega arith)
-    going j Leaving h lt u = absurd (omega arith)
+    going j P h lt u = grind arith
 
     going_point : (j : ℕ) → claim_rank n (point_of w j) < suc m → Unblocked m w →
         Low n m w ⊎ IsGoing (flag_of w) (point_of w j)
@@ -149,7 +122,7 @@ module _ (n p : ℕ) (m : ℕ) (most : suc m ≤ n + 6) where
 
     lowers_next : IsGoing (flag_of w) (point_of w i) →
         Or (claim_rank n (point_of (next w i) i) ≤ claim_rank n (point_of w i) - 1)
-    lowers_next g = grind (arith, lowers_from, there)
+    lowers_next g = grind (arith, at_Q, free_load, there)
 
     low_next : Low n m w → Or (Low n m (next w i))
     low_next l = elim (cases_eq l.0 i) [

@@ -1,16 +1,16 @@
 -- No world is a dead end. The process that y names has set y, so it does not wait for y to be 0. If
 -- it waits for a flag in its scan, the process with that flag has it up, and so waits for nothing.
-use Rattle.std.proofs.Common.{[], ◌∷◌, ◌≡◌, ◌≢◌, ◌+◌, ℕ, Bool, true, false, cond, List, length, refl, sym, ap, ◌∙◌, subst, inl, inr, arith}
+use Rattle.std.proofs.Common.{[], ◌∷◌, ◌≡◌, ◌≢◌, ℕ, true, false, cond, List, length, refl, sym, ap, ◌∙◌, subst, inl, inr, arith}
 use Rattle.std.proofs.lemmas.Bool.{cases_eq, eq-eqb}
 use Rattle.std.proofs.lemmas.List.{length-replicate}
-use Rattle.lamport_core.specs.State.{State, Reach, IsProcess, IsSchedule, process_count, point_of, flag_of, next, run, start, step_from, with_process, with_point, of_process, after_SlowY}
+use Rattle.lamport_core.specs.State.{State, Reach, IsProcess, IsSchedule, process_count, point_of, flag_of, next, run, start, step_from, with_process, of_process, after_SlowY}
 use Rattle.lamport_core.specs.Safe.{IsSafe, FlagFits}
 use Rattle.lamport_core.specs.Line.{IsLine}
 use Rattle.lamport_core.proofs.LineSteps.{next_line}
 use Rattle.lamport_core.proofs.Worlds.{of-with_same, of-with_other, count-next, next_safe, reach_safe, start_safe}
 use Rattle.lamport_progress.specs.Progress.{IsEnabled, EnabledProcess, HasSetY, IsOwned}
 use Rattle.lamport_core.specs.declared.At.{At}
-use Rattle.lamport_core.specs.declared.At.TheVariants.{Rest, SetX, AwaitY, SlowB, Scan, SlowY, SlowAwait, Fast, Slow}
+use Rattle.lamport_core.specs.declared.At.TheVariants.{Rest, SetX, AwaitY, Scan, SlowAwait, Slow}
 
 module _ (w : State) (i : ℕ) (s : IsSafe w) (p : IsProcess (process_count w) i) (o : IsOwned w) where
   inside_list : IsProcess (length w.points) i
@@ -24,18 +24,11 @@ module _ (w : State) (i : ℕ) (s : IsSafe w) (p : IsProcess (process_count w) i
     | inr ne ↦ subst HasSetY (sym (of-with_other Rest w.points i w.y Q ne)) (o taken)
   ]
 
-  set_y_Scan : (j : ℕ) (f t : Bool) → HasSetY (cond f (Scan j) (cond t SlowY (Scan (j + 1))))
-  set_y_Scan j f t = grind arith
-
-  set_y_TestX : (t : Bool) → HasSetY (cond t Fast SlowB)
-  set_y_TestX t = grind arith
-
   set_y_SlowY : w.y ≡ i → HasSetY (after_SlowY i w.y)
   set_y_SlowY e = subst (λ t. HasSetY (cond t Slow SlowAwait)) (sym (eq-eqb w.y i e)) tt
 
   owned_from : (P : At) → point_of w i ≡ P → IsOwned (step_from P w i)
-  owned_from P at =
-      grind (arith, owns, of-with_same, inside_list, set_y_TestX, set_y_Scan, set_y_SlowY)
+  owned_from P at = grind (arith, owns, of-with_same, inside_list, set_y_SlowY)
 
   pub owned_next : IsOwned (next w i)
   owned_next = owned_from (point_of w i) refl
@@ -91,10 +84,6 @@ module _ (w : State) (s : IsSafe w) where
   pub steady_enabled : (i : ℕ) → IsSteady (point_of w i) → IsEnabled w i
   steady_enabled i h = goes_on i (steady_leaves (process_count w) (point_of w i) (point_of (next w i) i) h (next_line w i s (s.safe.process i (steady-ne-Rest (point_of w i) h))))
 
-  -- process i at P, whose step leads to Q
-  at_enabled : (i : ℕ) (P Q : At) → point_of w i ≡ P → P ≢ Rest → step_from P w i ≡ with_point w i Q → Q ≢ P → IsEnabled w i
-  at_enabled i P Q at started does ne = grind (arith, goes_on, of-with_same)
-
   pub start_enabled : (i : ℕ) → IsProcess (process_count w) i → point_of w i ≡ Rest → IsEnabled w i
   start_enabled i p at = goes_on i (λ h.
       let l : point_of (next w i) i ≡ SetX = subst (λ R. IsLine (process_count w) R (point_of (next w i) i)) at (next_line w i s p) in
@@ -107,17 +96,15 @@ module _ (w : State) (s : IsSafe w) where
   up-ne-Rest j up = steady-ne-Rest (point_of w j) (up_steady (point_of w j) (subst (λ b. FlagFits (point_of w j) b) up (s.safe.flag j)))
 
   pub down_enabled : (i j : ℕ) → flag_of w j ≡ false → point_of w i ≡ Scan j → IsEnabled w i
-  down_enabled i j down at = grind (arith, at_enabled)
+  down_enabled i j down at = grind (arith, goes_on, of-with_same)
 
   -- at a point that waits neither for y nor for a flag
   pub free_enabled : (i : ℕ) (P : At) → point_of w i ≡ P → IsBegunFree w.y P → ((j : ℕ) → P ≢ Scan j) → IsEnabled w i
-  free_enabled i P at h f = grind (arith, at_enabled, eq-eqb, steady_enabled)
-
-  enabled_Scan : (i j : ℕ) (f : Bool) → flag_of w j ≡ f → point_of w i ≡ Scan j → EnabledProcess w
-  enabled_Scan i j f up at = grind (arith, up-ne-Rest, up_enabled, down_enabled)
+  free_enabled i P at h f = grind (arith, goes_on, of-with_same, eq-eqb, steady_enabled)
 
   enabled_from : (i : ℕ) (P : At) → point_of w i ≡ P → IsBegunFree w.y P → EnabledProcess w
-  enabled_from i P at h = grind (arith, enabled_Scan, free-ne-Rest, free_enabled)
+  enabled_from i P at h =
+      grind (arith, up-ne-Rest, up_enabled, down_enabled, free-ne-Rest, free_enabled)
 
   -- unless all are at rest, some process that is not at rest is enabled
   pub some_enabled : IsOwned w → (i : ℕ) → point_of w i ≢ Rest → EnabledProcess w

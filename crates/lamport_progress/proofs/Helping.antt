@@ -1,9 +1,9 @@
 -- How each step changes the measure of fair rounds, and which processes are helpful.
-use Rattle.std.proofs.Common.{◌≡◌, ◌≢◌, ◌==◌, ◌<◌, ◌≤◌, ◌⊎◌, ℕ, suc, Bool, false, cond, List, length, refl, sym, subst, inl, inr, arith}
+use Rattle.std.proofs.Common.{◌≡◌, ◌≢◌, ◌<◌, ◌≤◌, ◌⊎◌, ℕ, suc, Bool, false, List, length, refl, sym, subst, inl, inr, arith}
 use Rattle.std.specs.List.{sum_by}
 use Rattle.std.proofs.lemmas.Bool.{cases_eq, eq-eqb, ne_eqb}
 use Rattle.std.proofs.lemmas.Bool.Decides.{eqb_tells}
-use Rattle.lamport_core.specs.State.{State, IsProcess, IsInside, IsInsidePoint, process_count, point_of, flag_of, next, step_from, with_process, with_point, with_flag, of_process, after_TestY, after_Scan}
+use Rattle.lamport_core.specs.State.{State, IsProcess, IsInside, IsInsidePoint, process_count, point_of, flag_of, next, step_from, with_process, with_point, with_flag, of_process, after_Scan}
 use Rattle.lamport_core.specs.Safe.{IsSafe, IsPoint}
 use Rattle.lamport_core.proofs.Worlds.{of-with_same, of-with_other, length-with}
 use Rattle.lamport_progress.proofs.Sums.{total_less, total_at_most}
@@ -11,7 +11,7 @@ use Rattle.lamport_progress.proofs.Clear.{clear, storing, storing_count, scan_ra
 use Rattle.lamport_progress.proofs.Rounds.{Held, Helper, Fair, others_next}
 use Rattle.lamport_progress.specs.Progress.{IsOccupied, IsEntering, HasSetY}
 use Rattle.lamport_core.specs.declared.At.{At}
-use Rattle.lamport_core.specs.declared.At.TheVariants.{Rest, Start, SetX, TestY, BackB, SetY, TestX, SlowB, Scan, SlowY, SlowAwait, Fast, Slow, Leaving}
+use Rattle.lamport_core.specs.declared.At.TheVariants.{Rest, SetX, TestY, BackB, SetY, TestX, SlowB, Scan, SlowY, Leaving}
 
 -- the part of the process that y names does not increase from P to Q
 abbrev pub Sinks : ℕ → At → At → Type 0
@@ -96,13 +96,6 @@ module _ (w : State) (i : ℕ) (s : IsSafe w) (q : IsProcess (process_count w) i
       (λ n. fair_measure_at n w.y (of_process Rest (after Q)) (after Q) < fair_measure w)
       (sym (length-with w.flags i v)) (less_to P Q at lt h))
 
-  -- the leader moves from P to Q
-  lead_to : (P Q : At) → point_of w i ≡ P → clear Q ≤ clear P → storing Q ≤ storing P → Leads w i →
-      scan_rank (process_count w) Q < scan_rank (process_count w) P →
-      Help w i (with_point w i Q)
-  lead_to P Q at le c l h =
-      grind (arith, of-with_same, there, sum_at_most, clear, owner_lower, storing, scan_rank)
-
   enters : (Q : At) → IsInsidePoint Q → IsInside (with_point w i Q) i
   enters Q inside = subst IsInsidePoint (sym (of-with_same Rest w.points i Q there)) inside
 
@@ -115,49 +108,54 @@ module _ (w : State) (i : ℕ) (s : IsSafe w) (q : IsProcess (process_count w) i
     count = sum_at_most storing P Q at h.1;
   }))
 
-  store_y : point_of w i ≡ SetY →
-      fair_measure_at (process_count w) i (of_process Rest (after TestX)) (after TestX) < fair_measure w
-  store_y at = grind (arith, sum_less, storing, clear, owner-le, storing_count, owner_full)
-
-  test_y : point_of w i ≡ TestY → Help w i (with_point w i (after_TestY w.y))
-  test_y at = grind (arith, ne_eqb, less_to)
-
-  test_x : (b : Bool) → point_of w i ≡ TestX → Help w i (with_point w i (cond b Fast SlowB))
-  test_x b at = grind (arith, enters, less_to)
-
-  blocks_from : (P : At) → point_of w i ≡ P → Blocks P → Help w i (step_from P w i)
-  blocks_from P at h = grind (arith, less_to, test_y, strict_flag, store_y, test_x)
-
-  widen : (v : State) → Help w i v → Effect w i v
-  widen v h1 = grind arith
-
-  await_y : (P : At) → point_of w i ≡ P → Effect w i (with_point w i (cond (w.y == 0) Start P))
-  await_y P at = grind (arith, ne_eqb, quiet)
-
-  slow_y : (b : Bool) → point_of w i ≡ SlowY → Effect w i (with_point w i (cond b Slow SlowAwait))
-  slow_y b at = grind (arith, enters, quiet)
-
   scan : (j : ℕ) (f : Bool) → IsProcess (process_count w) j → point_of w i ≡ Scan j →
       Effect w i (with_point w i (after_Scan (process_count w) j f))
   scan j f r at = grind (arith, quiet, eqb_tells)
 
   effect_from : (P : At) → point_of w i ≡ P → IsPoint (process_count w) P →
       (IsInsidePoint P → ⊥) → Effect w i (step_from P w i)
-  effect_from P at h out = grind (arith, widen, strict_flag, await_y, scan, slow_y, blocks_from)
+  effect_from P at h out =
+      grind (
+        arith,
+        strict_flag,
+        ne_eqb,
+        quiet,
+        scan,
+        enters,
+        less_to,
+        sum_less,
+        storing,
+        clear,
+        owner-le,
+        storing_count,
+        owner_full,
+      )
 
   effect : (IsInside w i → ⊥) → Effect w i (next w i)
   effect out = effect_from (point_of w i) refl (s.safe.point i) out
 
-  lead_scan : (j : ℕ) → IsProcess (process_count w) j → point_of w i ≡ Scan j → Leads w i →
-      Help w i (with_point w i (after_Scan (process_count w) j false))
-  lead_scan j r at l = grind (arith, eqb_tells, lead_to)
-
-  lead_from : (P : At) → point_of w i ≡ P → IsPoint (process_count w) P → Leads w i →
-      GoesOn (flag_of w) P → Help w i (step_from P w i)
-  lead_from P at h l g = grind (arith, lead_scan, eq-eqb, enters)
-
   help : Helps w i → Help w i (next w i)
-  help h0 = grind (arith, blocks_from, lead_from)
+  help h0 =
+      grind (
+        arith,
+        less_to,
+        ne_eqb,
+        strict_flag,
+        sum_less,
+        storing,
+        clear,
+        owner-le,
+        storing_count,
+        owner_full,
+        enters,
+        eqb_tells,
+        of-with_same,
+        there,
+        sum_at_most,
+        owner_lower,
+        scan_rank,
+        eq-eqb,
+      )
 
 -- a process other than i still helps after a quiet step of i
 helps_on : (w v : State) (j : ℕ) → Quiet w v → point_of v j ≡ point_of w j → Helps w j → Helps v j
@@ -181,13 +179,8 @@ module _ (w : State) (s : IsSafe w) (out : IsOccupied w → ⊥) where
   -- the leader helps, or waits for a process that does
   led : (j : ℕ) (P : At) → point_of w j ≡ P → Leads w j → HasSetY P → (IsInsidePoint P → ⊥) →
       Helper Helps w
-  led j TestX at l h o = block_helper j (subst Blocks (sym at) tt)
-  led j SlowB at l h o = block_helper j (subst Blocks (sym at) tt)
   led j (Scan k) at l h o = scan_helper j k (flag_of w k) refl at l
-  led j SlowY at l h o = lead_helper j SlowY at l tt
-  led j Fast at l h o = absurd (o (inl refl))
-  led j Slow at l h o = absurd (o (inr refl))
-  led j _ at l h o = absurd h
+  led j P at l h o = grind (arith, block_helper, lead_helper)
 
   some_helper : HasSetY (point_of w w.y) → Helper Helps w
   some_helper set_y = elim (find_storing w.points) [

@@ -3,7 +3,7 @@
 use Rattle.std.proofs.Common.{◌≡◌, ◌≢◌, ◌<◌, ◌≤◌, ◌-◌, ◌⊎◌, ℕ, suc, List, [], ◌∷◌, length, sym, subst, inl, inr, arith}
 use Rattle.std.specs.List.{Contains}
 use Rattle.std.proofs.lemmas.Bool.{cases_eq, cases_lt, eq-eqb}
-use Rattle.lamport_core.specs.State.{State, IsProcess, IsSchedule, IsInside, IsInsidePoint, point_of, next, run, step_from, with_process, of_process}
+use Rattle.lamport_core.specs.State.{State, IsProcess, IsSchedule, IsInside, IsInsidePoint, point_of, next, run, with_process, of_process}
 use Rattle.lamport_core.specs.Safe.{IsSafe}
 use Rattle.lamport_core.proofs.Worlds.{of-with_same}
 use Rattle.lamport_progress.specs.Progress.{IsFairRound}
@@ -49,9 +49,6 @@ module _ (w : State) (i : ℕ) (there : IsProcess (length w.points) i) where
   inside_Q : (Q : At) → IsInsidePoint Q → IsInsidePoint (of_process Rest (with_process w.points i Q) i)
   inside_Q Q h = subst IsInsidePoint (sym (of-with_same Rest w.points i Q there)) h
 
-  settles_from : (P : At) → w.y ≡ 0 → (IsInsidePoint P → ⊥) → Settles (unsettled P - 1) (step_from P w i)
-  settles_from P z out = grind (arith, at_Q, eq-eqb, inside_Q)
-
 -- process j has at most m steps left by the measure f, or one more and it takes a step
 abbrev pub Due : (At → ℕ) → ℕ → ℕ → State → List ℕ → Type 0
 Due f j m w is = (f (point_of w j) ≤ m) ⊎ ((f (point_of w j) ≤ suc m) × Contains is j)
@@ -87,7 +84,7 @@ module _ (n p : ℕ) where
 
   pub settles_next : (i : ℕ) (is : List ℕ) (w : State) → StaysPending n p w (i ∷ is) → IsProcess n i →
       w.y ≡ 0 → ((next w i).y ≢ 0) ⊎ (unsettled (point_of (next w i) i) ≤ unsettled (point_of w i) - 1)
-  settles_next i is w c q z = grind (arith, settles_from, pending_now)
+  settles_next i is w c q z = grind (arith, at_Q, eq-eqb, inside_Q, pending_now)
 
   settles_run : (j m : ℕ) (is : List ℕ) (w : State) → StaysPending n p w is → IsSchedule n is →
       Due unsettled j m w is → ((run w is).y ≢ 0) ⊎ (unsettled (point_of (run w is) j) ≤ m)

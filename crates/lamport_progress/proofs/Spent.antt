@@ -81,21 +81,6 @@ keep_claimed w v i P Q at to others x np nq c j h = elim (cases_eq j i) [
       ])
 ]
 
-no_claim_TestX : (b : Bool) → IsClaim (cond b Fast SlowB) → ⊥
-no_claim_TestX b h = grind arith
-
-no_claim_AwaitY : (b : Bool) → IsClaim (cond b Start AwaitY) → ⊥
-no_claim_AwaitY b h = grind arith
-
-no_claim_SlowAwait : (b : Bool) → IsClaim (cond b Start SlowAwait) → ⊥
-no_claim_SlowAwait b h = grind arith
-
-no_claim_SlowY : (b : Bool) → IsClaim (cond b Slow SlowAwait) → ⊥
-no_claim_SlowY b h = grind arith
-
-no_claim_Scan : (j : ℕ) (f t : Bool) → IsClaim (cond f (Scan j) (cond t SlowY (Scan (j + 1)))) → ⊥
-no_claim_Scan j f t h = grind arith
-
 module _ (w : State) (i : ℕ) (there : IsProcess (length w.points) i) where
   at_Q : (Q : At) → of_process Rest (with_process w.points i Q) i ≡ Q
   at_Q Q = of-with_same Rest w.points i Q there
@@ -140,19 +125,7 @@ module _ (w : State) (i : ℕ) (there : IsProcess (length w.points) i) where
 
   free_from : (P : At) → point_of w i ≡ P → w.y ≡ 0 → (IsInsidePoint P → ⊥) → Claimed w →
       Stage (step_from P w i)
-  free_from P at z out c =
-      grind (
-        arith,
-        plain,
-        at_Q,
-        test_y,
-        no_claim_AwaitY,
-        store_y,
-        no_claim_TestX,
-        no_claim_Scan,
-        no_claim_SlowY,
-        no_claim_SlowAwait,
-      )
+  free_from P at z out c = grind (arith, plain, at_Q, test_y, store_y)
 
   -- the level of a process after its step, while y is not 0
   abbrev Leaves : ℕ → State → Type 0
@@ -167,19 +140,8 @@ module _ (w : State) (i : ℕ) (there : IsProcess (length w.points) i) where
   taken_load : (Q R : At) (m : ℕ) → w.y ≢ 0 → level R ≤ m → level (cond (w.y == 0) Q R) ≤ m
   taken_load Q R m ne le = subst (λ t. level (cond t Q R) ≤ m) (sym (ne_eqb w.y 0 ne)) le
 
-  test_x : (b : Bool) → (IsInsidePoint (of_process Rest (with_process w.points i (cond b Fast SlowB)) i)) ⊎
-      (level (of_process Rest (with_process w.points i (cond b Fast SlowB)) i) ≤ 1)
-  test_x b = grind (arith, inside_Q, level_Q)
-
-  slow_y : (b : Bool) → (IsInsidePoint (of_process Rest (with_process w.points i (cond b Slow SlowAwait)) i)) ⊎
-      (level (of_process Rest (with_process w.points i (cond b Slow SlowAwait)) i) ≤ 0)
-  slow_y b = grind (arith, inside_Q, level_Q)
-
   scan : (j : ℕ) (f t : Bool) → level (cond f (Scan j) (cond t SlowY (Scan (j + 1)))) ≤ 0
   scan j f t = grind arith
-
-  level_from : (P : At) → w.y ≢ 0 → level P ≤ 3 → Leaves (level P - 1) (step_from P w i)
-  level_from P ne le = grind (arith, level_Q, taken_load, test_x, scan, slow_y)
 
   -- a step of a process other than the one that y names, which is about to enter its critical
   -- section
@@ -210,7 +172,7 @@ module _ (n p : ℕ) where
 
     level_next : w.y ≢ 0 → level (point_of w i) ≤ 3 →
         level (point_of (next w i) i) ≤ level (point_of w i) - 1
-    level_next ne le = grind (arith, level_from, there, pending_now)
+    level_next ne le = grind (arith, level_Q, taken_load, inside_Q, scan, there, pending_now)
 
     still_taken : w.y ≢ 0 → (next w i).y ≢ 0
     still_taken = taken_from (point_of w i) w i q.0 (λ h. c.0.outside (i, h))
@@ -318,10 +280,6 @@ clear_level P h = grind arith
 
 level-ne-Rest : (P : At) → level P ≤ 3 → P ≢ Rest
 level-ne-Rest P h e = let le = subst (λ a. level a ≤ 3) e h in absurd (omega arith)
-
--- so there are at least two processes
-pub spent_two : (n p la lb : ℕ) (w : State) → Pending n p w → la ≤ 3 → lb ≤ 3 → Spent la lb w → 2 ≤ n
-spent_two n p la lb w c fa fb s = grind arith
 
 -- two processes with one step left keep the sum low
 pub spent_sum : (n p : ℕ) (w : State) → Pending n p w → NoneLeaves w → Spent 0 1 w →
