@@ -178,7 +178,7 @@ module _ (n i : ℕ) (p : IsProcess n i) where
   rest_is P h = grind arith
 
   zero_y : (w : State) → IsSound n w → begun_count w ≤ 0 → w.y ≡ 0
-  zero_y w s le = grind (arith, cases_eq, begun_some)
+  zero_y w s le = grind (arith, begun_some)
 
   can_from : (c : ℕ) → Fewer c
   can_from zero w s le = alone_in n i w s p (zero_y w s le) (rest_is (point_of w i) (begun_some w i le))

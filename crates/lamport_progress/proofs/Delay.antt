@@ -49,11 +49,7 @@ stays_out w (i ∷ is) = cond (is_inside (point_of (next w i) i)) false (stays_o
 
 has_contains : (i : ℕ) (is : List ℕ) → has i is ≡ true → Contains is i
 has_contains i [] e = absurd (true≢false (sym e))
-has_contains i (j ∷ js) e = elim (eqb_tells j i) [
-  | inl h ↦ (0, omega arith, h.1)
-  | inr h ↦ contains_later js i j
-      (has_contains i js (sym (ap (λ b. cond b true (has i js)) h.0) ∙ e))
-]
+has_contains i (j ∷ js) e = grind (arith, eqb_tells, contains_later, has_contains i js)
 
 covers_steps : (k : ℕ) (w : State) (is : List ℕ) → covers k w is ≡ true → (i : ℕ) → IsProcess k i →
     point_of w i ≢ Rest → Contains is i

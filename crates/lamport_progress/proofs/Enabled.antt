@@ -100,7 +100,7 @@ module _ (w : State) (s : IsSafe w) where
 
   -- at a point that waits neither for y nor for a flag
   pub free_enabled : (i : ℕ) (P : At) → point_of w i ≡ P → IsBegunFree w.y P → ((j : ℕ) → P ≢ Scan j) → IsEnabled w i
-  free_enabled i P at h f = grind (arith, goes_on, of-with_same, eq-eqb, steady_enabled)
+  free_enabled i P at h f = grind (arith, goes_on, of-with_same, steady_enabled)
 
   enabled_from : (i : ℕ) (P : At) → point_of w i ≡ P → IsBegunFree w.y P → EnabledProcess w
   enabled_from i P at h =

@@ -2,8 +2,6 @@
 -- unchanged, or lowers the measure.
 use Rattle.std.proofs.Common.{◌≡◌, ◌==◌, ◌<◌, ◌⊎◌, ℕ, Bool, List, length, refl, sym, ap, subst, inl, inr, arith}
 use Rattle.std.specs.List.{sum_by}
-use Rattle.std.proofs.Math.ListN.{set}
-use Rattle.std.proofs.lemmas.Bool.Decides.{eqb_tells}
 use Rattle.std.proofs.lemmas.Bool.{ne_eqb}
 use Rattle.std.proofs.lemmas.List.{set-get_or}
 use Rattle.lamport_core.specs.State.{State, IsProcess, IsInside, IsInsidePoint, process_count, point_of, next, step_from, with_process, with_point, with_flag, of_process}
@@ -16,7 +14,7 @@ use Rattle.lamport_core.specs.declared.At.{At}
 use Rattle.lamport_core.specs.declared.At.TheVariants.{Rest}
 
 pub with-of : {A : Type 0} (d : A) (xs : List A) (i : ℕ) (a : A) → of_process d xs i ≡ a → with_process xs i a ≡ xs
-with-of d xs i a e = grind (arith, set, set-get_or)
+with-of d xs i a e = grind (arith, set-get_or)
 
 -- what such a step can change in w
 abbrev pub Outcome : State → State → Type 0
@@ -28,7 +26,7 @@ module _ (w : State) (i : ℕ) (s : IsSafe w) (p : IsProcess (process_count w) i
 
   -- process i moves from P to Q, and y does not change
   goes : (P Q : At) → point_of w i ≡ P → rank (w.y == 0) (process_count w) Q < rank (w.y == 0) (process_count w) P → sum_by (rank (w.y == 0) (process_count w)) (with_process w.points i Q) < measure w
-  goes P Q at less = grind (arith, rank, total_less, there)
+  goes P Q at less = grind (arith, total_less, there)
 
   flagged : (P Q : At) (v : Bool) → point_of w i ≡ P → free_rank (process_count w) Q < free_rank (process_count w) P → taken_rank (process_count w) Q < taken_rank (process_count w) P → Outcome w (with_point (with_flag w i v) i Q)
   flagged P Q v at f t = inr ((subst (λ n. sum_by (rank (w.y == 0) n) (with_process w.points i Q) < measure w) (sym (length-with w.flags i v)) (goes P Q at (lower (w.y == 0) (process_count w) P Q f t))))
@@ -41,22 +39,7 @@ module _ (w : State) (i : ℕ) (s : IsSafe w) (p : IsProcess (process_count w) i
 
   outcome_from : (P : At) → point_of w i ≡ P → IsPoint (process_count w) P → (IsInsidePoint P → ⊥) → Outcome w (step_from P w i)
   outcome_from P at h out =
-      grind (
-        arith,
-        flagged,
-        goes,
-        lower,
-        rank,
-        waits,
-        measure,
-        ne_eqb,
-        total_less,
-        taken_rank,
-        there,
-        taken-le-rank,
-        moved,
-        eqb_tells,
-      )
+      grind (arith, flagged, goes, lower, waits, ne_eqb, total_less, there, taken-le-rank, moved)
 
   pub outcome : (IsInside w i → ⊥) → Outcome w (next w i)
   outcome out = outcome_from (point_of w i) refl (s.safe.point i) out

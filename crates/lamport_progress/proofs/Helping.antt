@@ -1,8 +1,6 @@
 -- How each step changes the measure of fair rounds, and which processes are helpful.
 use Rattle.std.proofs.Common.{◌≡◌, ◌≢◌, ◌<◌, ◌≤◌, ◌⊎◌, ℕ, suc, Bool, false, List, length, refl, sym, subst, inl, inr, arith}
 use Rattle.std.specs.List.{sum_by}
-use Rattle.std.proofs.lemmas.Bool.{cases_eq, eq-eqb, ne_eqb}
-use Rattle.std.proofs.lemmas.Bool.Decides.{eqb_tells}
 use Rattle.lamport_core.specs.State.{State, IsProcess, IsInside, IsInsidePoint, process_count, point_of, flag_of, next, step_from, with_process, with_point, with_flag, of_process, after_Scan}
 use Rattle.lamport_core.specs.Safe.{IsSafe, IsPoint}
 use Rattle.lamport_core.proofs.Worlds.{of-with_same, of-with_other, length-with}
@@ -70,7 +68,7 @@ module _ (w : State) (i : ℕ) (s : IsSafe w) (q : IsProcess (process_count w) i
 
   term_at_most : (f : At → ℕ) (P Q : At) (k : ℕ) → point_of w i ≡ P → f Q ≤ f P →
       f (of_process Rest (after Q) k) ≤ f (point_of w k)
-  term_at_most f P Q k at le = grind (arith, cases_eq, of-with_same, there, of-with_other)
+  term_at_most f P Q k at le = grind (arith, of-with_same, there, of-with_other)
 
   sum_at_most : (f : At → ℕ) (P Q : At) → point_of w i ≡ P → f Q ≤ f P →
       sum_by f (after Q) ≤ sum_by f w.points
@@ -110,52 +108,19 @@ module _ (w : State) (i : ℕ) (s : IsSafe w) (q : IsProcess (process_count w) i
 
   scan : (j : ℕ) (f : Bool) → IsProcess (process_count w) j → point_of w i ≡ Scan j →
       Effect w i (with_point w i (after_Scan (process_count w) j f))
-  scan j f r at = grind (arith, quiet, eqb_tells)
+  scan j f r at = grind (arith, quiet)
 
   effect_from : (P : At) → point_of w i ≡ P → IsPoint (process_count w) P →
       (IsInsidePoint P → ⊥) → Effect w i (step_from P w i)
   effect_from P at h out =
-      grind (
-        arith,
-        strict_flag,
-        ne_eqb,
-        quiet,
-        scan,
-        enters,
-        less_to,
-        sum_less,
-        storing,
-        clear,
-        owner-le,
-        storing_count,
-        owner_full,
-      )
+      grind (arith, strict_flag, quiet, scan, enters, less_to, sum_less, owner-le, owner_full)
 
   effect : (IsInside w i → ⊥) → Effect w i (next w i)
   effect out = effect_from (point_of w i) refl (s.safe.point i) out
 
   help : Helps w i → Help w i (next w i)
-  help h0 =
-      grind (
-        arith,
-        less_to,
-        ne_eqb,
-        strict_flag,
-        sum_less,
-        storing,
-        clear,
-        owner-le,
-        storing_count,
-        owner_full,
-        enters,
-        eqb_tells,
-        of-with_same,
-        there,
-        sum_at_most,
-        owner_lower,
-        scan_rank,
-        eq-eqb,
-      )
+  help (inl b) = grind (arith, less_to, strict_flag, sum_less, owner-le, owner_full, enters)
+  help (inr l) = grind (arith, enters, of-with_same, there, sum_at_most, owner_lower)
 
 -- a process other than i still helps after a quiet step of i
 helps_on : (w v : State) (j : ℕ) → Quiet w v → point_of v j ≡ point_of w j → Helps w j → Helps v j

@@ -36,7 +36,7 @@ module _ (n p i : ℕ) (w : State) (c : Pending n p w) (q : IsProcess n i) where
   line = next_line w i c.sound.safe (subst (λ m. IsProcess m i) (sym c.sound.counts) q)
 
   still_out : (IsInsidePoint (point_of (next w i) i) → ⊥) → IsOccupied (next w i) → ⊥
-  still_out out h = grind (arith, cases_eq, others_next)
+  still_out out h = grind (arith, others_next)
 
   still_entering : (IsInsidePoint (point_of (next w i) i) → ⊥) → IsEntering (point_of (next w i) p)
   still_entering out = elim (cases_eq p i) [

@@ -2,7 +2,7 @@
 -- Leaving.
 use Rattle.std.proofs.Common.{◌≡◌, ◌≢◌, ◌<◌, ◌≤◌, ◌-◌, ◌⊎◌, ℕ, suc, List, [], ◌∷◌, length, sym, subst, inl, inr, arith}
 use Rattle.std.specs.List.{Contains}
-use Rattle.std.proofs.lemmas.Bool.{cases_eq, cases_lt, eq-eqb}
+use Rattle.std.proofs.lemmas.Bool.{cases_eq}
 use Rattle.lamport_core.specs.State.{State, IsProcess, IsSchedule, IsInside, IsInsidePoint, point_of, next, run, with_process, of_process}
 use Rattle.lamport_core.specs.Safe.{IsSafe}
 use Rattle.lamport_core.proofs.Worlds.{of-with_same}
@@ -65,14 +65,13 @@ due_on f i j m w is ne h7 = grind (arith, others_next, contains_head)
 -- and so it is after a fair round
 pub due_now : (f : At → ℕ) (j m : ℕ) (w : State) (is : List ℕ) → IsSafe w → IsFairRound w is →
     (0 < f (point_of w j) → IsSteady (point_of w j)) → f (point_of w j) ≤ suc m → Due f j m w is
-due_now f j m w is s r steady le = grind (arith, cases_lt, steady-ne-Rest, steady_enabled)
+due_now f j m w is s r steady le = grind (arith, steady-ne-Rest, steady_enabled)
 
 module _ (n p : ℕ) where
   pub taken_run : (is : List ℕ) (w : State) → StaysPending n p w is → IsSchedule n is → w.y ≢ 0 →
       (run w is).y ≢ 0
   taken_run [] w c s ne = ne
-  taken_run (i ∷ is) w c s ne = taken_run is (next w i) c.1 s.1
-      (taken_from (point_of w i) w i s.0.0 (λ h. c.0.outside (i, h)) ne)
+  taken_run (i ∷ is) w c s ne = grind (arith, taken_from, taken_run is)
 
   pub pending_now : (is : List ℕ) (w : State) → StaysPending n p w is → Pending n p w
   pending_now [] w c = c
@@ -84,7 +83,7 @@ module _ (n p : ℕ) where
 
   pub settles_next : (i : ℕ) (is : List ℕ) (w : State) → StaysPending n p w (i ∷ is) → IsProcess n i →
       w.y ≡ 0 → ((next w i).y ≢ 0) ⊎ (unsettled (point_of (next w i) i) ≤ unsettled (point_of w i) - 1)
-  settles_next i is w c q z = grind (arith, at_Q, eq-eqb, inside_Q, pending_now)
+  settles_next i is w c q z = grind (arith, at_Q, inside_Q, pending_now)
 
   settles_run : (j m : ℕ) (is : List ℕ) (w : State) → StaysPending n p w is → IsSchedule n is →
       Due unsettled j m w is → ((run w is).y ≢ 0) ⊎ (unsettled (point_of (run w is) j) ≤ m)

@@ -153,7 +153,7 @@ module _ (w : State) (i : ℕ) (there : IsProcess (length w.points) i) where
 
   -- and its own step
   first_enters : IsFirst w → w.y ≡ i → IsInside (next w i) i
-  first_enters f e = grind (arith, eq-eqb, inside_Q)
+  first_enters f e = grind (arith, inside_Q)
 
 level_steady : (P : At) → level P ≤ 3 → 0 < level P → IsSteady P
 level_steady P le lt = grind arith
@@ -178,7 +178,7 @@ module _ (n p : ℕ) where
     still_taken = taken_from (point_of w i) w i q.0 (λ h. c.0.outside (i, h))
 
     level_on : (j m : ℕ) → m ≤ 3 → w.y ≢ 0 → level (point_of w j) ≤ m → level (point_of (next w i) j) ≤ m
-    level_on j m few ne le = grind (arith, cases_eq, others_next, level_next)
+    level_on j m few ne le = grind (arith, others_next, level_next)
 
     spent_on : Spent 2 3 w → w.y ≢ 0 → Spent 2 3 (next w i)
     spent_on s ne = grind (arith, level_on)
@@ -273,7 +273,7 @@ module _ (n p : ℕ) where
   pub taken_round : (is : List ℕ) (w : State) → StaysPending n p w is → IsSchedule n is →
       IsFairRound w is → w.y ≢ 0 → Taken w → Spent 1 2 (run w is)
   taken_round is w c s r ne h6 =
-      grind (arith, spent_round, IsSteady, first_run, steady-ne-Rest, steady_enabled, pending_now)
+      grind (arith, spent_round, first_run, steady-ne-Rest, steady_enabled, pending_now)
 
 clear_level : (P : At) → level P ≤ 3 → clear P ≤ level P
 clear_level P h = grind arith

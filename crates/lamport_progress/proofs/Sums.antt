@@ -1,7 +1,6 @@
 -- Sums over the processes when one of them moves to another point.
 use Rattle.std.proofs.Common.{◌<◌, ◌≤◌, ◌≢◌, ◌+◌, ◌*◌, refl, ℕ, zero, suc, List, [], ◌∷◌, length, get_or, ap, ◌≡◌, arith}
 use Rattle.std.specs.List.{sum_by}
-use Rattle.std.proofs.lemmas.Bool.{cases_lt}
 use Rattle.std.proofs.lemmas.List.{get_or_past}
 use Rattle.std.proofs.Math.ListN.{set}
 use Rattle.std.proofs.lemmas.List.Sums.{sum_by-cons, sum_by-le-sum_by, get_or-le-sum_by}
@@ -69,4 +68,4 @@ total_at_most f ps i Q p l = grind (arith, set_at_most)
 
 -- the term of each number, whether or not it is that of a process, is at most the sum
 pub term-le-total : (f : At → ℕ) (ps : List At) (i : ℕ) → f Rest ≡ 0 → f (of_process Rest ps i) ≤ sum_by f ps
-term-le-total f ps i e = grind (arith, cases_lt, get_or-le-sum_by, get_or_past)
+term-le-total f ps i e = grind (arith, get_or-le-sum_by, get_or_past)

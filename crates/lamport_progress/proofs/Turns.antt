@@ -1,5 +1,5 @@
 -- A round robin is a fair round from each world. But fair rounds can starve a process.
-use Rattle.std.proofs.Common.{◌≡◌, ◌≢◌, ◌≤◌, ◌⊎◌, ℕ, zero, suc, false, List, [], ◌∷◌, ◌++◌, replicate, refl, sym, ◌∙◌, subst, inl, inr, arith}
+use Rattle.std.proofs.Common.{◌≡◌, ◌≢◌, ◌≤◌, ◌⊎◌, ℕ, zero, suc, false, List, [], ◌∷◌, ◌++◌, replicate, refl, sym, subst, inl, inr, arith}
 use Rattle.std.proofs.lemmas.Bool.{cases_eq}
 use Rattle.std.proofs.lemmas.List.{length-replicate}
 use Rattle.std.proofs.lemmas.List.Elements.{All-replicate}
@@ -30,11 +30,7 @@ schedule_round_robin n (suc k) le = ((omega arith, le), schedule_round_robin n k
 turns : (n k : ℕ) (w : State) → IsSafe w → process_count w ≡ n → AreFairRounds n w (replicate k (round_robin n))
 turns n zero w s e = tt
 turns n (suc k) w s e =
-    let all = schedule_round_robin n n (omega arith) in (
-      all,
-      (λ i ne go. contains_round_robin n i (subst (λ m. IsProcess m i) e (s.safe.process i ne))),
-      turns n k (run w (round_robin n)) (run_safe w (round_robin n) s (subst (λ m. IsSchedule m (round_robin n)) (sym e) all)) (count-run w (round_robin n) ∙ e),
-    )
+    grind (arith, schedule_round_robin, contains_round_robin, run_safe, count-run, turns n k)
 
 pub round_robin_enters : (n : ℕ) (w : State) (i : ℕ) → Reach n w → IsEntering (point_of w i) → Enters w (concat (replicate (round_bound n) (round_robin n)))
 round_robin_enters n w i r on =

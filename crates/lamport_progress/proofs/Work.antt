@@ -59,7 +59,7 @@ steps_lead n (i ∷ is) w s p b lt = elim (one_step n w i s p.0) [
 ]
 
 pub work : (n : ℕ) (w : State) (is : List ℕ) → IsSound n w → IsSchedule n is → NeverWaits w is → work_bound n < length is → LeadsInside w is
-work n w is s p b lt = grind (arith, measure, measure-le, steps_lead)
+work n w is s p b lt = grind (arith, measure-le, steps_lead)
 
 rest_or_not : (p : At) → (p ≡ Rest) ⊎ (p ≢ Rest)
 rest_or_not p = grind arith
