@@ -6,4 +6,6 @@ pub mod Printing
 pub mod Likewise
 pub mod Starting
 pub mod Reporting
+pub mod Passing
 pub mod Persisting
+pub mod UsedAlone

@@ -1,5 +1,7 @@
 -- Equivalent stages remain equivalent under each choice.
 use Rattle.std.proofs.Common.{◌≡◌, inl, inr, ℕ, zero, suc, ◌+◌, ◌≤◌, ◌<◌, ◌==◌, Bool, true, false, ◌&&◌, ◌||◌, List, [], ◌∷◌, ◌++◌, length, slice_set, eqb-true, Option, Some, None, is_some, is_none, slice_get, refl, ap, sym, ◌∙◌, subst, arith, if◌then◌else◌, Vec, nat_lt, not}
+use Rattle.std.specs.Prelude.{drop}
+use Rattle.std.specs.List.{list_any}
 use Rattle.std.specs.Option.{option_and_then, option_map, unwrap_or}
 use Rattle.std.specs.declared.alloc.Global.{Global}
 use Rattle.std.proofs.lemmas.Option.{slice_get_within}
@@ -33,7 +35,7 @@ use Rattle.script_orders.specs.Scenes.{Scene, after_call, after_step, close_firs
 use Rattle.script_orders.specs.Turns.{Turned, after_line, after_turn, scene_of, turned}
 use Rattle.script_orders.specs.Stage.{Stage, after_phase, first_stage, in_next_phase, is_phase_over, next_stage, none_can_turn, one_waits, replies, seats_cleared, stands_still, observed, turn_of, wait_line_of, wait_of, wait_text, waiting_lines, waits, with_turn}
 use Rattle.script_orders.specs.StageLaws.{next-first}
-use Rattle.script_orders.specs.Likeness.{AreStagesAlike, IsStageKey, one_receives, receives, receives_from, seat_code, stage_code, step_receives, will_receive, with_past}
+use Rattle.script_orders.specs.Likeness.{AreStagesAlike, IsStageKey, is_to_come, one_receives, receives, receives_from, seat_code, stage_code, step_receives, will_receive, with_past}
 use Rattle.script_orders.specs.declared.plan.Planned.{Planned}
 use Rattle.script_orders.specs.declared.plan.Step.{Step}
 use Rattle.script_orders.specs.declared.plan.Step.TheVariants as steps
@@ -166,13 +168,13 @@ any-here [] n next e r = absurd (cc)
 any-here (planned ∷ program) zero next e r = let same : planned ≡ next = cc in rw (ap (λ (l : Planned). step_receives l.step) same ∙ r) refl
 any-here (planned ∷ program) (suc n) next e r = any-here program n next e r
 
-any-later : (program : List Planned) (m n : ℕ) → m ≤ n → receives_from program n ≡ true → receives_from program m ≡ true
-any-later [] m zero le r = absurd (cc)
-any-later [] m (suc n) le r = absurd (cc)
-any-later (planned ∷ program) zero zero le r = r
-any-later (planned ∷ program) zero (suc n) le r = split (step_receives planned.step) (λ t. rw t refl) (λ f. rw f (any-later program zero n (omega arith) r))
-any-later (planned ∷ program) (suc m) zero le r = absurd (omega (arith, le))
-any-later (planned ∷ program) (suc m) (suc n) le r = any-later program m n (omega (arith, le)) r
+any-later : (is_such : Planned → Bool) (program : List Planned) (m n : ℕ) → m ≤ n → list_any is_such (drop n program) ≡ true → list_any is_such (drop m program) ≡ true
+any-later is_such [] m zero le r = absurd (cc)
+any-later is_such [] m (suc n) le r = absurd (cc)
+any-later is_such (planned ∷ program) zero zero le r = r
+any-later is_such (planned ∷ program) zero (suc n) le r = split (is_such planned) (λ t. rw t refl) (λ f. rw f (any-later is_such program zero n (omega arith) r))
+any-later is_such (planned ∷ program) (suc m) zero le r = absurd (omega (arith, le))
+any-later is_such (planned ∷ program) (suc m) (suc n) le r = any-later is_such program m n (omega (arith, le)) r
 
 one-of : (s : Stage) (n index : ℕ) → index < n → will_receive s index ≡ true → one_receives s n ≡ true
 one-of s zero index lt e = absurd (omega (arith, lt))
@@ -228,7 +230,7 @@ may-next s index program seat lt at sits next is = split (step_receives next.ste
     either-true false = refl
 
 -- how many lines the process at an index has begun
-abbrev begun_at : Stage → ℕ → ℕ
+abbrev pub begun_at : Stage → ℕ → ℕ
 begun_at s index = unwrap_or (option_map (λ (seat : Progress). seat.begun) (slice_get s.seats index)) 0
 
 turn_of-alike : (s : Stage) (past : Past) (index : ℕ) → length s.programs ≤ 32 → Agree (receives s) s.past past → AreBothAlike (TurnsAlike (receives s) (begun_at s index)) (turn_of s index) (turn_of (with_past s past) index)
@@ -289,37 +291,37 @@ set-none (x ∷ xs) (suc c) zero t e = absurd (cc)
 set-none (x ∷ xs) (suc c) (suc i) t e = set-none xs c i t e
 
 -- what the process at an index has to come is less after its turn
-begun-set : (s : Stage) (choice k : ℕ) (t : Turned) (from : ℕ) → from ≡ begun_at s choice → from ≤ t.progress.begun → will_receive (with_turn s choice t) k ≡ true → will_receive s k ≡ true
-begun-set s choice k t from at later h = by (slice_get s.programs k) refl h
+pub begun-set : (is_such : Planned → Bool) (s : Stage) (choice k : ℕ) (t : Turned) (from : ℕ) → from ≡ begun_at s choice → from ≤ t.progress.begun → is_to_come is_such (with_turn s choice t) k ≡ true → is_to_come is_such s k ≡ true
+begun-set is_such s choice k t from at later h = by (slice_get s.programs k) refl h
   where
     seats-after : List Progress
     seats-after = slice_set s.seats choice t.progress
 
     after-by : (program : Vec Planned Global) (seat : Progress) → slice_get s.seats k ≡ Some seat → (o : Option Progress) → slice_get seats-after k ≡ o →
-        unwrap_or (option_map (λ (p : Progress). receives_from program.items p.begun) o) false ≡ true → receives_from program.items seat.begun ≡ true
+        unwrap_or (option_map (λ (p : Progress). list_any is_such (drop p.begun program.items)) o) false ≡ true → list_any is_such (drop seat.begun program.items) ≡ true
     after-by program seat is None now g = absurd (cc)
     after-by program seat is (Some p) now g = elim (set-cases s.seats choice k t.progress p now) [
       | inl same ↦ (
           let begun : begun_at s choice ≡ seat.begun = ap (λ (o : Option Progress). unwrap_or (option_map (λ (p : Progress). p.begun) o) 0) (ap (slice_get s.seats) (sym same.0) ∙ is) in
-          let r : receives_from program.items t.progress.begun ≡ true = ap (λ (q : Progress). receives_from program.items q.begun) (sym same.1) ∙ g in
-          any-later program.items seat.begun t.progress.begun (omega (arith, at, begun, later)) r)
+          let r : list_any is_such (drop t.progress.begun program.items) ≡ true = ap (λ (q : Progress). list_any is_such (drop q.begun program.items)) (sym same.1) ∙ g in
+          any-later is_such program.items seat.begun t.progress.begun (omega (arith, at, begun, later)) r)
       | inr old ↦ (
           let some : Some seat ≡ Some p = sym is ∙ old in
           let one : seat ≡ p = cc in
-          ap (λ (q : Progress). receives_from program.items q.begun) one ∙ g)
+          ap (λ (q : Progress). list_any is_such (drop q.begun program.items)) one ∙ g)
     ]
 
     seat-by : (program : Vec Planned Global) (o : Option Progress) → slice_get s.seats k ≡ o →
-        unwrap_or (option_map (λ (seat : Progress). receives_from program.items seat.begun) (slice_get seats-after k)) false ≡ true →
-        unwrap_or (option_map (λ (seat : Progress). receives_from program.items seat.begun) o) false ≡ true
+        unwrap_or (option_map (λ (seat : Progress). list_any is_such (drop seat.begun program.items)) (slice_get seats-after k)) false ≡ true →
+        unwrap_or (option_map (λ (seat : Progress). list_any is_such (drop seat.begun program.items)) o) false ≡ true
     seat-by program None is g =
         let none : slice_get seats-after k ≡ None = set-none s.seats choice k t.progress is in
         let bad : false ≡ true = rw none at g in absurd (cc)
     seat-by program (Some seat) is g = after-by program seat is (slice_get seats-after k) refl g
 
     by : (o : Option (Vec Planned Global)) → slice_get s.programs k ≡ o →
-        unwrap_or (option_and_then (λ (program : Vec Planned Global). option_map (λ (seat : Progress). receives_from program.items seat.begun) (slice_get seats-after k)) o) false ≡ true →
-        unwrap_or (option_and_then (λ (program : Vec Planned Global). option_map (λ (seat : Progress). receives_from program.items seat.begun) (slice_get s.seats k)) o) false ≡ true
+        unwrap_or (option_and_then (λ (program : Vec Planned Global). option_map (λ (seat : Progress). list_any is_such (drop seat.begun program.items)) (slice_get seats-after k)) o) false ≡ true →
+        unwrap_or (option_and_then (λ (program : Vec Planned Global). option_map (λ (seat : Progress). list_any is_such (drop seat.begun program.items)) (slice_get s.seats k)) o) false ≡ true
     by None is g = absurd (cc)
     by (Some program) is g = seat-by program (slice_get s.seats k) refl g
 
@@ -330,7 +332,7 @@ turns-next s past choice (Some t) (Some u) few alike = record {
   few = few;
   differ = ap (λ (progress : Progress). with_turn s choice (let next : Turned = record { past = u.past; progress = progress } in next)) alike.progress;
   journals = weaken (receives s) (receives (with_turn s choice t)) t.past u.past
-      (fewer-receive s (with_turn s choice t) (length s.programs) (λ k h. begun-set s choice k t (begun_at s choice) refl alike.later h)) alike.past;
+      (fewer-receive s (with_turn s choice t) (length s.programs) (λ k h. begun-set (λ planned. step_receives planned.step) s choice k t (begun_at s choice) refl alike.later h)) alike.past;
 }
 turns-next s past choice None (Some u) few alike = absurd alike
 turns-next s past choice (Some t) None few alike = absurd alike

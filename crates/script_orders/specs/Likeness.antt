@@ -27,10 +27,14 @@ step_receives Exit = false
 abbrev pub receives_from : List Planned → ℕ → Bool
 receives_from program begun = list_any (λ planned. step_receives planned.step) (drop begun program)
 
+-- whether there is such a line among those that the process at an index has not begun
+abbrev pub is_to_come : (Planned → Bool) → Stage → ℕ → Bool
+is_to_come is_such s index =
+    unwrap_or (option_and_then (λ (program : Vec Planned Global). option_map (λ (seat : Progress). list_any is_such (drop seat.begun program.items)) (slice_get s.seats index)) (slice_get s.programs index)) false
+
 -- whether the process at an index will make a receive that it has not begun
 abbrev pub will_receive : Stage → ℕ → Bool
-will_receive s index =
-    unwrap_or (option_and_then (λ (program : Vec Planned Global). option_map (λ (seat : Progress). receives_from program.items seat.begun) (slice_get s.seats index)) (slice_get s.programs index)) false
+will_receive = is_to_come (λ planned. step_receives planned.step)
 
 -- whether one of the first n processes will
 abbrev pub one_receives : Stage → ℕ → Bool

@@ -1,6 +1,7 @@
 //! Every interleaving of the calls of a script.
 #![tactic(auto)]
 
+pub mod alone;
 pub mod keys;
 pub mod orders;
 pub mod plan;

@@ -4,9 +4,11 @@ ghost use Rattle.mq_model.specs.Legality.{Legal};
 ghost use Rattle.script_orders.specs.Likeness.{receives, receives_from, step_receives, will_receive};
 ghost use Rattle.script_orders.specs.Orders.{AreLegal};
 ghost use Rattle.script_orders.specs.Stage.{first_stage, fresh, is_phase_over, next_stage, none_can_turn, one_waits, replies, seats_cleared, turn_of, wait_line_of, wait_of, waiting_lines, with_turn};
+ghost use Rattle.script_orders.specs.Persistence.{IsNextOn, MayCollect, UsesAlone, others_will_use, will_use};
 ghost use Rattle.std.specs.Option.{option_map};
-ghost use Rattle.std.specs.Prelude.{◌≡◌, ◌≤◌, ◌<◌, ◌+◌, ◌^◌, [], ◌++◌, IfOk, OnOk, IsTrue, IsFalse, Some, None, is_some, length, replicate, vec_len, map};
+ghost use Rattle.std.specs.Prelude.{◌≡◌, ◌≤◌, ◌<◌, ◌+◌, ◌^◌, [], ◌++◌, IfOk, IfSome, OnOk, IsTrue, IsFalse, Some, None, is_some, length, replicate, vec_len, map};
 
+use crate::alone::{lines_may_use, starts_on};
 use crate::keys::push_seats;
 use crate::plan::{Planned, Step};
 use crate::turn::{Seat, can_turn, turn};
@@ -480,19 +482,87 @@ impl Keyed for Play {
     }
 }
 
-// A collect is persistent: it commutes with each step of another process.
-impl PersistentChoices for Play {
-    ghost use Rattle.script_orders.specs.Persistence.{MayCollect};
-
-    ghost IsPersistent = { MayCollect };
-
-    fn persistent(&self) -> Option<u32> {
+impl Play {
+    // A process that waits and can take a step: it collects.
+    fn collecting(&self) -> Option<u32>
+        ensures { IfSome result (MayCollect self.now) }
+    {
         for index in 0..self.programs.len() {
             if self.trail.waits(index as u32 + 1) && self.can_turn(index) {
                 return Some(index as u32);
             }
         }
         None
+    }
+
+    // The queue on which the process at an index sends or receives next, if it can.
+    fn next_on(&self, index: usize) -> Option<u64>
+        requires { index < length self.now.programs }
+        ensures { IfSome result (IsNextOn self.now index) }
+    {
+        starts_on(
+            &self.trail,
+            &self.seats[index],
+            self.phase,
+            index as u32 + 1,
+            &self.programs[index],
+        )
+    }
+
+    // Whether the process at an index may still use queue q in this phase.
+    fn will_use(&self, q: u64, index: usize) -> bool
+        requires { index < length self.now.programs }
+        ensures { result ≡ will_use self.now q index }
+    {
+        lines_may_use(
+            &self.trail,
+            self.phase,
+            index as u32 + 1,
+            q,
+            &self.programs[index],
+            self.seats[index].begun(),
+        )
+    }
+
+    // Whether a process other than the one at an index may.
+    fn others_will_use(&self, q: u64, index: usize) -> bool
+        ensures { result ≡ others_will_use self.now q index (length self.now.programs) }
+    {
+        let mut used = false;
+        for other in 0..self.programs.len() {
+            if !used && other != index && self.will_use(q, other) {
+                used = true;
+            }
+        }
+        used
+    }
+
+    // A process that can send or receive next on a queue that no other will use in this phase.
+    fn alone(&self) -> Option<u32>
+        ensures { IfSome result (UsesAlone self.now) }
+    {
+        for index in 0..self.programs.len() {
+            match self.next_on(index) {
+                Some(queue) if !self.others_will_use(queue, index) => return Some(index as u32),
+                _ => {}
+            }
+        }
+        None
+    }
+}
+
+// A collect is persistent: it commutes with each step of another process. So is a send or a receive
+// on a queue that no other process will use in the phase.
+impl PersistentChoices for Play {
+    ghost use Rattle.script_orders.specs.Persistence.{IsPersistent};
+
+    ghost IsPersistent = { IsPersistent };
+
+    fn persistent(&self) -> Option<u32> {
+        match self.collecting() {
+            Some(index) => Some(index),
+            None => self.alone(),
+        }
     }
 
     fn choices_commute(&self) {
