@@ -6,6 +6,7 @@ pub mod Printing
 pub mod Likewise
 pub mod Starting
 pub mod Reporting
+pub mod Phasing
 pub mod Passing
 pub mod Persisting
 pub mod UsedAlone

@@ -9,6 +9,7 @@ pub mod StageLaws
 pub mod Saves
 pub mod PlayModel
 pub mod Report
+pub mod Phased
 pub mod Orders
 pub mod Likeness
 pub mod Persistence

@@ -4,6 +4,7 @@
 pub mod alone;
 pub mod keys;
 pub mod orders;
+pub mod phased;
 pub mod plan;
 pub mod play;
 pub mod readback;

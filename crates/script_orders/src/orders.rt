@@ -8,8 +8,10 @@ ghost use Rattle.schedules.specs.Outcomes.{AreAll, AreDistinct, IsWitness};
 ghost use Rattle.schedules.specs.Work.{TakesAll};
 ghost use Rattle.script_text.specs.Script.{Whole, said_script};
 ghost use Rattle.script_orders.specs.Orders.{AreLegal, Begins, BeginsAfter, HasMade};
+ghost use Rattle.script_orders.specs.Phased.{AreInOrder};
 ghost use Rattle.script_orders.specs.Stage.{Stage, choice_count, first_stage, next_stage, stands_still, observed, turn_of};
 
+use crate::phased::in_phases;
 use crate::plan::programs_of;
 use crate::play::Play;
 use mq_model::journals::Journal;
@@ -37,8 +39,8 @@ pub fn play_after(alloc: Global, script: &Script<'_>, journal: Journal) -> Resul
 
 /// Tries every interleaving of the calls of a script, in at most `budget` steps, and collects the
 /// outcomes: for each phase the replies, or that it deadlocks, with the lines whose calls wait for
-/// ever. Equal outcomes are collected once. The journal of each interleaving is legal. Fails if
-/// memory was refused.
+/// ever. Equal outcomes are collected once, and stand in the order of phases. The journal of each
+/// interleaving is legal. Fails if memory was refused.
 pub fn outcomes_of(alloc: Global, play: &mut Play, budget: u64) -> Result<Collected, AllocError>
     ensures witnessed { IfOk result (λ c.
         All (IsWitness next_stage stands_still observed (first_stage play.old)) c.found.items) }
@@ -47,11 +49,14 @@ pub fn outcomes_of(alloc: Global, play: &mut Play, budget: u64) -> Result<Collec
         AreAll next_stage stands_still observed (first_stage play.old) c.found.items) }
     ensures used_up { IfOk result (λ c. c.complete ≡ false →
         TakesAll next_stage choice_count (λ depth. 1) budget (first_stage play.old)) }
+    ensures in_order { IfOk result (λ c. AreInOrder c.found.items) }
     ensures legal { AreLegal (first_stage play.old) }
     ensures start { OnOk result (first_stage play.new ≡ first_stage play.old) }
 {
     play.stays_legal();
-    collect(alloc, play, budget)
+    let Collected { found, complete } = collect(alloc, play, budget)?;
+    let found = in_phases(alloc, found)?;
+    Ok(Collected { found, complete })
 }
 
 /// If a process neither waits nor can take a step, after a schedule from the start of a script, it
