@@ -107,3 +107,84 @@ every order was tried
 fn late_receive_waits_for_ever(rt: HostRuntime) -> Result<(), Fail> {
     prints(&rt, rt.alloc(), DEADLOCK, u64::MAX, DEADLOCK_ORDERS)
 }
+
+// Each process uses a queue of its own after the first phase.
+static OWN_QUEUES: &str = "processes 3
+1 open /a bc 2 8
+2 open /b bc 2 8
+3 open /c bc 2 8
+--
+1 send 0 0 x
+2 send 0 0 x
+3 send 0 0 x
+1 recv 0 8
+2 recv 0 8
+3 recv 0 8
+";
+
+static OWN_QUEUES_ORDERS: &str = "phase 1: outcomes 1, deadlocks 0
+outcome 1
+1 fd 0
+2 fd 0
+3 fd 0
+phase 2: outcomes 1, deadlocks 0
+outcome 2
+1 ok
+1 got 0 1 x
+2 ok
+2 got 0 1 x
+3 ok
+3 got 0 1 x
+every order was tried
+";
+
+// A call on a queue that no other process will use is tried alone: only the opens are tried in
+// several orders, so 39 steps suffice.
+#[test]
+fn calls_on_own_queues_are_tried_in_one_order(rt: HostRuntime) -> Result<(), Fail> {
+    prints(&rt, rt.alloc(), OWN_QUEUES, 39, OWN_QUEUES_ORDERS)
+}
+
+// Which process is first decides the outcome of the second phase, and then of the third.
+static TWO_RACES: &str = "processes 2
+1 open /q bc 10 8
+--
+2 open /q bn
+--
+1 send 0 0 a
+2 recv 0 8
+--
+1 send 0 0 b
+2 recv 0 8
+";
+
+static TWO_RACES_ORDERS: &str = "phase 1: outcomes 1, deadlocks 0
+outcome 1
+1 fd 0
+phase 2: outcomes 1, deadlocks 0
+outcome 2
+2 fd 0
+phase 3: outcomes 2, deadlocks 0
+outcome 3
+1 ok
+2 got 0 1 a
+outcome 4
+1 ok
+2 EAGAIN
+phase 4: outcomes 3, deadlocks 0
+outcome 5
+1 ok
+2 got 0 1 b
+outcome 6
+1 ok
+2 EAGAIN
+outcome 7
+1 ok
+2 got 0 1 a
+every order was tried
+";
+
+#[test]
+fn outcomes_are_numbered_phase_by_phase(rt: HostRuntime) -> Result<(), Fail> {
+    prints(&rt, rt.alloc(), TWO_RACES, u64::MAX, TWO_RACES_ORDERS)
+}
