@@ -1,18 +1,16 @@
 -- A send answers a waiting receive, and a receive a waiting send.
-use Rattle.std.proofs.Common.{◌≡◌, ℕ, ◌==◌, Bool, true, false, not, [], ◌∷◌, ◌++◌, length, Some, None, if◌then◌else◌, refl, sym, ◌∙◌, ap, subst, eqb-true, eq-eqb}
+use Rattle.std.proofs.Common.{arith, ◌≡◌, ℕ, ◌==◌, Bool, true, false, not, [], ◌∷◌, ◌++◌, length, Some, None, if◌then◌else◌, refl, sym, ◌∙◌, subst, eqb-true, eq-eqb}
 use Rattle.std.proofs.lemmas.Bool.{and_parts, eqb-false}
 use Rattle.mq_model.specs.Record.{Record, Past, record_at}
-use Rattle.mq_model.specs.Messages.{is_in, is_send, is_receive, least, blocks_send, blocks_receive, blocked_sends, blocked_receives, waiting_sends, waiting_receives, ended_sends, ended_receives}
+use Rattle.mq_model.specs.Messages.{is_in, is_send, is_receive, least, blocked_sends, blocked_receives, waiting_sends, waiting_receives, ended_sends, ended_receives}
 use Rattle.mq_model.specs.Waits.{open_wait, answered_by, names_wait}
 use Rattle.mq_model.specs.Legality.{Legal}
-use Rattle.mq_model.specs.Descriptors.{is_on}
 use Rattle.mq_model.specs.Owners.{blocked}
 use Rattle.mq_model.specs.declared.owners.WaitKind.{WaitKind}
 use Rattle.mq_model.specs.declared.owners.WaitKind.TheVariants.{Send, Receive}
 use Rattle.mq_model.specs.declared.entries.Call.{Call}
-use Rattle.mq_model.specs.declared.entries.Call.TheVariants.{MqOpen, MqClose, MqUnlink, MqSend, MqReceive, MqGetattr, MqSetattr, MqNotify, NextNotice, Collect, MqTimedSend, MqTimedReceive, Withdraw}
 use Rattle.mq_model.specs.declared.entries.Reply.{Reply}
-use Rattle.mq_model.specs.declared.entries.Reply.TheVariants.{Opened, Queued, Handed, Waits, Got, Collected, Attrs, Notice, Done, Refused, Withdrawn}
+use Rattle.mq_model.specs.declared.entries.Reply.TheVariants.{Handed}
 use Rattle.mq_model.proofs.Cases.{Says}
 use Rattle.mq_model.proofs.LegalReplies.{legal_says, got_says}
 use Rattle.mq_model.proofs.Places.{split, is_in-filter}
@@ -25,9 +23,7 @@ use Rattle.mq_model.proofs.Prefixes.{record_at-below}
 -- a record stays at its place
 pub record_at-more : (more past : Past) (k : ℕ) (r : Record) → record_at past k ≡ Some r → record_at (more ++ past) k ≡ Some r
 record_at-more [] past k r at = at
-record_at-more (x ∷ more) past k r at =
-    let old : record_at (more ++ past) k ≡ Some r = record_at-more more past k r at in
-    record_at-older (more ++ past) x k (record_at-below (more ++ past) k r old) ∙ old
+record_at-more (x ∷ more) past k r at = grind (arith, record_at-older, record_at-below, record_at-more more past k r at)
 
 -- a call that waits in this way
 abbrev is_of : WaitKind → Call → Bool
@@ -35,32 +31,10 @@ is_of Send call = is_send call
 is_of Receive call = is_receive call
 
 blocks-of : (s : WaitKind) (call : Call) (reply : Reply) → blocks s call reply ≡ true → is_of s call ≡ true
-blocks-of Send call Waits h = h
-blocks-of Receive call Waits h = h
-blocks-of Send call (Opened d c) h = absurd (cc)
-blocks-of Send call (Queued n) h = absurd (cc)
-blocks-of Send call (Handed w) h = absurd (cc)
-blocks-of Send call (Got m a n) h = absurd (cc)
-blocks-of Send call (Collected b) h = absurd (cc)
-blocks-of Send call (Withdrawn b) h = absurd (cc)
-blocks-of Send call (Attrs s) h = absurd (cc)
-blocks-of Send call (Notice v) h = absurd (cc)
-blocks-of Send call Done h = absurd (cc)
-blocks-of Send call (Refused f) h = absurd (cc)
-blocks-of Receive call (Opened d c) h = absurd (cc)
-blocks-of Receive call (Queued n) h = absurd (cc)
-blocks-of Receive call (Handed w) h = absurd (cc)
-blocks-of Receive call (Got m a n) h = absurd (cc)
-blocks-of Receive call (Collected b) h = absurd (cc)
-blocks-of Receive call (Withdrawn b) h = absurd (cc)
-blocks-of Receive call (Attrs s) h = absurd (cc)
-blocks-of Receive call (Notice v) h = absurd (cc)
-blocks-of Receive call Done h = absurd (cc)
-blocks-of Receive call (Refused f) h = absurd (cc)
+blocks-of s call reply h = grind arith
 
 newest-blocks : (past : Past) (x : Record) (s : WaitKind) (q : ℕ) → is_in (blocked (x ∷ past) s q) (length past) ≡ true → blocks s x.entry.call x.entry.reply ≡ true
-newest-blocks past x Send q h = (and_parts (blocks_send x.entry.call x.entry.reply) (is_on past x.entry q) (newest-send past x q h)).0
-newest-blocks past x Receive q h = (and_parts (blocks_receive x.entry.call x.entry.reply) (is_on past x.entry q) (newest-receive past x q h)).0
+newest-blocks past x s q h = grind (arith, and_parts, newest-send, newest-receive)
 
 -- a call that waits is of its kind
 blocked-of : (past : Past) (s : WaitKind) (q w : ℕ) (r : Record) → is_in (blocked past s q) w ≡ true → record_at past w ≡ Some r → is_of s r.entry.call ≡ true
@@ -84,52 +58,18 @@ waiting-send : (past : Past) (q w : ℕ) (r : Record) → least (waiting_sends p
 waiting-send past q w r first at = blocked-of past Send q w r (is_in-filter (λ j. not (is_in (ended_sends past) j)) (blocked_sends past q) w (least-in (waiting_sends past q) w first)).0 at
 
 pub no-receive : (call : Call) → is_send call ≡ true → is_receive call ≡ false
-no-receive (MqSend d prio len) h = refl
-no-receive (MqTimedSend d prio len until now) h = refl
-no-receive call h = absurd (cc)
+no-receive call h = grind arith
 
 pub no-send : (call : Call) → is_receive call ≡ true → is_send call ≡ false
-no-send (MqReceive d room) h = refl
-no-send (MqTimedReceive d room until now) h = refl
-no-send call h = absurd (cc)
+no-send call h = grind arith
 
 -- a call that hands a message over is a send
 handed-sends : (past : Past) (p : ℕ) (call : Call) (k : ℕ) → Says past p call (Handed k) → is_send call ≡ true
-handed-sends past p (MqSend d prio len) k says = refl
-handed-sends past p (MqTimedSend d prio len until now) k says = refl
-handed-sends past p (MqReceive d room) k says = absurd says.3
-handed-sends past p (MqTimedReceive d room until now) k says = absurd says.3
-handed-sends past p (MqOpen flags attr) k says = absurd says
-handed-sends past p (MqClose d) k says = absurd says.0
-handed-sends past p MqUnlink k says = absurd says
-handed-sends past p (MqGetattr d) k says = absurd says
-handed-sends past p (MqSetattr d nonblock) k says = absurd says
-handed-sends past p (MqNotify d value) k says = absurd says
-handed-sends past p NextNotice k says = absurd (cc)
-handed-sends past p Collect k says = absurd (cc)
-handed-sends past p (Withdraw now) k says = absurd (cc)
+handed-sends past p call k says = grind arith
 
 -- an entry that names a wait is a send if and only if the call that waits is a receive
 named-kind : (past : Past) (p : ℕ) (call : Call) (reply : Reply) (w : ℕ) (r : Record) → Says past p call reply → names_wait reply (Some w) ≡ true → record_at past w ≡ Some r → is_send call ≡ is_receive r.entry.call
-named-kind past p call (Handed k) w r says named at =
-    let same : k ≡ w = eqb-true _ _ named in
-    let first = hands-least past p call k says in
-    handed-sends past p call k says ∙ sym (waiting-receive past first.0 w r (first.1 ∙ ap Some same) at)
-named-kind past p call (Got m (Some k) n) w r says named at =
-    let same : k ≡ w = eqb-true _ _ named in
-    let first = admits-least past p call m (Some k) n says in
-    let got = got_says past p call m (Some k) n says in
-    no-send call got.3.0 ∙ sym (no-receive r.entry.call (waiting-send past first.0 w r (sym first.1 ∙ ap Some same) at))
-named-kind past p call (Got m None n) w r says named at = absurd (cc)
-named-kind past p call (Opened x y) w r says named at = absurd (cc)
-named-kind past p call (Queued n) w r says named at = absurd (cc)
-named-kind past p call Waits w r says named at = absurd (cc)
-named-kind past p call (Collected k) w r says named at = absurd (cc)
-named-kind past p call (Withdrawn k) w r says named at = absurd (cc)
-named-kind past p call (Attrs x) w r says named at = absurd (cc)
-named-kind past p call (Notice v) w r says named at = absurd (cc)
-named-kind past p call Done w r says named at = absurd (cc)
-named-kind past p call (Refused f) w r says named at = absurd (cc)
+named-kind past p call reply w r says named at = grind (arith, eqb-true, hands-least, handed-sends, waiting-receive, admits-least, got_says, no-send, no-receive, waiting-send)
 
 -- the entry that answers a wait
 pub record Answers (past : Past) (by : ℕ) (waiting : Call) : Type 0 where
@@ -143,12 +83,11 @@ answer-kind (s ∷ past) legal p w b r open_at answered at = split (s.entry.proc
     (λ own. let bad : None ≡ Some b = rw own at answered in absurd (cc))
     (λ other.
     let old_wait : open_wait past p ≡ Some w = rw other at open_at in
-    let rest : (if names_wait s.entry.reply (open_wait past p) then Some (length past) else answered_by past p) ≡ Some b = rw other at answered in
-    let rest' : (if names_wait s.entry.reply (Some w) then Some (length past) else answered_by past p) ≡ Some b = rw old_wait at rest in
+    let rest : (if names_wait s.entry.reply (Some w) then Some (length past) else answered_by past p) ≡ Some b = rw (other, old_wait) at answered in
     let old_at : record_at past w ≡ Some r = sym (record_at-older past s w (open_wait-below past p w old_wait)) ∙ at in
     split (names_wait s.entry.reply (Some w))
     (λ t.
-    let here : Some (length past) ≡ Some b = rw t at rest' in
+    let here : Some (length past) ≡ Some b = rw t at rest in
     let same : length past ≡ b = cc in
     let newest : record_at (s ∷ past) (length past) ≡ Some s = rw (eq-eqb (length past) (length past) refl) refl in
     record {
@@ -157,7 +96,7 @@ answer-kind (s ∷ past) legal p w b r open_at answered at = split (s.entry.proc
       kind = named-kind past s.entry.process s.entry.call s.entry.reply w r (legal_says past s legal.1) t old_at;
     })
     (λ f.
-    let old : answered_by past p ≡ Some b = rw f at rest' in
+    let old : answered_by past p ≡ Some b = rw f at rest in
     let before = answer-kind past legal.0 p w b r old_wait old old_at in
     record {
       answer = before.answer;

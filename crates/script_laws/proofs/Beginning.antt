@@ -1,5 +1,5 @@
 -- How the processes of a script begin.
-use Rattle.std.proofs.Common.{◌≡◌, ℕ, zero, suc, ◌+◌, ◌<◌, ◌≤◌, List, [], ◌∷◌, ◌++◌, length, map, None, replicate, refl, ap, sym, ◌∙◌, arith, Vec}
+use Rattle.std.proofs.Common.{◌≡◌, ℕ, zero, suc, ◌+◌, ◌<◌, ◌≤◌, List, [], ◌∷◌, ◌++◌, length, map, None, replicate, refl, ap, ◌∙◌, arith, Vec}
 use Rattle.std.specs.declared.alloc.Global.{Global}
 use Rattle.fast_mutex.specs.Items.{LockId, tickets_with}
 use Rattle.mq.specs.Calls.{bounds_in}
@@ -23,22 +23,14 @@ programs_from phases p (suc n) = program_of 0 phases p ∷ programs_from phases 
 
 one-more : (phases : List (List WrittenCall)) (p n : ℕ) → programs_from phases p (suc n) ≡ programs_from phases p n ++ program_of 0 phases (p + n) ∷ []
 one-more phases p zero = let e : p ≡ p + zero = omega arith in ap (λ (k : ℕ). program_of 0 phases k ∷ []) e
-one-more phases p (suc n) =
-    let e : suc p + n ≡ p + suc n = omega arith in
-    ap (λ (l : List (List Plan)). program_of 0 phases p ∷ l)
-    (one-more phases (suc p) n ∙ ap (λ (k : ℕ). programs_from phases (suc p) n ++ program_of 0 phases k ∷ []) e)
+one-more phases p (suc n) = grind (arith, one-more phases (suc p) n)
 
 pub in-order : (phases : List (List WrittenCall)) (n : ℕ) → programs_of phases n ≡ programs_from phases 1 n
 in-order phases zero = refl
-in-order phases (suc n) =
-    let e : n + 1 ≡ 1 + n = omega arith in
-    ap (λ (l : List (List Plan)). l ++ program_of 0 phases (n + 1) ∷ []) (in-order phases n)
-    ∙ (ap (λ (k : ℕ). programs_from phases 1 n ++ program_of 0 phases k ∷ []) e ∙ sym (one-more phases 1 n))
+in-order phases (suc n) = grind (arith, one-more, in-order phases n)
 
 begin-sit : (past : Past) (phases : List (List WrittenCall)) (lock : LockId) (p n : ℕ) (programs : List (Vec Planned Global)) → bounds_in lock.fixed ≡ None → ((q : ℕ) → p ≤ q → q < p + n → open_wait past q ≡ None) → map shown programs ≡ programs_from phases p n → AllSit 0 phases p programs (replicate n fresh) (tickets_with lock past p n)
 begin-sit past phases lock p zero [] unbounded free are = (refl, refl)
-begin-sit past phases lock p zero (program ∷ programs) unbounded free are = cc
-begin-sit past phases lock p (suc n) [] unbounded free are = cc
 begin-sit past phases lock p (suc n) (program ∷ programs) unbounded free are =
     let lines : map plan_of program.items ≡ program_of 0 phases p = cc in
     let rest : map shown programs ≡ programs_from phases (suc p) n = cc in (
@@ -51,6 +43,7 @@ begin-sit past phases lock p (suc n) (program ∷ programs) unbounded free are =
       record { number = refl; unbounded = unbounded; free = free p (omega arith) (omega arith); earlier = []; are = lines; count = refl; text = refl },
       begin-sit past phases lock (suc p) n programs unbounded (λ q low high. free q (omega (arith, low)) (omega (arith, high))) rest,
     )
+begin-sit past phases lock p n programs unbounded free are = cc
 
 pub all-begin : (past : Past) (phases : List (List WrittenCall)) (lock : LockId) (n : ℕ) (programs : List (Vec Planned Global)) → bounds_in lock.fixed ≡ None → NoneWaits past n → map shown programs ≡ programs_of phases n → AllSit 0 phases 1 programs (replicate n fresh) (tickets_with lock past 1 n)
 all-begin past phases lock n programs unbounded free are =

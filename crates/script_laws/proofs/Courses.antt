@@ -1,5 +1,5 @@
 -- Where the next move of a process is in the journal.
-use Rattle.std.proofs.Common.{◌≡◌, inl, inr, ℕ, ◌==◌, List, [], ◌∷◌, ◌++◌, refl, ap, sym, ◌∙◌, subst, append_assoc, Vec}
+use Rattle.std.proofs.Common.{arith, ◌≡◌, inl, inr, ℕ, ◌==◌, List, [], ◌∷◌, ◌++◌, refl, ap, sym, ◌∙◌, subst, append_assoc, Vec}
 use Rattle.std.specs.List.{All}
 use Rattle.std.specs.declared.alloc.Global.{Global}
 use Rattle.std.proofs.lemmas.List.{append_cancel_right}
@@ -9,8 +9,9 @@ use Rattle.mq.specs.Calls.{author}
 use Rattle.mq_model.specs.Record.{Past, Record}
 use Rattle.script_orders.specs.Progress.{Progress}
 use Rattle.script_orders.specs.declared.plan.Planned.{Planned}
+use Rattle.schedules.proofs.Backing.{all-front}
 use Rattle.script_laws.proofs.Course.{Course, Goes, Move}
-use Rattle.script_laws.proofs.Joins.{two-ends, by-last, same-last, all-left, all-last, both-empty, owns-last}
+use Rattle.script_laws.proofs.Joins.{two-ends, by-last, same-last, all-last, both-empty, owns-last}
 
 -- the journal from which a course begins is an earlier state of the one to which it leads
 pub course-end : (p phase : ℕ) (program : Vec Planned Global) (to : Past) (end : Progress) (moves : List Move) (from : Past) (progress : Progress) → Course p phase program to end moves from progress → (more : Past) × (to ≡ more ++ from)
@@ -24,11 +25,7 @@ course-end p phase program to end (move ∷ moves) from progress course =
 -- what follows the journal from which the course begins: the records that others add first, those
 -- of the move, and more
 pub first-move : (p phase : ℕ) (program : Vec Planned Global) (to : Past) (end : Progress) (move : Move) (moves : List Move) (from : Past) (progress : Progress) (course : Course p phase program to end (move ∷ moves) from progress) → (more : Past) × (to ≡ ((more ++ move.own) ++ course.0.others.behind) ++ from)
-first-move p phase program to end move moves from progress course =
-    let rest = course-end p phase program to end moves (move.own ++ move.found) move.next course.1 in
-    let others = course.0.others in
-    let found : move.own ++ move.found ≡ move.own ++ (others.behind ++ from) = ap (λ (l : Past). move.own ++ l) others.is in
-    (rest.0, rest.1 ∙ (ap (λ (l : Past). rest.0 ++ l) found ∙ sym (append_assoc (rest.0 ++ move.own) others.behind from ∙ append_assoc rest.0 move.own (others.behind ++ from))))
+first-move p phase program to end move moves from progress course = grind (arith, course-end, append_assoc)
 
 -- if p's records `own` come first, q's next move is found after them
 pub found-behind : (p q : ℕ) → (q ≡ p → ⊥) → (a own c mine others : Past) → All (λ r. author r ≡ p) own → All (λ r. author r ≡ q) mine → (mine ≡ [] → ⊥) → a ++ own ≡ (c ++ mine) ++ others → (w : Past) × (others ≡ w ++ own)
@@ -39,12 +36,10 @@ found-behind p q differ a own c mine others by_p by_q some h =
         | inr z ↦ elim (by-last mine) [
           | inl n ↦ absurd (some n)
           | inr n ↦
-              let sides : (c ++ n.0) ++ n.1 ∷ [] ≡ (a ++ z.0) ++ z.1 ∷ [] =
-              append_assoc c n.0 (n.1 ∷ []) ∙ (ap (λ (l : Past). c ++ l) (sym n.2) ∙ (e.2 ∙ (ap (λ (l : Past). a ++ l) z.2 ∙ sym (append_assoc a z.0 (z.1 ∷ [])))))
-              in
+              let sides : (c ++ n.0) ++ n.1 ∷ [] ≡ (a ++ z.0) ++ z.1 ∷ [] = append_assoc c n.0 (n.1 ∷ []) ∙ (rw (n.2, z.2) at e.2) ∙ sym (append_assoc a z.0 (z.1 ∷ [])) in
               let same : n.1 ≡ z.1 = same-last (c ++ n.0) (a ++ z.0) n.1 z.1 sides in
               let q_is : author n.1 ≡ q = all-last (λ r. author r ≡ q) n.0 n.1 (subst (λ (l : Past). All (λ r. author r ≡ q) l) n.2 by_q) in
-              let front : All (λ r. author r ≡ p) e.0 = all-left (λ r. author r ≡ p) e.0 others (subst (λ (l : Past). All (λ r. author r ≡ p) l) e.1 by_p) in
+              let front : All (λ r. author r ≡ p) e.0 = all-front (λ r. author r ≡ p) e.0 own others e.1 by_p in
               let p_is : author z.1 ≡ p = all-last (λ r. author r ≡ p) z.0 z.1 (subst (λ (l : Past). All (λ r. author r ≡ p) l) z.2 front) in
               absurd (differ (sym q_is ∙ (ap (λ (r : Record). author r) same ∙ p_is)))
         ]

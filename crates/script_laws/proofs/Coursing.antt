@@ -1,14 +1,11 @@
 -- The calls that a process made in a phase of a run are a course.
-use Rattle.std.proofs.Common.{◌≡◌, ◌≢◌, ℕ, ◌+◌, List, [], ◌∷◌, ◌++◌, length, map, None, refl, ap, sym, ◌∙◌, subst, append_assoc, append-nil, arith, Vec}
+use Rattle.std.proofs.Common.{◌≡◌, ◌≢◌, ℕ, ◌+◌, List, [], ◌∷◌, ◌++◌, length, map, refl, sym, subst, append_assoc, append-nil, arith, Vec}
 use Rattle.std.specs.List.{All}
 use Rattle.std.specs.declared.alloc.Global.{Global}
 use Rattle.std.proofs.lemmas.List.Elements.{All-head, All-tail}
 use Rattle.fast_mutex.specs.Items.{Ticket, Grows}
 use Rattle.mq.specs.Calls.{author}
-use Rattle.mq.proofs.Growing.{grows-on}
-use Rattle.mq.proofs.Others.{wait-grown}
 use Rattle.mq_model.specs.Record.{Past, Record}
-use Rattle.mq_model.specs.Waits.{open_wait}
 use Rattle.mq_model.specs.declared.entries.Call.TheVariants.{MqOpen, MqClose, MqUnlink, MqGetattr, MqSetattr, MqNotify, NextNotice}
 use Rattle.mq_model.specs.declared.entries.Deadline.{Deadline}
 use Rattle.mq_model.specs.declared.faults.Fault.TheVariants.{NoMemory}
@@ -28,7 +25,7 @@ use Rattle.script_text.specs.declared.reply.Outcome.{Outcome}
 use Rattle.script_text.specs.declared.reply.Outcome.TheVariants as outcomes
 use Rattle.text_io.specs.Words.{Word}
 use Rattle.script_laws.specs.RunLaws.{HadMemory}
-use Rattle.script_laws.proofs.Course.{AreLines, Course, Move}
+use Rattle.script_laws.proofs.Course.{AreLines, Course}
 use Rattle.script_laws.proofs.Lines.{IsNext, later-lines, next-line}
 use Rattle.script_laws.proofs.Moving.{Came, IsAt, Moved}
 use Rattle.script_laws.proofs.Performing.{exit-performs, named-moves, one-moves, receive-performs, send-performs, timed_receive-performs, timed_send-performs}
@@ -60,8 +57,7 @@ moved-as : (p phase : ℕ) (program : Vec Planned Global) (from : Past) (progres
     → Performs call.moment call.command (buffer_given call.command) completion.buffer.items old new completion.outcome
     → Moved p phase program from progress new (reply_line p completion.outcome completion.buffer.items)
 moved-as p phase program from progress old new call completion at memory next does =
-    let near : Grows author old.number from old.left [] = subst (λ (n : ℕ). Grows author n from old.left []) (sym at.number) at.near in
-    let own : IsAt old.number from old = record { number = refl; bounds = at.bounds; free = at.free; near = near } in
+    let own : IsAt old.number from old = record { number = refl; bounds = at.bounds; free = at.free; near = subst (λ (n : ℕ). Grows author n from old.left []) (sym at.number) at.near } in
     let moved = performed phase program from progress old new own call.moment call.command completion.buffer.items completion.outcome memory next does in
     subst (λ (n : ℕ). Moved n phase program from progress new (reply_line n completion.outcome completion.buffer.items)) at.number moved
 
@@ -79,28 +75,19 @@ pub came-through : (p phase : ℕ) (program : Vec Planned Global) (calls : List 
     → All HadMemory completions
     → Came p phase program from (record { begun = begun; text = text }) new (record { begun = begun + length calls; text = text ++ reply_lines p completions })
 came-through p phase program [] [] old new from begun text at lines ran memory =
-    let none : begun + 0 ≡ begun = omega arith in
-    let same : end_of p [] [] begun text ≡ record { begun = begun; text = text } =
-    ap (λ (n : ℕ). record { begun = n; text = text ++ [] }) none ∙ ap (λ (l : List ℕ). record { begun = begun; text = l }) (append-nil text)
-    in
+    let same : end_of p [] [] begun text ≡ record { begun = begun; text = text } = grind (arith, append-nil) in
     record {
       at = from;
       is = subst (λ (t : Ticket Record). IsAt p from t) (sym ran) at;
       goes = λ to end moves course. (moves, subst (λ (e : Progress). Course p phase program to end moves from e) same course);
     }
-came-through p phase program [] (a ∷ completions) old new from begun text at lines ran memory = absurd ran
-came-through p phase program (call ∷ calls) [] old new from begun text at lines ran memory = absurd ran
 came-through p phase program (call ∷ calls) (completion ∷ completions) old new from begun text at lines ran memory =
     let mid : Ticket Record = ran.0 in
     let line : List ℕ = reply_line p completion.outcome completion.buffer.items in
     let moved = moved-as p phase program from (record { begun = begun; text = text }) old mid call completion at (All-head HadMemory completion completions memory) (next-line phase program begun call calls lines) ran.1 in
     let rest = came-through p phase program calls completions mid new moved.at (begun + 1) (text ++ line) moved.is (later-lines phase program begun call calls lines) ran.2 (All-tail HadMemory completion completions memory) in
     let end : Progress = end_of p (call ∷ calls) (completion ∷ completions) begun text in
-    let count : begun + length (call ∷ calls) ≡ begun + 1 + length calls = omega arith in
-    let all : text ++ reply_lines p (completion ∷ completions) ≡ (text ++ line) ++ reply_lines p completions = sym (append_assoc text line (reply_lines p completions)) in
-    let same : end ≡ end_of p calls completions (begun + 1) (text ++ line) =
-    ap (λ (n : ℕ). record { begun = n; text = text ++ reply_lines p (completion ∷ completions) }) count ∙ ap (λ (l : List ℕ). record { begun = begun + 1 + length calls; text = l }) all
-    in
+    let same : end ≡ end_of p calls completions (begun + 1) (text ++ line) = grind (arith, append_assoc) in
     record {
       at = rest.at;
       is = rest.is;
@@ -108,12 +95,4 @@ came-through p phase program (call ∷ calls) (completion ∷ completions) old n
           let later = rest.goes to last moves (subst (λ (e : Progress). Course p phase program to last moves rest.at e) same course) in
           moved.goes to last later.0 later.1;
     }
-
--- if only other processes add records afterwards, they are a whole course
-pub course-of-calls : (p phase : ℕ) (program : Vec Planned Global) (from to : Past) (progress end : Progress) (new : Ticket Record)
-    → Came p phase program from progress new end → Grows author p new.left to [] → (moves : List Move) × Course p phase program to end moves from progress
-course-of-calls p phase program from to progress end new came after = came.goes to end [] (refl, grows-on came.is.near after)
-
--- after them the process has no open wait
-pub free-at-end : (p : ℕ) (at to : Past) (new : Ticket Record) → IsAt p at new → Grows author p new.left to [] → open_wait to p ≡ None
-free-at-end p at to new is after = wait-grown after ∙ (ap (λ (n : ℕ). open_wait new.left n) (sym is.number) ∙ is.free)
+came-through p phase program calls completions old new from begun text at lines ran memory = absurd ran

@@ -1,11 +1,10 @@
 -- In a phase whose calls are all made at the same time no wait is withdrawn.
-use Rattle.std.proofs.Common.{◌≡◌, ℕ, true, false, ◌&&◌, not, List, [], ◌∷◌, Option, Some, is_none, Result, refl, sym, ◌∙◌, subst, eq-eqb}
+use Rattle.std.proofs.Common.{arith, ◌≡◌, ℕ, true, false, List, [], ◌∷◌, Some, is_none, Result, refl, sym, ◌∙◌, eq-eqb}
 use Rattle.std.proofs.lemmas.Bool.{and_parts}
 use Rattle.fast_mutex.specs.Items.{Ticket, Grows}
 use Rattle.mq.specs.Calls.{Expired, author, recorded}
 use Rattle.mq.proofs.Others.{deadline-grown}
-use Rattle.mq_model.proofs.Places.{split}
-use Rattle.mq_model.specs.Deadlines.{deadline_of, has_passed, is_moment, is_over}
+use Rattle.mq_model.specs.Deadlines.{deadline_of, has_passed, is_over}
 use Rattle.mq_model.specs.ErrorOrder.{timed_reply}
 use Rattle.mq_model.specs.Legality.{Legal, payload_of, reply_to}
 use Rattle.mq_model.specs.Record.{Past, Record}
@@ -14,30 +13,15 @@ use Rattle.mq_model.specs.declared.entries.Call.{Call}
 use Rattle.mq_model.specs.declared.entries.Call.TheVariants.{MqTimedReceive, MqTimedSend, Withdraw}
 use Rattle.mq_model.specs.declared.entries.Deadline.{Deadline}
 use Rattle.mq_model.specs.declared.entries.Reply.{Reply}
-use Rattle.mq_model.specs.declared.entries.Reply.TheVariants.{Opened, Queued, Handed, Waits, Got, Collected, Attrs, Notice, Done, Refused, Withdrawn}
+use Rattle.mq_model.specs.declared.entries.Reply.TheVariants.{Waits, Withdrawn}
 use Rattle.mq_model.specs.declared.faults.Fault.{Fault}
-use Rattle.mq_model.specs.declared.faults.Fault.TheVariants.{Invalid, TimedOut}
 use Rattle.script_laws.proofs.Moving.{IsAt, stood}
 use Rattle.script_laws.proofs.Splitting.{stands}
 use Rattle.script_laws.proofs.Waiting.{legal-grown}
 
 -- a timed call waits only if its deadline has not passed
 timed-waits : (until now : Deadline) (reply : Reply) → timed_reply until now reply ≡ Waits → has_passed until now ≡ false
-timed-waits until now Waits is = split (not (is_moment until))
-    (λ yes. let bad : Refused Invalid ≡ Waits = rw yes at is in absurd (cc))
-    (λ no. split (has_passed until now)
-    (λ over. let bad : Refused TimedOut ≡ Waits = rw (no, over) at is in absurd (cc))
-    (λ left. left))
-timed-waits until now (Opened d c) is = absurd (cc)
-timed-waits until now (Queued n) is = absurd (cc)
-timed-waits until now (Handed w) is = absurd (cc)
-timed-waits until now (Got m a n) is = absurd (cc)
-timed-waits until now (Collected b) is = absurd (cc)
-timed-waits until now (Withdrawn b) is = absurd (cc)
-timed-waits until now (Attrs s) is = absurd (cc)
-timed-waits until now (Notice v) is = absurd (cc)
-timed-waits until now Done is = absurd (cc)
-timed-waits until now (Refused f) is = absurd (cc)
+timed-waits until now reply is = grind arith
 
 -- if this timed call waits, its deadline has not passed
 pub record IsTimed (call : Call) (until now : Deadline) : Type 0 where
@@ -59,16 +43,10 @@ never-expires {R} from old new call given until now moment result at timed made 
     let end : Record = recorded p (Withdraw x.now) [] (Withdrawn x.wait) in
     let s = stood old x.begun from call given Waits at refl x.begins.calls x.begins.found in
     let open_at : has_passed until now ≡ false = timed.waits s.found p (payload_of call Waits given) (sym s.next.reply) in
-    let number : x.begun.number ≡ p = x.begins.calls.number in
-    let grows : Grows author p x.begun.left new.left (end ∷ []) = subst (λ (n : ℕ). Grows author n x.begun.left new.left (end ∷ [])) number x.ends.grows in
-    let grown : Grows author p (wait ∷ s.found) new.left (end ∷ []) = subst (λ (l : Past). Grows author p l new.left (end ∷ [])) s.is grows in
+    let grown : Grows author p (wait ∷ s.found) new.left (end ∷ []) = rw (x.begins.calls.number, s.is) at x.ends.grows in
     let e = stands author p end (wait ∷ s.found) new.left grown in
     let legal : Legal (end ∷ e.found) = legal-grown p (end ∷ e.found) new.left e.later x.calls.legal in
-    let may : (is_none (answered_by e.found p) && is_over (wait_deadline e.found p) x.now) ≡ true = legal.1.turn in
-    let over : is_over (wait_deadline e.found p) x.now ≡ true = (and_parts (is_none (answered_by e.found p)) (is_over (wait_deadline e.found p) x.now) may).1 in
+    let over : is_over (wait_deadline e.found p) x.now ≡ true = (and_parts (is_none (answered_by e.found p)) (is_over (wait_deadline e.found p) x.now) legal.1.turn).1 in
     let begun : wait_deadline (wait ∷ s.found) p ≡ deadline_of call = rw (eq-eqb p p refl) refl in
     let deadline : wait_deadline e.found p ≡ Some until = deadline-grown e.others ∙ begun ∙ timed.deadline in
-    let same : x.now ≡ now = x.moment ∙ sym made in
-    let passed : has_passed until now ≡ true = subst (λ (n : Deadline). has_passed until n ≡ true) same (subst (λ (o : Option Deadline). is_over o x.now ≡ true) deadline over) in
-    let bad : true ≡ false = sym passed ∙ open_at in
-    cc
+    grind (arith, x.moment, made)

@@ -1,5 +1,5 @@
 -- The journal that a process left is an earlier state of each that it leaves later.
-use Rattle.std.proofs.Common.{◌≡◌, inl, inr, ℕ, Bool, true, false, List, [], ◌∷◌, ◌++◌, length, Option, Result, refl, ap, sym, ◌∙◌, subst, append_assoc, length-append, arith}
+use Rattle.std.proofs.Common.{◌⊎◌, ◌≡◌, inl, inr, ℕ, List, [], ◌∷◌, ◌++◌, length, Option, Result, refl, ap, sym, ◌∙◌, subst, append_assoc, length-append, arith}
 use Rattle.std.specs.List.{All, AllZip}
 use Rattle.std.proofs.lemmas.List.Elements.{All-head, All-tail}
 use Rattle.fast_mutex.specs.Items.{Grows, Ticket}
@@ -18,6 +18,7 @@ use Rattle.script_text.specs.declared.command.Command.TheVariants as command
 use Rattle.script_text.specs.declared.reply.Completion.{Completion}
 use Rattle.script_text.specs.declared.reply.Outcome.{Outcome}
 use Rattle.text_io.specs.Words.{Word}
+use Rattle.mq_model.proofs.Places.{split}
 use Rattle.script_laws.proofs.Joins.{two-ends}
 
 -- the journal is an earlier state of the other
@@ -38,62 +39,30 @@ by-same : (old new : Ticket Record) → new ≡ old → IsEnd old.left new.left
 by-same old new e = record { more = []; is = ap (λ (t : Ticket Record). t.left) e }
 
 named-grows : {A : Type 0} (says : Reply → Option (Result A Fault)) (shows : A → Outcome) (call : Call) (name : List ℕ) (old new : Ticket Record) (came : Outcome) → MakesNamed says shows call name old new came → IsEnd old.left new.left
-named-grows says shows call name old new came named =
-    let goes : (form short : Bool) → has_name_form name ≡ form → is_short name ≡ short → IsEnd old.left new.left =
-    λ form short. elim form as (λ form. has_name_form name ≡ form → is_short name ≡ short → IsEnd old.left new.left) [
-      | false ↦ (λ f s. by-same old new (named.invalid f).0)
-      | true ↦ elim short as (λ short. has_name_form name ≡ true → is_short name ≡ short → IsEnd old.left new.left) [
-        | false ↦ (λ f s. by-same old new (named.too_long f s).0)
-        | true ↦ (λ f s. let made = named.made (rw (f, s) refl) in by-calls old new _ made.called.calls)
-      ]
-    ]
-    in
-    goes (has_name_form name) (is_short name) refl refl
+named-grows says shows call name old new came named = split (has_name_form name)
+    (λ form. split (is_short name) (λ short. by-calls old new _ (named.made (rw (form, short) refl)).called.calls) (λ long. by-same old new (named.too_long form long).0))
+    (λ other. by-same old new (named.invalid other).0)
+
+either : {A B C : Type 0} → A ⊎ B → (A → C) → (B → C) → C
+either (inl a) first second = first a
+either (inr b) first second = second b
 
 pub performs-grows : (moment : Deadline) (c : Command Word) (before after : List ℕ) (old new : Ticket Record) (came : Outcome) → Performs moment c before after old new came → IsEnd old.left new.left
 performs-grows moment (command.Open name flags attr) before after old new came h = named-grows _ _ _ name old new came h
-performs-grows moment (command.Close d) before after old new came h = by-calls old new _ h.called.calls
 performs-grows moment (command.Unlink name) before after old new came h = named-grows _ _ _ name old new came h
-performs-grows moment (command.Send d prio message) before after old new came h =
-    elim h.called [
-      | inl one ↦ by-calls old new _ one.calls
-      | inr waits ↦ by-calls old new _ waits.waited.calls
-    ]
-performs-grows moment (command.Receive d room) before after old new came h =
-    elim h.called [
-      | inl one ↦ by-calls old new _ one.calls
-      | inr waits ↦ by-calls old new _ waits.waited.calls
-    ]
-performs-grows moment (command.TimedSend d prio until message) before after old new came h =
-    elim h.called.how [
-      | inl one ↦ by-calls old new _ one.calls
-      | inr later ↦ elim later [
-        | inl waits ↦ by-calls old new _ waits.waited.calls
-        | inr expires ↦ by-calls old new _ expires.calls
-      ]
-    ]
-performs-grows moment (command.TimedReceive d room until) before after old new came h =
-    elim h.called.how [
-      | inl one ↦ by-calls old new _ one.calls
-      | inr later ↦ elim later [
-        | inl waits ↦ by-calls old new _ waits.waited.calls
-        | inr expires ↦ by-calls old new _ expires.0.calls
-      ]
-    ]
-performs-grows moment (command.Getattr d) before after old new came h = by-calls old new _ h.called.calls
-performs-grows moment (command.Setattr d nonblock) before after old new came h = by-calls old new _ h.called.calls
-performs-grows moment (command.Notify d value) before after old new came h = by-calls old new _ h.called.calls
-performs-grows moment command.Notice before after old new came h = by-calls old new _ h.called.calls
-performs-grows moment command.Exit before after old new came h = by-calls old new _ h.called.calls
+performs-grows moment (command.Send d prio message) before after old new came h = either h.called (λ one. by-calls old new _ one.calls) (λ waits. by-calls old new _ waits.waited.calls)
+performs-grows moment (command.Receive d room) before after old new came h = either h.called (λ one. by-calls old new _ one.calls) (λ waits. by-calls old new _ waits.waited.calls)
+performs-grows moment (command.TimedSend d prio until message) before after old new came h = either h.called.how (λ one. by-calls old new _ one.calls) (λ later. either later (λ waits. by-calls old new _ waits.waited.calls) (λ expires. by-calls old new _ expires.calls))
+performs-grows moment (command.TimedReceive d room until) before after old new came h = either h.called.how (λ one. by-calls old new _ one.calls) (λ later. either later (λ waits. by-calls old new _ waits.waited.calls) (λ expires. by-calls old new _ expires.0.calls))
+performs-grows moment c before after old new came h = by-calls old new _ h.called.calls
 
 pub calls-grow : (calls : List WrittenCall) (completions : List Completion) (old new : Ticket Record) → RunsCalls calls completions old new → IsEnd old.left new.left
 calls-grow [] [] old new ran = by-same old new ran
-calls-grow [] (completion ∷ completions) old new ran = absurd ran
-calls-grow (call ∷ calls) [] old new ran = absurd ran
 calls-grow (call ∷ calls) (completion ∷ completions) old new ran =
     end-then old.left ran.0.left new.left
     (performs-grows call.moment call.command (buffer_given call.command) completion.buffer.items old ran.0 completion.outcome ran.1)
     (calls-grow calls completions ran.0 new ran.2)
+calls-grow calls completions old new ran = absurd ran
 
 -- the journal that each process left is an earlier state of the journal
 abbrev pub AreEnds : Past → List (Ticket Record) → Type 0
@@ -106,23 +75,20 @@ AllGrown before after = AllZip (λ old new. IsEnd old.left new.left) before afte
 
 ends-before : (journal : Past) (before after : List (Ticket Record)) → AllGrown before after → AreEnds journal after → AreEnds journal before
 ends-before journal [] [] grown ends = tt
-ends-before journal [] (new ∷ after) grown ends = absurd grown
-ends-before journal (old ∷ before) [] grown ends = absurd grown
 ends-before journal (old ∷ before) (new ∷ after) grown ends =
     (end-then old.left new.left journal grown.0 ends.0, ends-before journal before after grown.1 ends.1)
+ends-before journal before after grown ends = absurd grown
 
 found-grow : (n : ℕ) (ended between : List (Ticket Record)) → AllZip (FindsLength n) ended between → AllGrown ended between
 found-grow n [] [] found = tt
-found-grow n [] (new ∷ between) found = absurd found
-found-grow n (old ∷ ended) [] found = absurd found
 found-grow n (old ∷ ended) (new ∷ between) found = (by-calls old new [] found.0.calls, found-grow n ended between found.1)
+found-grow n ended between found = absurd found
 
 pub phase-grows : (calls : List WrittenCall) (before after : List (Ticket Record)) (text : List ℕ) → RunsPhase calls before after text → AllGrown before after
 phase-grows calls [] [] text ran = tt
-phase-grows calls [] (new ∷ after) text ran = absurd ran
-phase-grows calls (old ∷ before) [] text ran = absurd ran
 phase-grows calls (old ∷ before) (new ∷ after) text ran =
     (calls-grow (calls_of old.number calls) ran.0 old new ran.2, phase-grows calls before after ran.1 ran.4)
+phase-grows calls before after text ran = absurd ran
 
 -- before a phase, after which all processes acquired the lock once more
 pub phase-ends : (journal : Past) (n : ℕ) (before ended between : List (Ticket Record)) → AllGrown before ended → AllZip (FindsLength n) ended between → AreEnds journal between → AreEnds journal before
@@ -155,18 +121,13 @@ none-more (x ∷ w) a e = let k : ⊥ = omega (arith, e, length-append w a) in a
 
 -- two earlier states of the same length are equal
 end-by-length : (journal a b : Past) → IsEnd a journal → IsEnd b journal → length a ≡ length b → a ≡ b
-end-by-length journal a b x y same =
-    elim (two-ends x.more y.more a b (sym x.is ∙ y.is)) [
-      | inl e ↦ e.1 ∙ none-more e.0 b (ap (λ (l : Past). length l) (sym e.1) ∙ same)
-      | inr e ↦ sym (e.1 ∙ none-more e.0 a (ap (λ (l : Past). length l) (sym e.1) ∙ sym same))
-    ]
+end-by-length journal a b x y same = grind (arith, two-ends, none-more)
 
 all-one : (journal past : Past) (n : ℕ) (ended between : List (Ticket Record)) → IsEnd past journal → length past ≡ n → AllZip (FindsLength n) ended between → AreEnds journal between → AllLeft past between
 all-one journal past n [] [] end count found ends = tt
-all-one journal past n [] (new ∷ between) end count found ends = absurd found
-all-one journal past n (old ∷ ended) [] end count found ends = absurd found
 all-one journal past n (old ∷ ended) (new ∷ between) end count found ends =
     (end-by-length journal new.left past ends.0 end (found.0.count ∙ sym count), all-one journal past n ended between end count found.1 ends.1)
+all-one journal past n ended between end count found ends = absurd found
 
 -- the journal that all processes have after a phase that began with this one
 pub record Meeting (journal past : Past) (tickets : List (Ticket Record)) : Type 0 where
@@ -177,10 +138,8 @@ pub record Meeting (journal past : Past) (tickets : List (Ticket Record)) : Type
 
 pub meeting : (journal past : Past) (n : ℕ) (before ended between : List (Ticket Record)) → IsEnd past journal → AllLeft past before → AllGrown before ended → AllZip (FindsLength n) ended between → AreEnds journal between → Meeting journal past between
 meeting journal past n [] [] [] here left grown found ends = record { to = past; from = end-same past; end = here; all = tt }
-meeting journal past n [] [] (t ∷ between) here left grown found ends = absurd found
 meeting journal past n [] (new ∷ ended) between here left grown found ends = absurd grown
 meeting journal past n (old ∷ before) [] between here left grown found ends = absurd grown
-meeting journal past n (old ∷ before) (new ∷ ended) [] here left grown found ends = absurd found
 meeting journal past n (old ∷ before) (new ∷ ended) (t ∷ between) here left grown found ends =
     let one : IsEnd old.left t.left = end-then old.left new.left t.left grown.0 (by-calls new t [] found.0.calls) in
     record {
@@ -189,3 +148,4 @@ meeting journal past n (old ∷ before) (new ∷ ended) (t ∷ between) here lef
       end = ends.0;
       all = (refl, all-one journal t.left n ended between ends.0 found.0.count found.1 ends.1);
     }
+meeting journal past n before ended between here left grown found ends = absurd found

@@ -47,27 +47,16 @@ pub record Halts (p phase line : ℕ) (past to : Past) (r : Runner) : Type 0 whe
 -- the wait -----------------------------------------------------------------------------------------------------------------
 
 -- a call that waits is one move, if only other processes add records afterwards
-wait-course : (phase : ℕ) (program : Vec Planned Global) (from to : Past) (progress : Progress) (mid new : Ticket Record) (call : Call) (given : List ℕ)
-    → IsNext phase program progress.begun (steps.Call call) given → WaitsFor mid new call given
-    → IsAt mid.number from mid → Grows author mid.number new.left to []
-    → (moves : List Move) × Course mid.number phase program to (further progress []) moves from progress
-wait-course phase program from to progress mid new call given next waits at after =
-    let p : ℕ = mid.number in
-    let r : Record = recorded p call given Waits in
-    let s = stands author p r mid.left new.left waits.calls.grows in
-    let legal : Legal (r ∷ s.found) = legal-grown p (r ∷ s.found) new.left s.later waits.calls.legal in
-    let goes = wait-goes phase program p from s.found progress call given (at-free p from mid at) (grows-on at.near s.others) next legal.1 in
-    (record { found = s.found; own = r ∷ []; next = further progress [] } ∷ [], (goes, (refl, grows-on s.later after)))
-
--- of the process with this number
-wait-course-of : (p phase : ℕ) (program : Vec Planned Global) (from to : Past) (progress : Progress) (mid new : Ticket Record) (call : Call) (given : List ℕ)
+wait-course : (p phase : ℕ) (program : Vec Planned Global) (from to : Past) (progress : Progress) (mid new : Ticket Record) (call : Call) (given : List ℕ)
     → IsNext phase program progress.begun (steps.Call call) given → WaitsFor mid new call given
     → IsAt p from mid → Grows author p new.left to []
     → (moves : List Move) × Course p phase program to (further progress []) moves from progress
-wait-course-of p phase program from to progress mid new call given next waits at after =
-    let By : ℕ → Type 0 = λ k. IsAt k from mid → Grows author k new.left to [] → (moves : List Move) × Course k phase program to (further progress []) moves from progress in
-    let by_p : By p = subst By at.number (wait-course phase program from to progress mid new call given next waits) in
-    by_p at after
+wait-course p phase program from to progress mid new call given next waits at after =
+    let r : Record = recorded p call given Waits in
+    let s = stands author p r mid.left new.left (subst (λ (k : ℕ). Grows author k mid.left new.left (recorded k call given Waits ∷ [])) at.number waits.calls.grows) in
+    let legal : Legal (r ∷ s.found) = legal-grown p (r ∷ s.found) new.left s.later waits.calls.legal in
+    let goes = wait-goes phase program p from s.found progress call given (at-free p from mid at) (grows-on at.near s.others) next legal.1 in
+    (record { found = s.found; own = r ∷ []; next = further progress [] } ∷ [], (goes, (refl, grows-on s.later after)))
 
 -- the call in which a command waits
 pub record WaitsBy (moment : Deadline) (c : Command Word) (old new : Ticket Record) : Type 0 where
@@ -76,9 +65,6 @@ pub record WaitsBy (moment : Deadline) (c : Command Word) (old new : Ticket Reco
   pub waits : WaitsFor old new call (given_by c)
 
 pub waits-by : (moment : Deadline) (c : Command Word) (old new : Ticket Record) → Blocks moment c (buffer_given c) old new → WaitsBy moment c old new
-waits-by moment (command.Open name flags attr) old new blocks = absurd blocks
-waits-by moment (command.Close d) old new blocks = absurd blocks
-waits-by moment (command.Unlink name) old new blocks = absurd blocks
 waits-by moment (command.Send d prio message) old new blocks = record { call = MqSend d prio (length message); asks = refl; waits = blocks }
 waits-by moment (command.Receive d room) old new blocks =
     let same : room ≡ length (replicate room 0) = sym (length-replicate room 0) in
@@ -87,11 +73,7 @@ waits-by moment (command.TimedSend d prio until message) old new blocks = record
 waits-by moment (command.TimedReceive d room until) old new blocks =
     let same : room ≡ length (replicate room 0) = sym (length-replicate room 0) in
     record { call = MqTimedReceive d (length (replicate room 0)) until moment; asks = ap (λ (n : ℕ). steps.Call (MqTimedReceive d n until moment)) same; waits = blocks }
-waits-by moment (command.Getattr d) old new blocks = absurd blocks
-waits-by moment (command.Setattr d nonblock) old new blocks = absurd blocks
-waits-by moment (command.Notify d value) old new blocks = absurd blocks
-waits-by moment command.Notice old new blocks = absurd blocks
-waits-by moment command.Exit old new blocks = absurd blocks
+waits-by moment c old new blocks = absurd blocks
 
 -- one process --------------------------------------------------------------------------------------------------------------
 
@@ -112,9 +94,7 @@ last-lines phase program begun made later lines =
       before = lines.before ++ map (plan phase) made;
       rest = lines.rest;
       are = first.are ∙ sym (append_assoc lines.before (map (plan phase) made) (map (plan phase) later ++ lines.rest));
-      count =
-          let count = lines.count in
-          omega (arith, length-append lines.before (map (plan phase) made), length-map made (plan phase), count);
+      count = omega (arith, length-append lines.before (map (plan phase) made), length-map made (plan phase), lines.count);
     }
 
 pub record OneHalts (p phase line : ℕ) (past to : Past) (program : Vec Planned Global) (seat : Progress) : Type 0 where
@@ -136,14 +116,11 @@ one-halts phase calls phases n p line past to program seat old new process sits 
     let came = came-through p phase program made blocks.completions old mid past seat.begun seat.text at (first-lines phase program seat.begun made (blocks.call ∷ blocks.later) lines) blocks.ran memory in
     let progress : Progress = record { begun = seat.begun + length made; text = seat.text ++ reply_lines p blocks.completions } in
     let w = waits-by blocks.call.moment blocks.call.command mid new blocks.blocks in
-    let next : IsNext phase program progress.begun (steps.Call w.call) (given_by blocks.call.command) =
-    next-step phase program progress.begun (step_by blocks.call.moment blocks.call.command) (steps.Call w.call) (given_by blocks.call.command) w.asks (next-line phase program progress.begun blocks.call blocks.later last)
-    in
+    let next = next-step phase program progress.begun (step_by blocks.call.moment blocks.call.command) (steps.Call w.call) (given_by blocks.call.command) w.asks (next-line phase program progress.begun blocks.call blocks.later last) in
     let now : new.number ≡ p = w.waits.calls.number ∙ came.is.number in
-    let grown : Grows author p new.left process.left [] = subst (λ (k : ℕ). Grows author k new.left process.left []) now found.calls.grows in
-    let grows : Grows author p new.left to [] = subst (λ (l : Past). Grows author p new.left l []) after grown in
+    let grows : Grows author p new.left to [] = rw (now, after) at found.calls.grows in
     let end : Progress = further progress [] in
-    let wait = wait-course-of p phase program came.at to progress mid new w.call (given_by blocks.call.command) next w.waits came.is grows in
+    let wait = wait-course p phase program came.at to progress mid new w.call (given_by blocks.call.command) next w.waits came.is grows in
     let course = came.goes to end wait.0 wait.1 in
     record {
       end = end;

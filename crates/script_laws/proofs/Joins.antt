@@ -1,7 +1,7 @@
 -- Lists that are appended to each other.
-use Rattle.std.proofs.Common.{◌≡◌, ◌⊎◌, inl, inr, ℕ, ◌==◌, true, List, [], ◌∷◌, ◌++◌, refl, ap, sym, ◌∙◌, eq-eqb}
+use Rattle.std.proofs.Common.{arith, ◌≡◌, ◌⊎◌, inl, inr, ℕ, List, [], ◌∷◌, ◌++◌, refl, ap, sym, eq-eqb}
 use Rattle.std.specs.List.{All}
-use Rattle.std.proofs.lemmas.List.Elements.{All-nil, All-cons, All-head, All-tail, filter-append}
+use Rattle.std.proofs.lemmas.List.Elements.{All-head, All-tail, filter-append}
 use Rattle.fast_mutex.specs.Items.{items_of}
 
 -- of two suffixes of one list, one is a suffix of the other
@@ -34,10 +34,6 @@ same-last [] (d ∷ b) x y h = let e : b ++ y ∷ [] ≡ [] = cc in absurd (has-
 same-last (c ∷ a) [] x y h = let e : a ++ x ∷ [] ≡ [] = cc in absurd (has-last a x e)
 same-last (c ∷ a) (d ∷ b) x y h = same-last a b x y cc
 
-pub all-left : {A : Type 0} (P : A → Type 0) (xs ys : List A) → All P (xs ++ ys) → All P xs
-all-left P [] ys all = All-nil P
-all-left P (x ∷ xs) ys all = All-cons P x xs (All-head P x (xs ++ ys) all) (all-left P xs ys (All-tail P x (xs ++ ys) all))
-
 pub all-right : {A : Type 0} (P : A → Type 0) (xs ys : List A) → All P (xs ++ ys) → All P ys
 all-right P [] ys all = all
 all-right P (x ∷ xs) ys all = all-right P xs ys (All-tail P x (xs ++ ys) all)
@@ -51,9 +47,4 @@ both-empty (x ∷ xs) ys h = cc
 
 -- the last item is p's, so p has an item
 pub owns-last : {A : Type 0} (own : A → ℕ) (p : ℕ) (xs : List A) (x : A) → own x ≡ p → items_of own p (xs ++ x ∷ []) ≡ [] → ⊥
-owns-last {A} own p xs x is none =
-    let parts = both-empty (items_of own p xs) (items_of own p (x ∷ [])) (sym (filter-append (λ y. own y == p) xs (x ∷ [])) ∙ none) in
-    let e : (own x == p) ≡ true = eq-eqb (own x) p is in
-    let one : items_of own p (x ∷ []) ≡ x ∷ [] = rw e refl in
-    let k : x ∷ [] ≡ [] = sym one ∙ parts.1 in
-    cc
+owns-last {A} own p xs x is none = grind (arith, both-empty, filter-append, eq-eqb)

@@ -20,7 +20,6 @@ use Rattle.mq_model.specs.declared.faults.Fault.{Fault}
 use Rattle.script_orders.specs.Progress.{Progress}
 use Rattle.script_orders.specs.Said.{said}
 use Rattle.script_orders.specs.Scenes.{close_first}
-use Rattle.script_orders.specs.Turns.{after_turn}
 use Rattle.script_orders.specs.declared.plan.Planned.{Planned}
 use Rattle.script_orders.specs.declared.plan.Step.TheVariants as steps
 use Rattle.script_text.specs.Replies.{reply_line}
@@ -110,9 +109,7 @@ stay-moves phase program from progress old new call given line at next stay =
     let r : Record = recorded p call given reply in
     let free : open_wait found p ≡ None = wait-grown s.others ∙ at-free p from old at in
     let goes = call-goes found p call given reply progress s.next in
-    let turn : after_turn found phase p progress program ≡ Some (record { past = r ∷ found; progress = further progress (said (r ∷ found) p reply) }) =
-    turn-by-line found phase p progress program (steps.Call call) given (record { past = r ∷ found; text = progress.text ++ said (r ∷ found) p reply }) free next goes
-    in
+    let turn = turn-by-line found phase p progress program (steps.Call call) given (record { past = r ∷ found; text = progress.text ++ said (r ∷ found) p reply }) free next goes in
     let prints : said (r ∷ found) p reply ≡ line = ap (λ (past : Past). said past p reply) (sym s.is) ∙ stay.prints in
     let ended : open_wait (r ∷ found) p ≡ None = rw (eq-eqb p p refl, stay.ends) refl in
     moved-once p phase program from progress new line found (r ∷ [])
@@ -153,9 +150,7 @@ exit-by phase program from found progress old new given ds at next calls near ot
     let p : ℕ = old.number in
     let line : List ℕ = reply_line p outcomes.Done [] in
     let waits : open_wait found p ≡ None = wait-grown others ∙ at-free p from old at in
-    let turn : after_turn found phase p progress program ≡ Some (record { past = close_first found p 16; progress = further progress line }) =
-    turn-by-line found phase p progress program steps.Exit given (record { past = close_first found p 16; text = progress.text ++ line }) waits next refl
-    in
+    let turn = turn-by-line found phase p progress program steps.Exit given (record { past = close_first found p 16; text = progress.text ++ line }) waits next refl in
     moved-once p phase program from progress new line found (closes p ds)
     (record {
       number = calls.number;
@@ -185,7 +180,6 @@ exit-moves phase program from found progress old new given [] at next calls is i
     exit-by phase program from from progress old new given [] at next calls near (grows-none author p from) (exit-idles p from new.left near lowest) (λ none. refl)
 exit-moves phase program from found progress old new given (d ∷ ds) at next calls is in_turn none =
     let p : ℕ = old.number in
-    let all : Past = closes p (d ∷ ds) ++ found in
     let lowest : lowest_held (closes p (d ∷ ds) ++ found) p ≡ None = ap (λ (past : Past). lowest_held past p) (sym is) ∙ ap (λ (n : ℕ). lowest_held new.left n) (sym calls.number) ∙ none in
     let grown : Grows author p old.left (closes p (d ∷ ds) ++ found) (closes p (d ∷ ds)) = subst (λ (l : Past). Grows author p old.left l (closes p (d ∷ ds))) is calls.grows in
     let before : Grows author p old.left found [] = grows-before author p (closes p (d ∷ ds)) old.left found (all-closes p (d ∷ ds)) grown in

@@ -1,5 +1,5 @@
 -- What a process did for a line of a script is a sequence of moves.
-use Rattle.std.proofs.Common.{◌≡◌, ◌≢◌, ℕ, true, false, List, [], length, replicate, Option, Some, None, Result, Ok, Err, inl, inr, refl, ap, sym, ◌∙◌, subst, Vec}
+use Rattle.std.proofs.Common.{arith, ◌≡◌, ◌≢◌, ℕ, true, false, List, [], length, replicate, Option, Some, None, Result, Ok, Err, inl, inr, refl, ap, sym, ◌∙◌, subst, Vec}
 use Rattle.std.specs.Prelude.{◌⊎◌}
 use Rattle.std.specs.declared.alloc.Global.{Global}
 use Rattle.std.proofs.lemmas.List.{length-replicate}
@@ -10,16 +10,15 @@ use Rattle.mq_model.proofs.Places.{clash, split}
 use Rattle.mq_model.specs.Messages.{is_receive}
 use Rattle.mq_model.specs.Name.{has_name_form, is_name, is_short}
 use Rattle.mq_model.specs.Record.{Past, Record}
-use Rattle.mq_model.specs.Waits.{is_wait}
 use Rattle.mq_model.specs.declared.entries.Call.{Call}
 use Rattle.mq_model.specs.declared.entries.Call.TheVariants.{MqClose, MqSend, MqReceive, MqTimedSend, MqTimedReceive}
 use Rattle.mq_model.specs.declared.entries.Deadline.{Deadline}
 use Rattle.mq_model.specs.declared.entries.Received.{Received}
 use Rattle.mq_model.specs.declared.entries.Reply.{Reply}
-use Rattle.mq_model.specs.declared.entries.Reply.TheVariants.{Opened, Queued, Handed, Waits, Got, Collected, Attrs, Notice, Done, Refused, Withdrawn}
+use Rattle.mq_model.specs.declared.entries.Reply.TheVariants.{Refused}
 use Rattle.mq_model.specs.declared.faults.Fault.{Fault}
 use Rattle.mq_model.specs.declared.faults.Fault.TheVariants.{Invalid, NameTooLong, NoMemory}
-use Rattle.mq_state.specs.Buffers.{filled, message_at, received_at, with_front}
+use Rattle.mq_state.specs.Buffers.{filled}
 use Rattle.script_orders.specs.Plans.{named_step}
 use Rattle.script_orders.specs.Progress.{Progress}
 use Rattle.script_orders.specs.declared.plan.Planned.{Planned}
@@ -34,32 +33,13 @@ use Rattle.script_laws.proofs.Expiring.{never-expires, receive-timed, send-timed
 use Rattle.script_laws.proofs.Lines.{IsNext}
 use Rattle.script_laws.proofs.Moving.{IsAt, Moved, Stay, exit-moves, refusal-moves, stay-moves}
 use Rattle.script_laws.proofs.Saying.{Tells, receive-tells, send-tells}
-use Rattle.script_laws.proofs.Waiting.{received-prints, sent-prints, waited-moves}
+use Rattle.script_laws.proofs.Waiting.{received-prints, said-by, waited-moves}
 
 -- the next step, rewritten along an equality
 pub next-step : (phase : ℕ) (program : Vec Planned Global) (begun : ℕ) (step other : Step) (given : List ℕ) → step ≡ other → IsNext phase program begun step given → IsNext phase program begun other given
 next-step phase program begun step other given same next = subst (λ (s : Step). IsNext phase program begun s given) same next
 
 -- a call in one stay ------------------------------------------------------------------------------------------------------
-
-not-waiting : {R : Type 0} (says : Reply → Option R) (reply : Reply) (result : R) → says Waits ≡ None → says reply ≡ Some result → is_wait reply ≡ false
-not-waiting says Waits result none is = absurd (cc)
-not-waiting says (Opened d c) result none is = refl
-not-waiting says (Queued n) result none is = refl
-not-waiting says (Handed w) result none is = refl
-not-waiting says (Got m a n) result none is = refl
-not-waiting says (Collected b) result none is = refl
-not-waiting says (Withdrawn b) result none is = refl
-not-waiting says (Attrs s) result none is = refl
-not-waiting says (Notice v) result none is = refl
-not-waiting says Done result none is = refl
-not-waiting says (Refused f) result none is = refl
-
-wanting : {A : Type 0} (shows : A → Outcome) (result : Result A Fault) (o : Option (Result A Fault)) → o ≡ Some result → o ≡ Some (Err NoMemory) → outcome_by shows result ≡ outcomes.Refused NoMemory
-wanting {A} shows result o is none =
-    let both : Some result ≡ Some (Err NoMemory) = sym is ∙ none in
-    let same : result ≡ Err NoMemory = cc in
-    ap (λ (r : Result A Fault). outcome_by shows r) same
 
 pub stay-of : {A : Type 0} (says : Past → Reply → Option (Result A Fault)) (shows : A → Outcome) (buffer : Past → Reply → List ℕ) (old new : Ticket Record) (call : Call) (given : List ℕ) (reply : Reply) (result : Result A Fault)
     → Tells says shows buffer → bounds_in old.lock.fixed ≡ None → outcome_by shows result ≢ outcomes.Refused NoMemory
@@ -70,33 +50,23 @@ stay-of {A} says shows buffer old new call given reply result tells bounds memor
   calls = calls;
   found = found;
   entered = entered (bounds_of old) found.journal old.number call given reply bounds found.heeds
-      (λ is. memory (wanting shows result (says new.left reply) says_so (ap (λ (y : Reply). says new.left y) is ∙ tells.refuses new.left NoMemory)));
-  ends = not-waiting (says new.left) reply result (tells.waits new.left) says_so;
+      (λ is. memory (grind (arith, tells.refuses)));
+  ends = grind (arith, tells.waits);
   prints = tells.prints new.left old.number reply result says_so;
 }
 
 module _ (phase : ℕ) (program : Vec Planned Global) (from : Past) (progress : Progress) (old new : Ticket Record) (at : IsAt old.number from old) where
-  -- this is printed, rewritten along an equality
-  came-as : {A : Type 0} (shows : A → Outcome) (result : Result A Fault) (came : Outcome) (after : List ℕ) → came ≡ outcome_by shows result → Moved old.number phase program from progress new (reply_line old.number (outcome_by shows result) after)
-      → Moved old.number phase program from progress new (reply_line old.number came after)
-  came-as shows result came after is moved = subst (λ (o : Outcome). Moved old.number phase program from progress new (reply_line old.number o after)) (sym is) moved
-
   pub one-moves : {A : Type 0} (says : Reply → Option (Result A Fault)) (shows : A → Outcome) (call : Call) (given after : List ℕ) (came : Outcome)
       → Tells (λ _ reply. says reply) shows (λ _ _. after) → came ≢ outcomes.Refused NoMemory
       → IsNext phase program progress.begun (steps.Call call) given → Shows shows (OneCall says old new call given) came → Moved old.number phase program from progress new (reply_line old.number came after)
   one-moves says shows call given after came tells memory next x =
       let one = x.called in
       let stay = stay-of (λ _ reply. says reply) shows (λ _ _. after) old new call given one.reply x.result tells at.bounds (λ is. memory (x.outcome ∙ is)) one.calls one.found one.says_so in
-      came-as shows x.result came after x.outcome (stay-moves phase program from progress old new call given _ at next stay)
+      rw x.outcome (stay-moves phase program from progress old new call given _ at next stay)
 
   refused-moves : (fault : Fault) (given after : List ℕ) (came : Outcome) → IsNext phase program progress.begun (steps.Refusal fault) given → (new ≡ old) × (came ≡ outcomes.Refused fault)
       → Moved old.number phase program from progress new (reply_line old.number came after)
-  refused-moves fault given after came next x =
-      let moved : Moved old.number phase program from progress old (reply_line old.number (outcomes.Refused fault) after) = refusal-moves phase program from progress old fault given at next in
-      let same : Moved old.number phase program from progress new (reply_line old.number (outcomes.Refused fault) after) =
-      subst (λ (t : Ticket Record). Moved old.number phase program from progress t (reply_line old.number (outcomes.Refused fault) after)) (sym x.0) moved
-      in
-      subst (λ (o : Outcome). Moved old.number phase program from progress new (reply_line old.number o after)) (sym x.1) same
+  refused-moves fault given after came next x = rw (x.0, x.1) (refusal-moves phase program from progress old fault given at next)
 
   pub named-moves : {A : Type 0} (says : Reply → Option (Result A Fault)) (shows : A → Outcome) (call : Call) (name after : List ℕ) (came : Outcome)
       → Tells (λ _ reply. says reply) shows (λ _ _. after) → came ≢ outcomes.Refused NoMemory
@@ -121,67 +91,40 @@ module _ (phase : ℕ) (program : Vec Planned Global) (from : Past) (progress : 
 
   pub exit-performs : (given after : List ℕ) (came : Outcome) → came ≢ outcomes.Refused NoMemory
       → IsNext phase program progress.begun steps.Exit given → Shows (λ _. outcomes.Done) (Exits old new) came → Moved old.number phase program from progress new (reply_line old.number came after)
-  exit-performs given after came memory next x = came-as (λ _. outcomes.Done) x.result came after x.outcome (exit-of x.result given after (λ is. memory (x.outcome ∙ is)) next x.called)
+  exit-performs given after came memory next x = rw x.outcome (exit-of x.result given after (λ is. memory (x.outcome ∙ is)) next x.called)
 
   -- sends and receives --------------------------------------------------------------------------------------------------
 
-  sent-moves : (call : Call) (given after : List ℕ) (result : Result (Unit {0}) Fault) → outcome_by (λ _. outcomes.Done) result ≢ outcomes.Refused NoMemory
-      → IsNext phase program progress.begun (steps.Call call) given → OneCall send_says old new call given result → Moved old.number phase program from progress new (reply_line old.number (outcome_by (λ _. outcomes.Done) result) after)
-  sent-moves call given after result memory next one =
+  sent-moves : (call : Call) (given after : List ℕ) (result : Result (Unit {0}) Fault) → is_receive call ≡ false → outcome_by (λ _. outcomes.Done) result ≢ outcomes.Refused NoMemory
+      → IsNext phase program progress.begun (steps.Call call) given → OneCall send_says old new call given result ⊎ WaitedSend old new call given result
+      → Moved old.number phase program from progress new (reply_line old.number (outcome_by (λ _. outcomes.Done) result) after)
+  sent-moves call given after result kind memory next (inl one) =
       let stay = stay-of (λ _ reply. send_says reply) (λ _. outcomes.Done) (λ _ _. after) old new call given one.reply result (send-tells after) at.bounds memory one.calls one.found one.says_so in
       stay-moves phase program from progress old new call given _ at next stay
+  sent-moves call given after result kind memory next (inr x) =
+      rw x.is (waited-moves phase program from progress old new call given (reply_line old.number outcomes.Done []) x.by at next x.waited (λ past g answers. said-by false past old.number x.by call kind answers))
 
-  sent-later : (call : Call) (given after : List ℕ) (result : Result (Unit {0}) Fault) → is_receive call ≡ false
-      → IsNext phase program progress.begun (steps.Call call) given → WaitedSend old new call given result → Moved old.number phase program from progress new (reply_line old.number (outcome_by (λ _. outcomes.Done) result) after)
-  sent-later call given after result kind next x =
-      let moved : Moved old.number phase program from progress new (reply_line old.number outcomes.Done after) =
-      waited-moves phase program from progress old new call given (reply_line old.number outcomes.Done []) x.by at next x.waited (λ past g answers. sent-prints past old.number x.by call kind answers)
-      in
-      subst (λ (r : Result (Unit {0}) Fault). Moved old.number phase program from progress new (reply_line old.number (outcome_by (λ _. outcomes.Done) r) after)) (sym x.is) moved
-
-  received-moves : (call : Call) (before after : List ℕ) (result : Result Received Fault) → outcome_by outcomes.Got result ≢ outcomes.Refused NoMemory
-      → IsNext phase program progress.begun (steps.Call call) [] → ReceiveCall receive_says old new call before after result → Moved old.number phase program from progress new (reply_line old.number (outcome_by outcomes.Got result) after)
-  received-moves call before after result memory next x =
+  received-moves : (call : Call) (before after : List ℕ) (result : Result Received Fault) → is_receive call ≡ true → outcome_by outcomes.Got result ≢ outcomes.Refused NoMemory
+      → IsNext phase program progress.begun (steps.Call call) [] → ReceiveCall receive_says old new call before after result ⊎ WaitedReceive old new call before after result
+      → Moved old.number phase program from progress new (reply_line old.number (outcome_by outcomes.Got result) after)
+  received-moves call before after result kind memory next (inl x) =
       let stay = stay-of receive_says outcomes.Got (λ past reply. filled past reply before) old new call [] x.reply result (receive-tells before) at.bounds memory x.calls x.found x.says_so in
-      let moved : Moved old.number phase program from progress new (reply_line old.number (outcome_by outcomes.Got result) (filled new.left x.reply before)) = stay-moves phase program from progress old new call [] _ at next stay in
-      subst (λ (bytes : List ℕ). Moved old.number phase program from progress new (reply_line old.number (outcome_by outcomes.Got result) bytes)) (sym x.buffer) moved
-
-  received-later : (call : Call) (before after : List ℕ) (result : Result Received Fault) → is_receive call ≡ true
-      → IsNext phase program progress.begun (steps.Call call) [] → WaitedReceive old new call before after result → Moved old.number phase program from progress new (reply_line old.number (outcome_by outcomes.Got result) after)
-  received-later call before after result kind next x =
-      let moved : Moved old.number phase program from progress new (reply_line old.number (outcomes.Got (received_at new.left x.by)) (with_front (message_at new.left x.by) before)) =
-      waited-moves phase program from progress old new call [] _ x.by at next x.waited (λ past g answers. received-prints past new.left old.number x.by call before g kind answers)
-      in
-      let filled_so : Moved old.number phase program from progress new (reply_line old.number (outcomes.Got (received_at new.left x.by)) after) =
-      subst (λ (bytes : List ℕ). Moved old.number phase program from progress new (reply_line old.number (outcomes.Got (received_at new.left x.by)) bytes)) (sym x.buffer) moved
-      in
-      subst (λ (r : Result Received Fault). Moved old.number phase program from progress new (reply_line old.number (outcome_by outcomes.Got r) after)) (sym x.is) filled_so
-
-  send-by : (d prio : ℕ) (message after : List ℕ) (result : Result (Unit {0}) Fault) → outcome_by (λ _. outcomes.Done) result ≢ outcomes.Refused NoMemory
-      → IsNext phase program progress.begun (steps.Call (MqSend d prio (length message))) message → SendCall old new d message prio result
-      → Moved old.number phase program from progress new (reply_line old.number (outcome_by (λ _. outcomes.Done) result) after)
-  send-by d prio message after result memory next (inl x) = sent-moves (MqSend d prio (length message)) message after result memory next x
-  send-by d prio message after result memory next (inr x) = sent-later (MqSend d prio (length message)) message after result refl next x
+      rw x.buffer (stay-moves phase program from progress old new call [] _ at next stay)
+  received-moves call before after result kind memory next (inr x) =
+      rw (x.buffer, x.is) (waited-moves phase program from progress old new call [] _ x.by at next x.waited (λ past g answers. received-prints past new.left old.number x.by call before g kind answers))
 
   pub send-performs : (d prio : ℕ) (message after : List ℕ) (came : Outcome) → came ≢ outcomes.Refused NoMemory
       → IsNext phase program progress.begun (steps.Call (MqSend d prio (length message))) message → Shows (λ _. outcomes.Done) (SendCall old new d message prio) came
       → Moved old.number phase program from progress new (reply_line old.number came after)
   send-performs d prio message after came memory next x =
-      came-as (λ _. outcomes.Done) x.result came after x.outcome (send-by d prio message after x.result (λ is. memory (x.outcome ∙ is)) next x.called)
-
-  receive-by : (d : ℕ) (before after : List ℕ) (result : Result Received Fault) → outcome_by outcomes.Got result ≢ outcomes.Refused NoMemory
-      → IsNext phase program progress.begun (steps.Call (MqReceive d (length before))) [] → WholeReceive old new d before after result
-      → Moved old.number phase program from progress new (reply_line old.number (outcome_by outcomes.Got result) after)
-  receive-by d before after result memory next (inl x) = received-moves (MqReceive d (length before)) before after result memory next x
-  receive-by d before after result memory next (inr x) = received-later (MqReceive d (length before)) before after result refl next x
+      rw x.outcome (sent-moves (MqSend d prio (length message)) message after x.result refl (λ is. memory (x.outcome ∙ is)) next x.called)
 
   pub receive-performs : (d room : ℕ) (after : List ℕ) (came : Outcome) → came ≢ outcomes.Refused NoMemory
       → IsNext phase program progress.begun (steps.Call (MqReceive d room)) [] → Shows outcomes.Got (WholeReceive old new d (replicate room 0) after) came
       → Moved old.number phase program from progress new (reply_line old.number came after)
   receive-performs d room after came memory next x =
-      let same : room ≡ length (replicate room 0) = sym (length-replicate room 0) in
-      let step = next-step phase program progress.begun (steps.Call (MqReceive d room)) (steps.Call (MqReceive d (length (replicate room 0)))) [] (ap (λ (n : ℕ). steps.Call (MqReceive d n)) same) next in
-      came-as outcomes.Got x.result came after x.outcome (receive-by d (replicate room 0) after x.result (λ is. memory (x.outcome ∙ is)) step x.called)
+      let step = rw (sym (length-replicate {A = ℕ} room 0)) at next in
+      rw x.outcome (received-moves (MqReceive d (length (replicate room 0))) (replicate room 0) after x.result refl (λ is. memory (x.outcome ∙ is)) step x.called)
 
   -- with a deadline -------------------------------------------------------------------------------------------------------
 
@@ -190,8 +133,8 @@ module _ (phase : ℕ) (program : Vec Planned Global) (from : Past) (progress : 
       → OneCall send_says old new (MqTimedSend d prio (length message) until now) message result ⊎ WaitedSend old new (MqTimedSend d prio (length message) until now) message result
       ⊎ Expired (λ now. now ≡ moment) old new (MqTimedSend d prio (length message) until now) message result
       → Moved old.number phase program from progress new (reply_line old.number (outcome_by (λ _. outcomes.Done) result) after)
-  timed_send-by d prio message after until now moment result same memory next (inl x) = sent-moves (MqTimedSend d prio (length message) until now) message after result memory next x
-  timed_send-by d prio message after until now moment result same memory next (inr (inl x)) = sent-later (MqTimedSend d prio (length message) until now) message after result refl next x
+  timed_send-by d prio message after until now moment result same memory next (inl x) = sent-moves (MqTimedSend d prio (length message) until now) message after result refl memory next (inl x)
+  timed_send-by d prio message after until now moment result same memory next (inr (inl x)) = sent-moves (MqTimedSend d prio (length message) until now) message after result refl memory next (inr x)
   timed_send-by d prio message after until now moment result same memory next (inr (inr x)) =
       absurd (never-expires from old new (MqTimedSend d prio (length message) until now) message until now moment result at (send-timed d prio (length message) until now) same x)
 
@@ -200,18 +143,15 @@ module _ (phase : ℕ) (program : Vec Planned Global) (from : Past) (progress : 
       → Moved old.number phase program from progress new (reply_line old.number came after)
   timed_send-performs d prio until moment message after came memory next x =
       let t = x.called in
-      let step = next-step phase program progress.begun (steps.Call (MqTimedSend d prio (length message) until moment)) (steps.Call (MqTimedSend d prio (length message) until t.now)) message
-      (ap (λ (now : Deadline). steps.Call (MqTimedSend d prio (length message) until now)) (sym t.moment)) next
-      in
-      came-as (λ _. outcomes.Done) x.result came after x.outcome (timed_send-by d prio message after until t.now moment x.result t.moment (λ is. memory (x.outcome ∙ is)) step t.how)
+      rw x.outcome (timed_send-by d prio message after until t.now moment x.result t.moment (λ is. memory (x.outcome ∙ is)) (rw (sym t.moment) at next) t.how)
 
   timed_receive-by : (d : ℕ) (before after : List ℕ) (until now moment : Deadline) (result : Result Received Fault) → now ≡ moment → outcome_by outcomes.Got result ≢ outcomes.Refused NoMemory
       → IsNext phase program progress.begun (steps.Call (MqTimedReceive d (length before) until now)) []
       → ReceiveCall receive_says old new (MqTimedReceive d (length before) until now) before after result ⊎ WaitedReceive old new (MqTimedReceive d (length before) until now) before after result
       ⊎ Expired (λ now. now ≡ moment) old new (MqTimedReceive d (length before) until now) [] result × (after ≡ before)
       → Moved old.number phase program from progress new (reply_line old.number (outcome_by outcomes.Got result) after)
-  timed_receive-by d before after until now moment result same memory next (inl x) = received-moves (MqTimedReceive d (length before) until now) before after result memory next x
-  timed_receive-by d before after until now moment result same memory next (inr (inl x)) = received-later (MqTimedReceive d (length before) until now) before after result refl next x
+  timed_receive-by d before after until now moment result same memory next (inl x) = received-moves (MqTimedReceive d (length before) until now) before after result refl memory next (inl x)
+  timed_receive-by d before after until now moment result same memory next (inr (inl x)) = received-moves (MqTimedReceive d (length before) until now) before after result refl memory next (inr x)
   timed_receive-by d before after until now moment result same memory next (inr (inr x)) =
       absurd (never-expires from old new (MqTimedReceive d (length before) until now) [] until now moment result at (receive-timed d (length before) until now) same x.0)
 
@@ -220,8 +160,5 @@ module _ (phase : ℕ) (program : Vec Planned Global) (from : Past) (progress : 
       → Moved old.number phase program from progress new (reply_line old.number came after)
   timed_receive-performs d room until moment after came memory next x =
       let t = x.called in
-      let same : room ≡ length (replicate room 0) = sym (length-replicate room 0) in
-      let step = next-step phase program progress.begun (steps.Call (MqTimedReceive d room until moment)) (steps.Call (MqTimedReceive d (length (replicate room 0)) until t.now)) []
-      (ap (λ (n : ℕ). steps.Call (MqTimedReceive d n until moment)) same ∙ ap (λ (now : Deadline). steps.Call (MqTimedReceive d (length (replicate room 0)) until now)) (sym t.moment)) next
-      in
-      came-as outcomes.Got x.result came after x.outcome (timed_receive-by d (replicate room 0) after until t.now moment x.result t.moment (λ is. memory (x.outcome ∙ is)) step t.how)
+      let step = rw (sym t.moment, sym (length-replicate {A = ℕ} room 0)) at next in
+      rw x.outcome (timed_receive-by d (replicate room 0) after until t.now moment x.result t.moment (λ is. memory (x.outcome ∙ is)) step t.how)

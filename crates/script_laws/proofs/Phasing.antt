@@ -1,7 +1,6 @@
 -- What a run prints for its phases is what one interleaving of its calls gives.
-use Rattle.std.proofs.Common.{◌≡◌, ℕ, zero, suc, refl, ◌+◌, ◌≤◌, List, [], ◌∷◌, ◌++◌, length, map, Option, None, Some, replicate, ap, sym, ◌∙◌, subst, arith, append-nil, Vec}
+use Rattle.std.proofs.Common.{◌≡◌, ℕ, zero, suc, refl, ◌+◌, ◌≤◌, List, [], ◌∷◌, ◌++◌, length, Option, None, Some, replicate, ap, sym, ◌∙◌, subst, arith, append-nil, Vec}
 use Rattle.std.specs.List.{All}
-use Rattle.std.specs.Option.{option_and_then}
 use Rattle.std.specs.declared.alloc.Global.{Global}
 use Rattle.std.proofs.lemmas.List.{length-map}
 use Rattle.fast_mutex.specs.Items.{LockId, Ticket, tickets_from, tickets_with}
@@ -13,33 +12,27 @@ use Rattle.schedules.specs.Observed.{Observed}
 use Rattle.schedules.specs.declared.outcomes.Witnessed.{Witnessed}
 use Rattle.schedules.proofs.Covering.{after-append}
 use Rattle.script_orders.specs.Orders.{Begins, BeginsAfter}
-use Rattle.script_orders.specs.Plans.{Plan, plan_of}
 use Rattle.script_orders.specs.Progress.{Progress}
 use Rattle.script_orders.specs.Stage.{Stage, fresh, next_stage, seats_cleared, stands_still, observed}
 use Rattle.script_orders.specs.declared.plan.Planned.{Planned}
 use Rattle.script_runner.specs.Runs.{NoneWaits, RunsAfter, RunsPhases, RunsWhole}
 use Rattle.script_text.specs.Script.{Whole, WrittenCall}
+use Rattle.schedules.proofs.Backing.{all-front}
 use Rattle.script_laws.specs.RunLaws.{AreAmplePhases, AreFound, AreObserved, AreObservedBefore, IsAmple, IsAmpleAfter, phase_replies, phase_outcome, replies_after, whole_replies}
 use Rattle.script_laws.proofs.Beginning.{all-begin, all-left-with, count-from, in-order}
 use Rattle.script_laws.proofs.Growth.{AllLeft, AreEnds, IsEnd, all-grow, meeting, phase-grows, phases-end}
-use Rattle.script_laws.proofs.Joins.{all-left, all-right}
+use Rattle.script_laws.proofs.Joins.{all-right}
 use Rattle.script_laws.proofs.Resting.{AllThrough, next-begins, still, tells}
 use Rattle.script_laws.proofs.Runners.{AreOnCourse, Frame, Runner, ends_in, programs_in, seats_in, staged}
-use Rattle.script_laws.proofs.Sitting.{AllSit, Through, all-run}
+use Rattle.script_laws.proofs.Sitting.{AllSit, all-run}
 use Rattle.script_laws.proofs.Weaving.{IsOf, ended, weaving}
 
-at-number : (p i phase : ℕ) (past to : Past) (r : Runner) → p ≡ i → Through p phase past to r → Through i phase past to r
-at-number p i phase past to r same t = subst (λ (k : ℕ). Through k phase past to r) same t
-
 pub then-after : (schedule more : List ℕ) (from mid to : Stage) → after next_stage schedule from ≡ Some mid → after next_stage more mid ≡ Some to → after next_stage (schedule ++ more) from ≡ Some to
-then-after schedule more from mid to first rest =
-    after-append next_stage schedule more from ∙ (ap (λ (o : Option Stage). option_and_then (after next_stage more) o) first ∙ rest)
+then-after schedule more from mid to first rest = grind (arith, after-append)
 
 -- as many programs as processes
 program-count : {past : Past} (script : Whole) (from : Stage) → BeginsAfter past script from → length from.programs ≡ script.processes
-program-count script from begins =
-    let shown : Vec Planned Global → List Plan = λ program. map plan_of program.items in
-    sym (length-map from.programs shown) ∙ (ap (λ (l : List (List Plan)). length l) (begins.programs ∙ in-order script.phases script.processes) ∙ count-from script.phases 1 script.processes)
+program-count script from begins = grind (arith, length-map, in-order, count-from)
 
 pub all-of : {past : Past} (script : Whole) (journal : Past) (from : Stage) → BeginsAfter past script from → All (IsOf script.processes) journal → All (IsOf (length from.programs)) journal
 all-of script journal from begins of = subst (λ (k : ℕ). All (IsOf k) journal) (sym (program-count script from begins)) of
@@ -64,14 +57,9 @@ phase-runs from journal programs frame phase phases tickets reached to runners o
     let past : Past = reached.past in
     let many : length programs ≡ length runners = sym (ap (λ (l : List (Vec Planned Global)). length l) programs_are) ∙ length-map runners (λ (r : Runner). r.program) in
     let of_to : All (IsOf (length programs)) to = all-right (IsOf (length programs)) end.more to (subst (λ (l : Past). All (IsOf (length programs)) l) end.is of) in
-    let of_more : All (IsOf (length programs)) begin.more = all-left (IsOf (length programs)) begin.more past (subst (λ (l : Past). All (IsOf (length programs)) l) begin.is of_to) in
+    let of_more : All (IsOf (length programs)) begin.more = all-front (IsOf (length programs)) begin.more to past begin.is of_to in
     let woven = weaving frame phase to past runners begin.more on begin.is (subst (λ (k : ℕ). All (IsOf k) begin.more) many of_more) in
-    let made : List (Vec Planned Global) → List Progress → Option Stage = λ programs seats.
-    Some (record { programs = programs; phases = frame.phases; start = frame.start; phase = phase; past = past; seats = seats })
-    in
-    let start : after next_stage reached.schedule from ≡ Some (staged frame phase past runners) =
-    reached.leads some ∙ (ap (λ (l : List (Vec Planned Global)). made l reached.seats) (sym programs_are) ∙ ap (λ (l : List Progress). made (programs_in runners) l) (sym seats_are))
-    in
+    let start : after next_stage reached.schedule from ≡ Some (staged frame phase past runners) = rw (programs_are, seats_are) (reached.leads some) in
     (reached.schedule ++ woven.0, then-after reached.schedule woven.0 from (staged frame phase past runners) (ended frame phase to runners) start woven.1)
 
 -- what is printed for some phases is what one interleaving gives, which leads to the beginning of
@@ -90,19 +78,11 @@ phases-observed GoesOn journal programs frame later tickets of ends then (calls 
     let to : Past = met.to in
     let all = all-run phase calls rest ran.2 1 past to programs reached.seats before ran.0 between ran.3 ran.5 ample.0 reached.sit ran.6 reached.left met.all in
     let runners : List Runner = all.runners in
-    let through : AllThrough phase past to runners = λ i r has. at-number (1 + i) (i + 1) phase past to r (omega arith) (all.through i r has) in
+    let through : AllThrough phase past to runners = all.through in
     let runs = phase-runs from journal programs frame phase (calls ∷ rest) before reached to runners of (omega arith) met.from met.end all.programs_are all.seats_are (λ i r has. (through i r has).course) in
     let last : Stage = ended frame phase to runners in
     let said : observed last ≡ phase_outcome phase ran.3 = tells frame phase past to runners through ∙ ap (λ (l : List ℕ). phase_outcome phase l) all.replies_are in
     let n : ℕ = length (programs_in runners) in
-    let count = reached.count in
-    let next : List (Vec Planned Global) → Option Stage = λ programs.
-    Some (record { programs = programs; phases = frame.phases; start = frame.start; phase = phase + 1; past = to; seats = seats_cleared (ends_in runners) })
-    in
-    let goes : 1 ≤ length rest → after next_stage (n ∷ []) last ≡ next programs = λ some.
-    ap (λ (o : Option Stage). option_and_then (after next_stage []) o) (next-begins frame phase past to runners through (omega (arith, some, count)))
-    ∙ ap next all.programs_are
-    in
     let on : Reached last journal programs frame (phase + 1) rest between = record {
       past = to;
       seats = seats_cleared (ends_in runners);
@@ -110,8 +90,8 @@ phases-observed GoesOn journal programs frame later tickets of ends then (calls 
       sit = all.sit;
       left = met.all;
       here = met.end;
-      count = omega (arith, count);
-      leads = goes;
+      count = omega (arith, reached.count);
+      leads = λ some. rw (next-begins frame phase past to runners through (omega (arith, some, reached.count)), all.programs_are) refl;
     }
     in (
       runs.0,
@@ -128,13 +108,6 @@ frame_of from past = record { phases = from.phases; start = past }
 -- the processes of a script start in its first phase
 pub all-reached : (past : Past) (script : Whole) (system : LockId) (journal : Past) (from : Stage) → bounds_in system.fixed ≡ None → NoneWaits past script.processes → IsEnd past journal → BeginsAfter past script from → Reached from journal from.programs (frame_of from past) 0 script.phases (tickets_with system past 1 script.processes)
 all-reached past script system journal from unbounded free end begins =
-    let made : Past → List Progress → Option Stage = λ start seats.
-    Some (record { programs = from.programs; phases = from.phases; start = start; phase = 0; past = start; seats = seats })
-    in
-    let start : after next_stage [] from ≡ made past (replicate script.processes fresh) =
-    ap (λ (s : Stage). Some s) (sym begins.first)
-    ∙ (ap (λ (k : ℕ). made from.start (replicate k fresh)) (program-count script from begins) ∙ ap (λ (p : Past). made p (replicate script.processes fresh)) begins.start)
-    in
     record {
       past = past;
       seats = replicate script.processes fresh;
@@ -143,7 +116,7 @@ all-reached past script system journal from unbounded free end begins =
       left = all-left-with past system 1 script.processes;
       here = end;
       count = omega (arith, begins.phases);
-      leads = λ some. start;
+      leads = λ some. ap {A = Stage} {B = Option Stage} (λ s. Some s) (sym begins.first) ∙ rw (program-count script from begins, begins.start) refl;
     }
 
 -- before all calls
@@ -155,10 +128,9 @@ new-reached script system journal from unbounded begins =
 pub run-observed : (script : Whole) (text : List ℕ) (journal : Past) (ran : RunsWhole script text journal) (from : Stage) → IsAmple ran → Begins script from → AreObserved from 0 (whole_replies ran)
 run-observed script text journal ran from ample begins =
     let tickets : List (Ticket Record) = tickets_from ran.system 1 script.processes in
-    let first : Reached from journal from.programs (frame_of from []) 0 script.phases tickets = new-reached script ran.system journal from ran.unbounded begins in
     phases-observed (λ to next. Unit {0}) journal from.programs (frame_of from []) [] ran.processes (all-of script journal from begins ran.authors) (all-grow journal ran.processes ran.grows) (λ to next reached. tt)
     script.phases 0 from tickets text ran.ran ample
-    (subst (λ (phases : List (List WrittenCall)). Reached from journal from.programs (frame_of from []) 0 phases tickets) (sym (append-nil script.phases)) first)
+    (rw (append-nil script.phases) (new-reached script ran.system journal from ran.unbounded begins))
 
 first-end : (journal past : Past) (lock : LockId) (n : ℕ) → 1 ≤ n → AreEnds journal (tickets_with lock past 1 n) → IsEnd past journal
 first-end journal past lock zero some ends = absurd (omega (arith, some))
@@ -175,11 +147,10 @@ pub run-after-observed : (past : Past) (script : Whole) (text : List ℕ) (journ
 run-after-observed past script text journal ran from end ample begins =
     let runs = ran.runs in
     let tickets : List (Ticket Record) = tickets_with ran.system past 1 script.processes in
-    let first : Reached from journal from.programs (frame_of from past) 0 script.phases tickets = all-reached past script ran.system journal from ran.unbounded ran.free end begins in
     let authors : All (IsOf script.processes) journal = subst (λ (n : ℕ). All (IsOf n) journal) ran.count runs.authors in
     phases-observed (λ to next. Unit {0}) journal from.programs (frame_of from past) [] runs.processes (all-of script journal from begins authors) (all-grow journal runs.processes runs.grows) (λ to next reached. tt)
     script.phases 0 from tickets text runs.ran ample
-    (subst (λ (phases : List (List WrittenCall)). Reached from journal from.programs (frame_of from past) 0 phases tickets) (sym (append-nil script.phases)) first)
+    (rw (append-nil script.phases) (all-reached past script ran.system journal from ran.unbounded ran.free end begins))
 
 -- if all interleavings from a first stage were tried ----------------------------------------------------------------------
 
@@ -211,4 +182,4 @@ observed-found GoesOn first from schedule found phase (text ∷ texts) all leads
 -- there are replies for each phase
 pub replies-count : (phases : List (List WrittenCall)) (before tickets : List (Ticket Record)) (text : List ℕ) (ran : RunsPhases phases before tickets text) → length (phase_replies phases before tickets text ran) ≡ length phases
 replies-count [] before tickets text ran = refl
-replies-count (calls ∷ phases) before tickets text ran = let ih = replies-count phases ran.1 tickets ran.4 ran.7 in omega (arith, ih)
+replies-count (calls ∷ phases) before tickets text ran = omega (arith, replies-count phases ran.1 tickets ran.4 ran.7)

@@ -8,6 +8,8 @@ use Rattle.std.proofs.lemmas.List.{length-map}
 use Rattle.std.proofs.lemmas.Option.{slice_get-map}
 use Rattle.fast_mutex.specs.Items.{Grows, Ticket}
 use Rattle.mq.specs.Calls.{IsFree, author, bounds_in}
+use Rattle.mq.proofs.Growing.{grows-on}
+use Rattle.mq.proofs.Others.{wait-grown}
 use Rattle.mq_model.specs.Record.{Past, Record}
 use Rattle.mq_model.specs.Waits.{open_wait}
 use Rattle.script_orders.specs.Plans.{Plan, plan, plan_of, program_of}
@@ -20,8 +22,9 @@ use Rattle.script_text.specs.Script.{WrittenCall}
 use Rattle.script_text.specs.declared.reply.Completion.{Completion}
 use Rattle.script_laws.specs.RunLaws.{HadMemory, IsAmplePhase}
 use Rattle.script_laws.proofs.Course.{AreLines, Course, Move}
-use Rattle.script_laws.proofs.Coursing.{came-through, course-of-calls, free-at-end}
+use Rattle.script_laws.proofs.Coursing.{came-through}
 use Rattle.script_laws.proofs.Growth.{AllLeft}
+use Rattle.script_laws.proofs.Lines.{behind-them}
 use Rattle.script_laws.proofs.Moving.{IsAt}
 use Rattle.script_laws.proofs.Runners.{Runner, ends_in, programs_in, seats_in}
 
@@ -55,28 +58,17 @@ pub record Through (p phase : ℕ) (past to : Past) (r : Runner) : Type 0 where
 
 head-of : (phase : ℕ) (calls : List WrittenCall) (rest : List Plan) (x : Plan) → (slice_get rest 0 ≡ Some x → phase + 1 ≤ x.phase) → slice_get (map (plan phase) calls ++ rest) 0 ≡ Some x → phase ≤ x.phase
 head-of phase [] rest x later has = let more = later has in omega (arith, more)
-head-of phase (call ∷ calls) rest x later has =
-    let same : plan phase call ≡ x = cc in
-    let is : phase ≡ x.phase = ap (λ (y : Plan). y.phase) same in
-    omega (arith, is)
+head-of phase (call ∷ calls) rest x later has = grind arith
 
 first-line : (phase : ℕ) (phases : List (List WrittenCall)) (p : ℕ) (x : Plan) → slice_get (program_of phase phases p) 0 ≡ Some x → phase ≤ x.phase
 first-line phase [] p x has = cc
-first-line phase (calls ∷ phases) p x has =
-    head-of phase (calls_of p calls) (program_of (phase + 1) phases p) x (λ rest. first-line (phase + 1) phases p x rest) has
-
-behind-them : {A : Type 0} (earlier rest : List A) → slice_get (earlier ++ rest) (length earlier) ≡ slice_get rest 0
-behind-them [] rest = refl
-behind-them (x ∷ earlier) rest = behind-them earlier rest
+first-line phase (calls ∷ phases) p x has = grind (arith, head-of, first-line (phase + 1) phases p x)
 
 next-later : (phase : ℕ) (phases : List (List WrittenCall)) (p : ℕ) (program : Vec Planned Global) (earlier : List Plan) (begun : ℕ) (planned : Planned) → map plan_of program.items ≡ earlier ++ program_of (phase + 1) phases p → length earlier ≡ begun → slice_get program.items begun ≡ Some planned → phase < planned.phase
 next-later phase phases p program earlier begun planned are count has =
     let there : slice_get (map plan_of program.items) begun ≡ Some (plan_of planned) = slice_get-map plan_of program.items begun ∙ ap (λ (o : Option Planned). option_map plan_of o) has in
-    let here : slice_get (program_of (phase + 1) phases p) 0 ≡ Some (plan_of planned) =
-    sym (behind-them earlier (program_of (phase + 1) phases p)) ∙ (ap (λ (n : ℕ). slice_get (earlier ++ program_of (phase + 1) phases p) n) count ∙ (ap (λ (l : List Plan). slice_get l begun) (sym are) ∙ there))
-    in
-    let later = first-line (phase + 1) phases p (plan_of planned) here in
-    omega (arith, later)
+    let here : slice_get (program_of (phase + 1) phases p) 0 ≡ Some (plan_of planned) = sym (behind-them earlier (program_of (phase + 1) phases p)) ∙ rw (count, sym are) there in
+    omega (arith, first-line (phase + 1) phases p (plan_of planned) here)
 
 -- one process --------------------------------------------------------------------------------------------------------------
 
@@ -98,14 +90,12 @@ one-runs phase calls phases n p past to program seat old new process completions
     let mine : List WrittenCall = calls_of p calls in
     let by_p : RunsCalls mine completions old new = subst (λ (k : ℕ). RunsCalls (calls_of k calls) completions old new) sits.number ran in
     let now : new.number ≡ p = same.number ∙ sits.number in
-    let grown : Grows author p new.left process.left [] = subst (λ (k : ℕ). Grows author k new.left process.left []) now found.calls.grows in
-    let grows : Grows author p new.left to [] = subst (λ (l : Past). Grows author p new.left l []) after grown in
-    let start : Grows author p past old.left [] = record { behind = []; is = before; mine = refl } in
+    let grows : Grows author p new.left to [] = rw (now, after) at found.calls.grows in
     let lines : AreLines program seat.begun (map (plan phase) mine) = record { before = sits.earlier; rest = program_of (phase + 1) phases p; are = sits.are; count = sits.count } in
-    let at : IsAt p past old = record { number = sits.number; bounds = sits.unbounded; free = sits.free; near = start } in
+    let at : IsAt p past old = record { number = sits.number; bounds = sits.unbounded; free = sits.free; near = record { behind = []; is = before; mine = refl } } in
     let came = came-through p phase program mine completions old new past seat.begun seat.text at lines by_p memory in
-    let course = course-of-calls p phase program past to seat (end_of p calls seat completions) new came grows in
-    let free : open_wait to p ≡ None = free-at-end p came.at to new came.is grows in
+    let course = came.goes to (end_of p calls seat completions) [] (refl, grows-on came.is.near grows) in
+    let free : open_wait to p ≡ None = rw (wait-grown grows, sym came.is.number) came.is.free in
     let earlier : List Plan = sits.earlier ++ map (plan phase) mine in
     let are : map plan_of program.items ≡ earlier ++ program_of (phase + 1) phases p = sits.are ∙ sym (append_assoc sits.earlier (map (plan phase) mine) (program_of (phase + 1) phases p)) in
     let count : length earlier ≡ seat.begun + length mine = omega (arith, length-append sits.earlier (map (plan phase) mine), length-map mine (plan phase), sits.count) in
@@ -136,16 +126,16 @@ pub record AllRun (phase : ℕ) (phases : List (List WrittenCall)) (p : ℕ) (pa
   pub programs_are : programs_in runners ≡ programs
   pub seats_are : seats_in runners ≡ seats
   pub replies_are : replies (ends_in runners) ≡ text
-  pub through : (i : ℕ) (r : Runner) → slice_get runners i ≡ Some r → Through (p + i) phase past to r
+  pub through : (i : ℕ) (r : Runner) → slice_get runners i ≡ Some r → Through (i + p) phase past to r
   pub sit : AllSit (phase + 1) phases p programs (seats_cleared (ends_in runners)) processes
 
-more-through : (p phase : ℕ) (past to : Past) (first : Runner) (runners : List Runner) → Through p phase past to first → ((i : ℕ) (r : Runner) → slice_get runners i ≡ Some r → Through (suc p + i) phase past to r) → (i : ℕ) (r : Runner) → slice_get (first ∷ runners) i ≡ Some r → Through (p + i) phase past to r
+more-through : (p phase : ℕ) (past to : Past) (first : Runner) (runners : List Runner) → Through p phase past to first → ((i : ℕ) (r : Runner) → slice_get runners i ≡ Some r → Through (i + suc p) phase past to r) → (i : ℕ) (r : Runner) → slice_get (first ∷ runners) i ≡ Some r → Through (i + p) phase past to r
 more-through p phase past to first runners one rest zero r has =
     let same : first ≡ r = cc in
-    let here : p ≡ p + zero = omega arith in
+    let here : p ≡ zero + p = omega arith in
     subst (λ (k : ℕ). Through k phase past to r) here (subst (λ (x : Runner). Through p phase past to x) same one)
 more-through p phase past to first runners one rest (suc i) r has =
-    let here : suc p + i ≡ p + suc i = omega arith in
+    let here : i + suc p ≡ suc i + p = omega arith in
     subst (λ (k : ℕ). Through k phase past to r) here (rest i r has)
 
 pub all-run : (phase : ℕ) (calls : List WrittenCall) (phases : List (List WrittenCall)) (n p : ℕ) (past to : Past) (programs : List (Vec Planned Global)) (seats : List Progress) (before ended between : List (Ticket Record)) (text : List ℕ) (ran : RunsPhase calls before ended text) →
@@ -153,19 +143,15 @@ pub all-run : (phase : ℕ) (calls : List WrittenCall) (phases : List (List Writ
     AllRun phase phases p past to programs seats between text
 all-run phase calls phases n p past to programs seats [] [] [] text ran ample sit found before after =
     record { runners = []; programs_are = sym sit.0; seats_are = sym sit.1; replies_are = sym ran; through = λ i r has. cc; sit = (sit.0, refl) }
-all-run phase calls phases n p past to programs seats [] [] (t ∷ between) text ran ample sit found before after = absurd found
 all-run phase calls phases n p past to programs seats [] (new ∷ ended) between text ran ample sit found before after = absurd ran
 all-run phase calls phases n p past to programs seats (old ∷ olds) [] between text ran ample sit found before after = absurd ran
-all-run phase calls phases n p past to programs seats (old ∷ olds) (new ∷ ended) [] text ran ample sit found before after = absurd found
 all-run phase calls phases n p past to programs seats (old ∷ olds) (new ∷ ended) (t ∷ between) text ran ample sit found before after =
     let program : Vec Planned Global = sit.0 in
     let seat : Progress = sit.2 in
     let one = one-runs phase calls phases n p past to program seat old new t ran.0 sit.6 ran.2 ran.3 ample.0 found.0 before.0 after.0 in
     let rest = all-run phase calls phases n (suc p) past to sit.1 sit.3 olds ended between ran.1 ran.4 ample.1 sit.7 found.1 before.1 after.1 in
     let first : Runner = record { program = program; seat = seat; end = end_of p calls seat ran.0; moves = one.moves } in
-    let said : seat.text ++ reply_lines p ran.0 ≡ reply_lines old.number ran.0 =
-    ap (λ (l : List ℕ). l ++ reply_lines p ran.0) sit.6.text ∙ ap (λ (k : ℕ). reply_lines k ran.0) (sym sit.6.number)
-    in
+    let said : seat.text ++ reply_lines p ran.0 ≡ reply_lines old.number ran.0 = rw (sit.6.text, sit.6.number) refl in
     record {
       runners = first ∷ rest.runners;
       programs_are = ap (λ (l : List (Vec Planned Global)). program ∷ l) rest.programs_are ∙ sym sit.4;
@@ -174,3 +160,4 @@ all-run phase calls phases n p past to programs seats (old ∷ olds) (new ∷ en
       through = more-through p phase past to first rest.runners one.through rest.through;
       sit = (program, sit.1, cleared (end_of p calls seat ran.0), seats_cleared (ends_in rest.runners), sit.4, refl, one.sits, rest.sit);
     }
+all-run phase calls phases n p past to programs seats before ended between text ran ample sit found before' after = absurd found

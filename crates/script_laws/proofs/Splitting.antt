@@ -36,10 +36,9 @@ module _ {I : Type 0} (author : I → ℕ) where
       (λ own.
       let all : y ∷ items_of author p behind ≡ x ∷ [] = rw own at own_is in
       let same : y ≡ x = cc in
-      let none : items_of author p behind ≡ [] = cc in
       record {
         found = behind ++ before;
-        others = record { behind = behind; is = refl; mine = none };
+        others = record { behind = behind; is = refl; mine = cc };
         later = record { behind = []; is = is ∙ ap (λ (z : I). z ∷ (behind ++ before)) same; mine = refl };
       })
       (λ other.

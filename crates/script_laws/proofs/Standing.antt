@@ -45,10 +45,9 @@ processes_of worked = map (λ (w : Worked (Ticket Record)). w.process) worked
 
 all-grown : (calls : List WrittenCall) (before : List (Ticket Record)) (worked : List (Worked (Ticket Record))) → AllZip (EndsPhase calls) before worked → AllGrown before (processes_of worked)
 all-grown calls [] [] each = tt
-all-grown calls [] (w ∷ worked) each = absurd each
-all-grown calls (old ∷ before) [] each = absurd each
 all-grown calls (old ∷ before) (w ∷ worked) each =
     (one-grows w.blocked (calls_of old.number calls) w.completions.items old w.process each.0.ends, all-grown calls before worked each.1)
+all-grown calls before worked each = absurd each
 
 -- where each process is ----------------------------------------------------------------------------------------------------
 
@@ -74,19 +73,19 @@ record AllRest (phase p : ℕ) (past to : Past) (programs : List (Vec Planned Gl
   programs_are : programs_in runners ≡ programs
   seats_are : seats_in runners ≡ seats
   count : length runners ≡ length worked
-  rest : (i : ℕ) (r : Runner) (w : Worked (Ticket Record)) → slice_get runners i ≡ Some r → slice_get worked i ≡ Some w → Rests w.blocked (p + i) phase past to r
+  rest : (i : ℕ) (r : Runner) (w : Worked (Ticket Record)) → slice_get runners i ≡ Some r → slice_get worked i ≡ Some w → Rests w.blocked (i + p) phase past to r
 
 more-rest : (p phase : ℕ) (past to : Past) (first : Runner) (runners : List Runner) (one : Worked (Ticket Record)) (worked : List (Worked (Ticket Record))) → Rests one.blocked p phase past to first →
-    ((i : ℕ) (r : Runner) (w : Worked (Ticket Record)) → slice_get runners i ≡ Some r → slice_get worked i ≡ Some w → Rests w.blocked (suc p + i) phase past to r) →
-    (i : ℕ) (r : Runner) (w : Worked (Ticket Record)) → slice_get (first ∷ runners) i ≡ Some r → slice_get (one ∷ worked) i ≡ Some w → Rests w.blocked (p + i) phase past to r
+    ((i : ℕ) (r : Runner) (w : Worked (Ticket Record)) → slice_get runners i ≡ Some r → slice_get worked i ≡ Some w → Rests w.blocked (i + suc p) phase past to r) →
+    (i : ℕ) (r : Runner) (w : Worked (Ticket Record)) → slice_get (first ∷ runners) i ≡ Some r → slice_get (one ∷ worked) i ≡ Some w → Rests w.blocked (i + p) phase past to r
 more-rest p phase past to first runners one worked rests rest zero r w has is =
     let same : first ≡ r = cc in
     let that : one ≡ w = cc in
-    let here : p ≡ p + zero = omega arith in
+    let here : p ≡ zero + p = omega arith in
     subst (λ (k : ℕ). Rests w.blocked k phase past to r) here
     (subst (λ (x : Runner). Rests w.blocked p phase past to x) same (subst (λ (x : Worked (Ticket Record)). Rests x.blocked p phase past to first) that rests))
 more-rest p phase past to first runners one worked rests rest (suc i) r w has is =
-    let here : suc p + i ≡ p + suc i = omega arith in
+    let here : i + suc p ≡ suc i + p = omega arith in
     subst (λ (k : ℕ). Rests w.blocked k phase past to r) here (rest i r w has is)
 
 all-rest : (phase : ℕ) (calls : List WrittenCall) (phases : List (List WrittenCall)) (n p : ℕ) (past to : Past) (programs : List (Vec Planned Global)) (seats : List Progress) (before : List (Ticket Record)) (worked : List (Worked (Ticket Record))) (after : List (Ticket Record)) (each : AllZip (EndsPhase calls) before worked) →
@@ -94,10 +93,8 @@ all-rest : (phase : ℕ) (calls : List WrittenCall) (phases : List (List Written
     list_all (is_blocked to) (blocked_processes worked) ≡ true → AllRest phase p past to programs seats worked
 all-rest phase calls phases n p past to programs seats [] [] [] each ample sit met left now blocked =
     record { runners = []; programs_are = sym sit.0; seats_are = sym sit.1; count = refl; rest = λ i r w has is. cc }
-all-rest phase calls phases n p past to programs seats [] [] (t ∷ after) each ample sit met left now blocked = absurd met
 all-rest phase calls phases n p past to programs seats [] (w ∷ worked) after each ample sit met left now blocked = absurd each
 all-rest phase calls phases n p past to programs seats (old ∷ before) [] after each ample sit met left now blocked = absurd each
-all-rest phase calls phases n p past to programs seats (old ∷ before) (w ∷ worked) [] each ample sit met left now blocked = absurd met
 all-rest phase calls phases n p past to programs seats (old ∷ before) (w ∷ worked) (t ∷ after) each ample sit met left now blocked =
     let program : Vec Planned Global = sit.0 in
     let seat : Progress = sit.2 in
@@ -113,15 +110,14 @@ all-rest phase calls phases n p past to programs seats (old ∷ before) (w ∷ w
       count = ap (λ (k : ℕ). suc k) rest.count;
       rest = more-rest p phase past to first rest.runners w worked one.rests rest.rest;
     }
+all-rest phase calls phases n p past to programs seats before worked after each ample sit met left now blocked = absurd met
 
 -- each process that waits is blocked in the journal that all have
 all-blocked : (n : ℕ) (to : Past) (worked : List (Worked (Ticket Record))) (after : List (Ticket Record)) → AllZip (FindsLength n) (processes_of worked) after → AllLeft to after →
     All (λ process. list_all (is_blocked process.left) (blocked_processes worked) ≡ true) after → list_all (is_blocked to) (blocked_processes worked) ≡ true
 all-blocked n to [] after met now all = refl
 all-blocked n to (w ∷ worked) [] met now all = absurd met
-all-blocked n to (w ∷ worked) (t ∷ after) met now all =
-    let P : Ticket Record → Type 0 = λ process. list_all (is_blocked process.left) (blocked_processes (w ∷ worked)) ≡ true in
-    subst (λ (l : Past). list_all (is_blocked l) (blocked_processes (w ∷ worked)) ≡ true) now.0 (All-head P t after all)
+all-blocked n to (w ∷ worked) (t ∷ after) met now all = rw (sym now.0) (All-head (λ process. list_all (is_blocked process.left) (blocked_processes (w ∷ worked)) ≡ true) t after all)
 
 -- the deadlock -------------------------------------------------------------------------------------------------------------
 
@@ -136,17 +132,13 @@ last-stands journal programs frame last later before lines after stand of ample 
     let blocked = all-blocked stand.n to worked after stand.met met.all stand.blocked in
     let all = all-rest phase last later stand.n 1 past to programs reached.seats before worked after stand.each ample reached.sit stand.met reached.left met.all blocked in
     let runners : List Runner = all.runners in
-    let rest : (i : ℕ) (r : Runner) (w : Worked (Ticket Record)) → slice_get runners i ≡ Some r → slice_get worked i ≡ Some w → Rests w.blocked (i + 1) phase past to r = λ i r w has is.
-    let here : 1 + i ≡ i + 1 = omega arith in
-    subst (λ (k : ℕ). Rests w.blocked k phase past to r) here (all.rest i r w has is)
-    in
     let runs = phase-runs from journal programs frame phase (last ∷ later) before reached to runners of (omega arith) met.from met.end all.programs_are all.seats_are
-    (halted-course frame phase past to runners worked all.count rest)
+    (halted-course frame phase past to runners worked all.count all.rest)
     in (
       runs.0,
       ended frame phase to runners,
-      record { runs = runs.1; goal = halted-still frame phase past to runners worked all.count rest },
-      halted-outcome frame phase past to runners worked all.count rest lines stand.are stand.some,
+      record { runs = runs.1; goal = halted-still frame phase past to runners worked all.count all.rest },
+      halted-outcome frame phase past to runners worked all.count all.rest lines stand.are stand.some,
     )
 
 -- what is printed for a run that deadlocks is what one interleaving gives
@@ -159,9 +151,7 @@ stand-observed script lines old new from stop ample begins =
     let ends : AreEnds journal stop.processes = all-grow journal stop.processes stop.grows in
     let stand = s.stands in
     let between : AreEnds journal s.between = phase-ends journal stand.n s.between (processes_of stand.ended) stop.processes (all-grown s.last s.between stand.ended stand.each) stand.met ends in
-    let first : Reached from journal from.programs (frame_of from []) 0 (s.first ++ s.last ∷ s.later) tickets =
-    subst (λ (phases : List (List WrittenCall)). Reached from journal from.programs (frame_of from []) 0 phases tickets) s.are (new-reached script stop.system journal from stop.unbounded begins)
-    in
+    let first = rw s.are at (new-reached script stop.system journal from stop.unbounded begins) in
     phases-observed (Stands lines) journal from.programs (frame_of from []) (s.last ∷ s.later) s.between of between
     (last-stands journal from.programs (frame_of from []) s.last s.later s.between lines stop.processes stand of ample.1 ends)
     s.first 0 from tickets s.replies s.ran ample.0 first

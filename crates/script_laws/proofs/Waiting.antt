@@ -1,12 +1,11 @@
 -- A call that waited is two moves: the wait and its collect.
-use Rattle.std.proofs.Common.{◌≡◌, ℕ, ◌+◌, Bool, true, false, List, [], ◌∷◌, ◌++◌, length, append_assoc, Option, Some, None, is_some, if◌then◌else◌, refl, ap, sym, ◌∙◌, subst, arith, eq-eqb, Vec}
-use Rattle.std.specs.Option.{option_map, unwrap_or}
+use Rattle.std.proofs.Common.{◌≡◌, ℕ, ◌+◌, Bool, true, List, [], ◌∷◌, ◌++◌, length, append_assoc, Some, None, if◌then◌else◌, refl, ap, ◌∙◌, subst, arith, eq-eqb, Vec}
 use Rattle.std.specs.declared.alloc.Global.{Global}
 use Rattle.fast_mutex.specs.Items.{LockId, Ticket, Grows}
-use Rattle.mq.specs.Calls.{Begins, Waited, author, bounds_in, recorded}
+use Rattle.mq.specs.Calls.{Waited, author, bounds_in, recorded}
 use Rattle.mq.proofs.Others.{wait-grown}
 use Rattle.mq_model.specs.Legality.{IsLegalNext, Legal}
-use Rattle.mq_model.specs.Messages.{is_receive, is_send, priority_given}
+use Rattle.mq_model.specs.Messages.{is_receive}
 use Rattle.mq_model.specs.Record.{Past, Record, record_at}
 use Rattle.mq_model.specs.Waits.{answered_by, open_wait}
 use Rattle.mq_model.specs.declared.entries.Call.{Call}
@@ -15,7 +14,7 @@ use Rattle.mq_model.specs.declared.entries.Reply.TheVariants.{Collected, Waits}
 use Rattle.mq_state.specs.Buffers.{message_at, received_at, with_front}
 use Rattle.script_orders.specs.Progress.{Progress}
 use Rattle.script_orders.specs.Said.{said, said_of_collect, said_of_message}
-use Rattle.script_orders.specs.Turns.{Turned, after_turn}
+use Rattle.script_orders.specs.Turns.{after_turn}
 use Rattle.script_orders.specs.declared.plan.Planned.{Planned}
 use Rattle.script_orders.specs.declared.plan.Step.TheVariants as steps
 use Rattle.script_text.specs.Replies.{reply_line}
@@ -42,48 +41,19 @@ legal-grown p before after g legal = legal-behind g.behind before (subst (λ (pa
 
 -- what is printed of a collect ------------------------------------------------------------------------------------------
 
-said-by : (b : Bool) (past : Past) (p by : ℕ) (waiting : Call) → is_receive waiting ≡ b → Answers past by waiting → said_of_collect past p by ≡ (if b then said_of_message past p by else reply_line p outcomes.Done [])
-said-by b past p by waiting kind answers =
-    let sends : unwrap_or (option_map (λ (r : Record). is_send r.entry.call) (record_at past by)) false ≡ b =
-    ap (λ (o : Option Record). unwrap_or (option_map (λ (r : Record). is_send r.entry.call) o) false) answers.at ∙ answers.kind ∙ kind
-    in
-    ap (λ (b : Bool). if b then said_of_message past p by else reply_line p outcomes.Done []) sends
-
--- a send was admitted
-pub sent-prints : (past : Past) (p by : ℕ) (waiting : Call) → is_receive waiting ≡ false → Answers past by waiting → said_of_collect past p by ≡ reply_line p outcomes.Done []
-sent-prints past p by waiting kind answers = said-by false past p by waiting kind answers
-
--- the line of the message that a record sent
-line-of : ℕ → Option Record → List ℕ
-line-of p o = reply_line p (outcomes.Got (record { len = length (unwrap_or (option_map (λ (r : Record). r.payload) o) []); prio = unwrap_or (option_map (λ (r : Record). priority_given r.entry.call) o) 0 })) (unwrap_or (option_map (λ (r : Record). r.payload) o) [])
-
-message-line : (past : Past) (p by : ℕ) → said_of_message past p by ≡ line-of p (record_at past by)
-unfolding line-of
-message-line past p by = refl
+-- what a collect prints: the line of a send, or a message
+pub said-by : (b : Bool) (past : Past) (p by : ℕ) (waiting : Call) → is_receive waiting ≡ b → Answers past by waiting → said_of_collect past p by ≡ (if b then said_of_message past p by else reply_line p outcomes.Done [])
+said-by b past p by waiting kind answers = grind arith
 
 -- a receive returned the message of the send that answered it, and a longer journal says the same
 pub received-prints : (past new : Past) (p by : ℕ) (waiting : Call) (before : List ℕ) → Grows author p past new [] → is_receive waiting ≡ true → Answers past by waiting
     → said_of_collect past p by ≡ reply_line p (outcomes.Got (received_at new by)) (with_front (message_at new by) before)
 received-prints past new p by waiting before g kind answers =
     let later : record_at new by ≡ Some answers.answer = record_at-grown p by answers.answer past new g answers.at in
-    let same : record_at past by ≡ record_at new by = answers.at ∙ sym later in
-    said-by true past p by waiting kind answers ∙ message-line past p by ∙ ap (line-of p) same ∙ sym (message-line new p by) ∙ message-prints new p by before
+    let same : said_of_message past p by ≡ said_of_message new p by = rw (answers.at, later) refl in
+    said-by true past p by waiting kind answers ∙ same ∙ message-prints new p by before
 
 -- a collect ---------------------------------------------------------------------------------------------------------------
-
-collect-answers : (found : Past) (p by : ℕ) → IsLegalNext found (recorded p Collect [] (Collected by)) → answered_by found p ≡ Some by
-collect-answers found p by legal = goes (answered_by found p) refl
-  where
-    goes : (o : Option ℕ) → answered_by found p ≡ o → answered_by found p ≡ Some by
-    goes None is =
-        let may : is_some (answered_by found p) ≡ true = legal.turn in
-        let bad : false ≡ true = rw is at may in
-        absurd (cc)
-    goes (Some b) is =
-        let replies : Collected by ≡ Collected (unwrap_or (answered_by found p) 0) = legal.reply in
-        let here : Collected by ≡ Collected b = rw is at replies in
-        let same : by ≡ b = cc in
-        is ∙ ap (λ (n : ℕ). Some n) (sym same)
 
 -- the move that collects
 pub collect-goes : (phase : ℕ) (program : Vec Planned Global) (p by : ℕ) (waited : Record) (wait : ℕ) (progress : Progress) (found : Past)
@@ -94,19 +64,13 @@ pub collect-goes : (phase : ℕ) (program : Vec Planned Global) (p by : ℕ) (wa
 collect-goes phase program p by waited wait progress found legal next waits at =
     let r : Record = recorded p Collect [] (Collected by) in
     let goes = call-goes found p Collect [] (Collected by) progress next in
-    let answered : answered_by found p ≡ Some by = collect-answers found p by next in
+    let answered : answered_by found p ≡ Some by = grind arith in
     let answers = answer-kind found legal p wait by waited waits answered at in (
       turn-by-collect found phase p progress program wait (record { past = r ∷ found; text = progress.text ++ said (r ∷ found) p (Collected by) }) waits goes,
       record { answer = answers.answer; at = record_at-more (r ∷ []) found by answers.answer answers.at; kind = answers.kind },
     )
 
 -- both moves --------------------------------------------------------------------------------------------------------------
-
--- a wait that began, and the journal that its process left then
-pub record Begun (phase : ℕ) (program : Vec Planned Global) (p : ℕ) (from : Past) (progress : Progress) (left : Past) (call : Call) (given : List ℕ) : Type 0 where
-  pub found : Past
-  pub is : left ≡ recorded p call given Waits ∷ found
-  pub goes : Goes p phase program (record { found = found; own = recorded p call given Waits ∷ []; next = further progress [] }) from progress
 
 -- the move that begins it
 pub wait-goes : (phase : ℕ) (program : Vec Planned Global) (p : ℕ) (from found : Past) (progress : Progress) (call : Call) (given : List ℕ)
@@ -122,17 +86,6 @@ wait-goes phase program p from found progress call given free others next legal 
       turn = turn-by-line found phase p progress program (steps.Call call) given (record { past = r ∷ found; text = progress.text ++ [] }) (wait-grown others ∙ free) next goes;
     }
 
-pub wait-begins : (phase : ℕ) (program : Vec Planned Global) (from : Past) (progress : Progress) (old begun : Ticket Record) (call : Call) (given : List ℕ)
-    → IsAt old.number from old → IsNext phase program progress.begun (steps.Call call) given → Begins old begun call given → Begun phase program old.number from progress begun.left call given
-wait-begins phase program from progress old begun call given at next begins =
-    let s = stood old begun from call given Waits at refl begins.calls begins.found in
-    record { found = s.found; is = s.is; goes = wait-goes phase program old.number from s.found progress call given (at-free old.number from old at) s.others next s.next }
-
--- the same count and text
-turned-as : (begun n : ℕ) (text line : List ℕ) (past : Past) (o : Option Turned) → o ≡ Some (record { past = past; progress = record { begun = begun; text = text } }) → begun ≡ n → text ≡ line → o ≡ Some (record { past = past; progress = record { begun = n; text = line } })
-turned-as begun n text line past o is count same =
-    is ∙ ap (λ (k : ℕ). Some (record { past = past; progress = record { begun = k; text = text } })) count ∙ ap (λ (l : List ℕ). Some (record { past = past; progress = record { begun = n; text = l } })) same
-
 -- a wait and its collect are two moves, if this is printed for the collect
 pub waited-moves : (phase : ℕ) (program : Vec Planned Global) (from : Past) (progress : Progress) (old new : Ticket Record) (call : Call) (given line : List ℕ) (by : ℕ)
     → IsAt old.number from old → IsNext phase program progress.begun (steps.Call call) given → Waited old new call given by
@@ -143,30 +96,23 @@ waited-moves phase program from progress old new call given line by at next wait
     let begun : Ticket Record = waited.begun in
     let wait : Record = recorded p call given Waits in
     let end : Record = recorded p Collect [] (Collected by) in
-    let b = wait-begins phase program from progress old begun call given at next waited.begins in
-    let number : begun.number ≡ p = waited.begins.calls.number in
-    let grows : Grows author p begun.left new.left (end ∷ []) = subst (λ (n : ℕ). Grows author n begun.left new.left (end ∷ [])) number waited.ends.grows in
-    let grown : Grows author p (wait ∷ b.found) new.left (end ∷ []) = subst (λ (l : Past). Grows author p l new.left (end ∷ [])) b.is grows in
+    let b = stood old begun from call given Waits at refl waited.begins.calls waited.begins.found in
+    let begins = wait-goes phase program p from b.found progress call given (at-free p from old at) b.others next b.next in
+    let grown : Grows author p (wait ∷ b.found) new.left (end ∷ []) = rw (waited.begins.calls.number, b.is) at waited.ends.grows in
     let s = stands author p end (wait ∷ b.found) new.left grown in
     let found : Past = s.found in
     let legal : Legal (end ∷ found) = legal-grown p (end ∷ found) new.left s.later waited.calls.legal in
-    let here : open_wait (wait ∷ b.found) p ≡ Some (length b.found) = rw (eq-eqb p p refl) refl in
-    let waits : open_wait found p ≡ Some (length b.found) = wait-grown s.others ∙ here in
-    let first_at : record_at (wait ∷ b.found) (length b.found) ≡ Some wait = rw (eq-eqb (length b.found) (length b.found) refl) refl in
-    let wait_at : record_at found (length b.found) ≡ Some wait = record_at-grown p (length b.found) wait (wait ∷ b.found) found s.others first_at in
+    let waits : open_wait found p ≡ Some (length b.found) = rw (wait-grown s.others, eq-eqb p p refl) refl in
+    let wait_at : record_at found (length b.found) ≡ Some wait = record_at-grown p (length b.found) wait (wait ∷ b.found) found s.others (rw (eq-eqb (length b.found) (length b.found) refl) refl) in
     let first : Progress = further progress [] in
     let c = collect-goes phase program p by wait (length b.found) first found legal.0 legal.1 waits wait_at in
-    let said_is : said_of_collect (end ∷ found) p by ≡ line = prints (end ∷ found) s.later c.1 in
-    let text : (progress.text ++ []) ++ said_of_collect (end ∷ found) p by ≡ progress.text ++ line =
-    ap (λ (l : List ℕ). (progress.text ++ []) ++ l) said_is ∙ append_assoc progress.text [] line
-    in
+    let text : (progress.text ++ []) ++ said_of_collect (end ∷ found) p by ≡ progress.text ++ line = rw (prints (end ∷ found) s.later c.1) (append_assoc progress.text [] line) in
     let count : progress.begun + 1 + 0 ≡ progress.begun + 1 = omega arith in
-    let ended : open_wait (end ∷ found) p ≡ None = rw (eq-eqb p p refl) refl in
     let to_end : Goes p phase program (record { found = found; own = end ∷ []; next = further progress line }) (wait ∷ b.found) first = record {
       others = s.others;
       mine = mine-one p Collect [] (Collected by);
       eager = λ none. let bad : end ∷ [] ≡ [] = none in absurd (cc);
-      turn = turned-as (progress.begun + 1 + 0) (progress.begun + 1) ((progress.text ++ []) ++ said_of_collect (end ∷ found) p by) (progress.text ++ line) (end ∷ found) (after_turn found phase p first program) c.0 count text;
+      turn = rw (count, text) at c.0;
     }
     in
     record {
@@ -174,9 +120,9 @@ waited-moves phase program from progress old new call given line by at next wait
       is = record {
         number = waited.calls.number;
         bounds = ap (λ (l : LockId). bounds_in l.fixed) waited.calls.lock ∙ at.bounds;
-        free = ap (λ (n : ℕ). open_wait new.left n) waited.calls.number ∙ wait-grown s.later ∙ ended;
+        free = rw (waited.calls.number, wait-grown s.later, eq-eqb p p refl) refl;
         near = s.later;
       };
       goes = λ to end_progress moves course.
-          (record { found = b.found; own = wait ∷ []; next = first } ∷ (record { found = found; own = end ∷ []; next = further progress line } ∷ moves), (b.goes, (to_end, course)));
+          (record { found = b.found; own = wait ∷ []; next = first } ∷ (record { found = found; own = end ∷ []; next = further progress line } ∷ moves), (begins, (to_end, course)));
     }

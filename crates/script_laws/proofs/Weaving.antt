@@ -1,8 +1,6 @@
 -- If each process has a course through a phase, some interleaving takes them through it.
-use Rattle.std.proofs.Common.{◌≡◌, ◌⊎◌, inl, inr, ℕ, zero, suc, ◌+◌, ◌≤◌, ◌==◌, List, [], ◌∷◌, ◌++◌, length, Option, Some, slice_get, slice_set, refl, ap, sym, ◌∙◌, subst, arith, append_assoc, append-nil, length-set, Vec}
+use Rattle.std.proofs.Common.{◌≡◌, ◌⊎◌, inl, inr, ℕ, zero, suc, ◌+◌, ◌≤◌, ◌==◌, List, [], ◌∷◌, ◌++◌, length, Some, slice_get, slice_set, refl, ap, sym, ◌∙◌, subst, arith, append_assoc, append-nil, length-set}
 use Rattle.std.specs.List.{All}
-use Rattle.std.specs.Option.{option_and_then}
-use Rattle.std.specs.declared.alloc.Global.{Global}
 use Rattle.std.proofs.lemmas.List.{append_cancel_right}
 use Rattle.fast_mutex.specs.Items.{items_of}
 use Rattle.mq.specs.Calls.{author}
@@ -12,11 +10,12 @@ use Rattle.schedules.specs.Schedules.{after}
 use Rattle.script_orders.specs.Progress.{Progress}
 use Rattle.script_orders.specs.Stage.{Stage, next_stage}
 use Rattle.script_orders.specs.Turns.{Turned, after_turn}
-use Rattle.script_orders.specs.declared.plan.Planned.{Planned}
+use Rattle.schedules.proofs.Backing.{all-front}
+use Rattle.script_orders.proofs.Persisting.{set-other}
 use Rattle.script_laws.proofs.Course.{Course, Move}
 use Rattle.script_laws.proofs.Courses.{course-end, course-goes-on, first-move, found-here}
-use Rattle.script_laws.proofs.Joins.{all-left, all-last, both-empty, by-last, owns-last}
-use Rattle.script_laws.proofs.Runners.{AreOnCourse, Frame, Runner, ends_in, get-set-here, get-set-other, goes-on, gone, map-agree, map-set-same, programs_in, seats_in, staged, there-is}
+use Rattle.script_laws.proofs.Joins.{all-last, both-empty, by-last, owns-last}
+use Rattle.script_laws.proofs.Runners.{AreOnCourse, Frame, Runner, ends_in, get-set-here, goes-on, gone, map-agree, map-set-same, programs_in, staged, there-is}
 
 -- a move that leaves no record ---------------------------------------------------------------------------------------------
 
@@ -51,10 +50,7 @@ abbrev AreLater : List Runner → Type 0
 AreLater runners = (i : ℕ) (r : Runner) → slice_get runners i ≡ Some r → StartsLater r.moves
 
 later-more : (r : Runner) (runners : List Runner) → StartsLater r.moves → AreLater runners → AreLater (r ∷ runners)
-later-more r runners one rest zero s has =
-    let same : r ≡ s = cc in
-    let P : Runner → Type 0 = λ x. StartsLater x.moves in
-    subst P same one
+later-more r runners one rest zero s has = let same : r ≡ s = cc in rw (← same) one
 later-more r runners one rest (suc i) s has = rest i s has
 
 find-eager : (runners : List Runner) → Eager runners ⊎ AreLater runners
@@ -125,7 +121,6 @@ own-next phase to past runners i runner ys r on later has is at (move ∷ moves)
     let first = first-move (i + 1) phase runner.program to runner.end move moves past runner.seat course in
     let sides : ys ++ r ∷ [] ≡ (first.0 ++ move.own) ++ course.0.others.behind = append_cancel_right (ys ++ r ∷ []) ((first.0 ++ move.own) ++ course.0.others.behind) past (sym at ∙ first.1) in
     let here : course.0.others.behind ≡ [] = found-here (i + 1) ys (first.0 ++ move.own) course.0.others.behind r is course.0.others.mine sides in
-    let found : move.found ≡ past = course.0.others.is ∙ ap (λ (l : Past). l ++ past) here in
     let more : to ≡ (first.0 ++ move.own) ++ past = first.1 ∙ ap (λ (l : Past). l ++ past) (ap (λ (l : Past). (first.0 ++ move.own) ++ l) here ∙ append-nil (first.0 ++ move.own)) in
     record {
       at = i;
@@ -134,10 +129,8 @@ own-next phase to past runners i runner ys r on later has is at (move ∷ moves)
       moves = moves;
       has = has;
       next = e;
-      found = found;
-      others = λ j other differ there.
-          let apart : j + 1 ≡ i + 1 → ⊥ = λ same. differ (omega (arith, same)) in
-          course-goes-on (i + 1) (j + 1) phase other.program to other.end other.moves past other.seat first.0 move.own apart course.0.mine more (later j other there) (on j other there);
+      found = course.0.others.is ∙ ap (λ (l : Past). l ++ past) here;
+      others = λ j other differ there. course-goes-on (i + 1) (j + 1) phase other.program to other.end other.moves past other.seat first.0 move.own (λ same. differ (omega (arith, same))) course.0.mine more (later j other there) (on j other there);
     }
 
 -- if this is the last journal, and each next move adds a record
@@ -182,24 +175,13 @@ Weaves frame phase to past runners =
 
 one-less : (runners : List Runner) (i : ℕ) (r : Runner) (seat : Progress) (move : Move) (moves : List Move) → slice_get runners i ≡ Some r → r.moves ≡ move ∷ moves → suc (moves_left (slice_set runners i (gone r seat moves))) ≡ moves_left runners
 one-less [] i r seat move moves has next = cc
-one-less (x ∷ runners) zero r seat move moves has next =
-    let same : x ≡ r = cc in
-    let count : length x.moves ≡ suc (length moves) = ap (λ (y : Runner). length y.moves) same ∙ ap (λ (l : List Move). length l) next in
-    omega (arith, count)
-one-less (x ∷ runners) (suc i) r seat move moves has next =
-    let rest = one-less runners i r seat move moves has next in
-    omega (arith, rest)
+one-less (x ∷ runners) zero r seat move moves has next = grind arith
+one-less (x ∷ runners) (suc i) r seat move moves has next = grind (arith, one-less runners i r seat move moves has next)
 
 all-ended : (frame : Frame) (phase : ℕ) (to past : Past) (runners : List Runner) → AreOnCourse phase to past runners → AllMade to past runners → Weaves frame phase to past runners
 all-ended frame phase to past runners on all =
-    let seats : seats_in runners ≡ ends_in runners = map-agree (λ (r : Runner). r.seat) (λ (r : Runner). r.end) runners (λ i r has.
-    let course : CourseOf i phase to past r [] = subst (λ (moves : List Move). CourseOf i phase to past r moves) (all.made i r has) (on i r has) in
-    course.0)
-    in
-    let made : Past → List Progress → Option Stage = λ past seats.
-    Some (record { programs = programs_in runners; phases = frame.phases; start = frame.start; phase = phase; past = past; seats = seats })
-    in
-    ([], ap (λ (past : Past). made past (seats_in runners)) all.here ∙ ap (λ (seats : List Progress). made to seats) seats)
+    let same : (i : ℕ) (r : Runner) → slice_get runners i ≡ Some r → r.seat ≡ r.end = λ i r has. (subst (λ (moves : List Move). CourseOf i phase to past r moves) (all.made i r has) (on i r has)).0 in
+    ([], rw (all.here, map-agree (λ (r : Runner). r.seat) (λ (r : Runner). r.end) runners same) refl)
 
 -- after the next move all are on their courses
 next-on : (phase : ℕ) (to past : Past) (runners : List Runner) → AreOnCourse phase to past runners → (n : Next phase to past runners) → AreOnCourse phase to (n.move.own ++ n.move.found) (slice_set runners n.at (gone n.runner n.move.next n.moves))
@@ -207,35 +189,23 @@ next-on phase to past runners on n i r has =
     split (i == n.at)
     (λ e.
     let here : i ≡ n.at = same_place i n.at e in
-    let at_it : slice_get (slice_set runners n.at (gone n.runner n.move.next n.moves)) n.at ≡ Some r = ap (λ (k : ℕ). slice_get (slice_set runners n.at (gone n.runner n.move.next n.moves)) k) (sym here) ∙ has in
-    let is : r ≡ gone n.runner n.move.next n.moves = get-set-here runners n.at (gone n.runner n.move.next n.moves) r at_it in
+    let is : r ≡ gone n.runner n.move.next n.moves = get-set-here runners n.at (gone n.runner n.move.next n.moves) r (rw here at has) in
     let course : CourseOf n.at phase to past n.runner (n.move ∷ n.moves) = subst (λ (moves : List Move). CourseOf n.at phase to past n.runner moves) n.next (on n.at n.runner n.has) in
-    let P : ℕ → Type 0 = λ k. Course (k + 1) phase n.runner.program to n.runner.end n.moves (n.move.own ++ n.move.found) n.move.next in
-    let Q : Runner → Type 0 = λ x. Course (i + 1) phase x.program to x.end x.moves (n.move.own ++ n.move.found) x.seat in
-    subst Q (sym is) (subst P (sym here) course.1))
+    rw (is, here) course.1)
     (λ e.
     let differ = other_place i n.at e in
-    let there : slice_get runners i ≡ Some r = sym (get-set-other runners n.at i (gone n.runner n.move.next n.moves) differ) ∙ has in
-    let P : Past → Type 0 = λ found. Course (i + 1) phase r.program to r.end r.moves (n.move.own ++ found) r.seat in
-    subst P (sym n.found) (n.others i r differ there))
+    let there : slice_get runners i ≡ Some r = sym (set-other runners n.at i (gone n.runner n.move.next n.moves) (λ same. differ (sym same))) ∙ has in
+    rw n.found (n.others i r differ there))
 
 -- one move, and then the rest
 then-weaves : (frame : Frame) (phase : ℕ) (to past : Past) (runners : List Runner) → AreOnCourse phase to past runners → (n : Next phase to past runners) → Weaves frame phase to (n.move.own ++ n.move.found) (slice_set runners n.at (gone n.runner n.move.next n.moves)) → Weaves frame phase to past runners
 then-weaves frame phase to past runners on n rest =
     let course : CourseOf n.at phase to past n.runner (n.move ∷ n.moves) = subst (λ (moves : List Move). CourseOf n.at phase to past n.runner moves) n.next (on n.at n.runner n.has) in
     let turned : Turned = record { past = n.move.own ++ n.move.found; progress = n.move.next } in
-    let P : Past → Type 0 = λ found. after_turn found phase (n.at + 1) n.runner.seat n.runner.program ≡ Some turned in
-    let goes : after_turn past phase (n.at + 1) n.runner.seat n.runner.program ≡ Some turned = subst P n.found course.0.turn in
+    let goes : after_turn past phase (n.at + 1) n.runner.seat n.runner.program ≡ Some turned = subst (λ found. after_turn found phase (n.at + 1) n.runner.seat n.runner.program ≡ Some turned) n.found course.0.turn in
     let step = goes-on frame phase past runners n.at n.runner turned n.moves n.has goes in
-    let next : List Runner = slice_set runners n.at (gone n.runner n.move.next n.moves) in
-    let made : List (Vec Planned Global) → List Progress → Option Stage = λ programs seats.
-    Some (record { programs = programs; phases = frame.phases; start = frame.start; phase = phase; past = to; seats = seats })
-    in (
-      n.at ∷ rest.0,
-      ap (λ (o : Option Stage). option_and_then (after next_stage rest.0) o) step ∙ (rest.1
-          ∙ (ap (λ (programs : List (Vec Planned Global)). made programs (ends_in next)) (map-set-same (λ (r : Runner). r.program) runners n.at n.runner (gone n.runner n.move.next n.moves) n.has refl)
-          ∙ ap (λ (seats : List Progress). made (programs_in runners) seats) (map-set-same (λ (r : Runner). r.end) runners n.at n.runner (gone n.runner n.move.next n.moves) n.has refl))),
-    )
+    let set : Runner = gone n.runner n.move.next n.moves in
+    (n.at ∷ rest.0, rw (step, rest.1, map-set-same (λ (r : Runner). r.program) runners n.at n.runner set n.has refl, map-set-same (λ (r : Runner). r.end) runners n.at n.runner set n.has refl) refl)
 
 -- what is added after the next move
 next-behind : (phase : ℕ) (to past : Past) (runners : List Runner) (behind : Past) → AreOnCourse phase to past runners → to ≡ behind ++ past → All (IsOf (length runners)) behind → (n : Next phase to past runners) →
@@ -245,7 +215,7 @@ next-behind phase to past runners behind on at of n =
     let more = course-end (n.at + 1) phase n.runner.program to n.runner.end n.moves (n.move.own ++ n.move.found) n.move.next course.1 in
     let whole : to ≡ (more.0 ++ n.move.own) ++ past = more.1 ∙ (ap (λ (l : Past). more.0 ++ (n.move.own ++ l)) n.found ∙ sym (append_assoc more.0 n.move.own past)) in
     let same : behind ≡ more.0 ++ n.move.own = append_cancel_right behind (more.0 ++ n.move.own) past (sym at ∙ whole) in
-    let few : All (IsOf (length runners)) more.0 = all-left (IsOf (length runners)) more.0 n.move.own (subst (λ (l : Past). All (IsOf (length runners)) l) same of) in
+    let few : All (IsOf (length runners)) more.0 = all-front (IsOf (length runners)) more.0 behind n.move.own same of in
     (more.0, more.1, subst (λ (count : ℕ). All (IsOf count) more.0) (sym (length-set runners n.at (gone n.runner n.move.next n.moves))) few)
 
 weave : (left : ℕ) (frame : Frame) (phase : ℕ) (to past : Past) (runners : List Runner) (behind : Past) → moves_left runners ≡ left → AreOnCourse phase to past runners → to ≡ behind ++ past → All (IsOf (length runners)) behind → Weaves frame phase to past runners
