@@ -1,9 +1,6 @@
 // Runs a script of message queue calls, from standard input to standard output.
 #![tactic(auto)]
 
-#[cfg(test)]
-mod tests;
-
 use fast_mutex::FastMutex;
 use mq::Guarded;
 use script_runner::{Plain, run_script};

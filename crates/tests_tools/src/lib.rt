@@ -1,7 +1,7 @@
 //! Tests of what the programs rest on: the bytes, words and numbers that `text_io` reads and
-//! writes, every interleaving of a script's calls, the exploration of small programs, compared with
-//! all their interleavings, and the tasks of `mqlog`. They are in a crate of their own, so that none
-//! of those crates is proved again for them.
+//! writes, the runs of scripts, every interleaving of a script's calls, the exploration of small
+//! programs, compared with all their interleavings, and the tasks of `mqlog`. They are in a crate of
+//! their own, so that none of those crates is proved again for them.
 #![tactic(auto)]
 
 #[cfg(test)]
@@ -22,6 +22,8 @@ mod orders;
 mod program;
 #[cfg(test)]
 mod reading;
+#[cfg(test)]
+mod runs;
 #[cfg(test)]
 mod same;
 #[cfg(test)]
