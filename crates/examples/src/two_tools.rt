@@ -36,9 +36,9 @@ const BUDGET: u64 = 10_000;
 
 pub fn run(rt: &impl Print, alloc: Global) -> anyhow::Result<()> {
     let script = read_script(alloc, WRITERS)?;
-    let mut play = play_of(alloc, &script)?;
+    let mut play = play_of(alloc, &script, WRITERS)?;
     let outcomes = outcomes_of(alloc, &mut play, BUDGET)?;
-    let report = report_text(alloc, script.phases.len() as u64, &outcomes, BUDGET)?;
+    let report = report_text(alloc, script.phases.len() as u64, &outcomes)?;
     write_all(&mut io::writer(rt), report.as_slice())?;
     Ok(())
 }

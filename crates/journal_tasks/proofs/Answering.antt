@@ -1,5 +1,5 @@
 -- What was found about a script, from the start of its processes.
-use Rattle.std.proofs.Common.{◌≡◌, ◌∙◌, ℕ, true, false, Option, ap, subst}
+use Rattle.std.proofs.Common.{◌≡◌, ◌≤◌, ◌∙◌, ℕ, true, false, Option, ap, subst}
 use Rattle.std.specs.List.{All}
 use Rattle.schedules.specs.Outcomes.{AreAll, AreDistinct, IsWitness}
 use Rattle.schedules.specs.Work.{TakesAll}
@@ -12,16 +12,16 @@ pub found-from : (budget : ℕ) (play : Stage) (collected : Collected) → first
     All (IsWitness next_stage stands_still observed (first_stage play)) collected.found.items → AreDistinct collected.found.items →
     (collected.complete ≡ true → AreAll next_stage stands_still observed (first_stage play) collected.found.items) →
     (collected.complete ≡ false → TakesAll next_stage choice_count (λ depth. 1) budget (first_stage play)) →
-    AreLegal (first_stage play) → AreFound budget play collected
-found-from budget play collected first witnessed distinct all used_up legal =
+    (collected.steps ≤ budget) × (collected.complete ≡ false → collected.steps ≡ budget) → AreLegal (first_stage play) → AreFound budget play collected
+found-from budget play collected first witnessed distinct all used_up steps legal =
     let P : Stage → Type 0 = λ s. AreFound budget s collected in
-    let here : AreFound budget (first_stage play) collected = record { witnessed = witnessed; distinct = distinct; all = all; used_up = used_up; legal = legal } in
+    let here : AreFound budget (first_stage play) collected = record { witnessed = witnessed; distinct = distinct; all = all; used_up = used_up; steps = steps; legal = legal } in
     subst P first here
 
-pub text-from : (journal : Option ℕ) (budget phases count : ℕ) (play later : Stage) (collected : Collected) →
+pub text-from : (journal : Option ℕ) (phases count : ℕ) (play later : Stage) (collected : Collected) →
     phases ≡ count → first_stage later ≡ first_stage play → first_stage play ≡ play →
-    answer_text journal budget phases (first_stage later) collected ≡ answer_text journal budget count play collected
-text-from journal budget phases count play later collected same start first =
-    ap (λ (n : ℕ). answer_text journal budget n (first_stage later) collected) same
-    ∙ ap (λ (s : Stage). answer_text journal budget count s collected) start
-    ∙ ap (λ (s : Stage). answer_text journal budget count s collected) first
+    answer_text journal phases (first_stage later) collected ≡ answer_text journal count play collected
+text-from journal phases count play later collected same start first =
+    ap (λ (n : ℕ). answer_text journal n (first_stage later) collected) same
+    ∙ ap (λ (s : Stage). answer_text journal count s collected) start
+    ∙ ap (λ (s : Stage). answer_text journal count s collected) first

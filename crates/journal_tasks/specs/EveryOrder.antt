@@ -1,5 +1,5 @@
 -- The answer about all interleavings of the calls of a script.
-use Rattle.std.specs.Prelude.{◌≡◌, ℕ, zero, suc, Bool, true, false, List, [], Option, None, Some, Result, Ok, Err, if◌then◌else◌, length, slice_get}
+use Rattle.std.specs.Prelude.{◌≡◌, ◌≤◌, ℕ, zero, suc, Bool, true, false, List, [], Option, None, Some, Result, Ok, Err, if◌then◌else◌, length, slice_get}
 use Rattle.std.specs.List.{All, list_any}
 use Rattle.std.specs.Option.{option_map, unwrap_or}
 use Rattle.std.specs.Io.KnownBytes as known
@@ -30,13 +30,14 @@ ending_status Deadlock = 5
 ending_status OutOfBudget = 6
 
 -- What was found from a stage on. Each item has a schedule that leads to it, and no two items are
--- the same. If the search is complete there is nothing else. If not, a complete one takes at least
--- as many steps as the budget. The journal after each schedule is legal.
+-- the same. If the search is complete there is nothing else. If not, it took as many steps as the
+-- budget has, and a complete one takes at least as many. The journal after each schedule is legal.
 pub record AreFound (budget : ℕ) (from : Stage) (collected : Collected) : Type 0 where
   pub witnessed : All (IsWitness next_stage stands_still observed from) collected.found.items
   pub distinct : AreDistinct collected.found.items
   pub all : collected.complete ≡ true → AreAll next_stage stands_still observed from collected.found.items
   pub used_up : collected.complete ≡ false → TakesAll next_stage choice_count (λ depth. 1) budget from
+  pub steps : (collected.steps ≤ budget) × (collected.complete ≡ false → collected.steps ≡ budget)
   pub legal : AreLegal from
 
 -- the item with this number, counted from 1
@@ -54,9 +55,9 @@ numbered_text from None = []
 numbered_text from (Some one) = journal_of from one.schedule.items
 
 -- the answer: the report, or the journal with a number
-abbrev pub answer_text : Option ℕ → ℕ → ℕ → Stage → Collected → List ℕ
-answer_text None budget phases from collected = report_text phases collected.found.items collected.complete budget
-answer_text (Some number) budget phases from collected = numbered_text from (numbered collected.found.items number)
+abbrev pub answer_text : Option ℕ → ℕ → Stage → Collected → List ℕ
+answer_text None phases from collected = report_text phases collected.found.items collected.complete collected.steps
+answer_text (Some number) phases from collected = numbered_text from (numbered collected.found.items number)
 
 abbrev pub has_deadlock : List Witnessed → Bool
 has_deadlock found = list_any (λ one. one.outcome.stuck) found
@@ -76,32 +77,34 @@ answer_ending None collected = ending_of collected
 answer_ending (Some number) collected = ending_if collected (numbered collected.found.items number)
 
 -- All interleavings of a script were tried, unless the budget was used up, and the answer was
--- appended to known bytes. The script starts after the calls of a journal.
-pub record AnswersAfter (past : Past) (script : Whole) (trial : Trial) (ending : Ending) (old new : Option (List ℕ)) : Type 0 where
+-- appended to known bytes. The script, which has these bytes, starts after the calls of a journal.
+pub record AnswersAfter (past : Past) (script : Whole) (bytes : List ℕ) (trial : Trial) (ending : Ending) (old new : Option (List ℕ)) : Type 0 where
   pub from : Stage
   pub begins : BeginsAfter past script from
+  pub says : from.script ≡ bytes
   pub collected : Collected
   pub found : AreFound trial.budget from collected
   pub ends : ending ≡ answer_ending trial.journal collected
-  pub written : known.Appends old new (answer_text trial.journal trial.budget (length script.phases) from collected)
+  pub written : known.Appends old new (answer_text trial.journal (length script.phases) from collected)
 
 -- the same, but a proper prefix of the answer was appended
-pub record AnswersAfterInPart (past : Past) (script : Whole) (trial : Trial) (old new : Option (List ℕ)) : Type 0 where
+pub record AnswersAfterInPart (past : Past) (script : Whole) (bytes : List ℕ) (trial : Trial) (old new : Option (List ℕ)) : Type 0 where
   pub from : Stage
   pub begins : BeginsAfter past script from
+  pub says : from.script ≡ bytes
   pub collected : Collected
   pub found : AreFound trial.budget from collected
-  pub written : AppendsTooLittle old new (answer_text trial.journal trial.budget (length script.phases) from collected)
+  pub written : AppendsTooLittle old new (answer_text trial.journal (length script.phases) from collected)
 
 -- the same for a script that starts with the empty journal
-abbrev pub Answers : Whole → Trial → Ending → Option (List ℕ) → Option (List ℕ) → Type 0
-Answers script trial ending old new = AnswersAfter [] script trial ending old new
+abbrev pub Answers : Whole → List ℕ → Trial → Ending → Option (List ℕ) → Option (List ℕ) → Type 0
+Answers script bytes trial ending old new = AnswersAfter [] script bytes trial ending old new
 
-abbrev pub AnswersInPart : Whole → Trial → Option (List ℕ) → Option (List ℕ) → Type 0
-AnswersInPart script trial old new = AnswersAfterInPart [] script trial old new
+abbrev pub AnswersInPart : Whole → List ℕ → Trial → Option (List ℕ) → Option (List ℕ) → Type 0
+AnswersInPart script bytes trial old new = AnswersAfterInPart [] script bytes trial old new
 
 -- The answer was written; or nothing was, and there is a reason why the script cannot continue from
 -- the journal.
-abbrev pub AnswersOrNot : Past → Whole → Trial → Result Ending NoStart → Option (List ℕ) → Option (List ℕ) → Type 0
-AnswersOrNot past script trial (Ok ending) old new = AnswersAfter past script trial ending old new
-AnswersOrNot past script trial (Err why) old new = IsNoStart past script.processes why × (new ≡ old)
+abbrev pub AnswersOrNot : Past → Whole → List ℕ → Trial → Result Ending NoStart → Option (List ℕ) → Option (List ℕ) → Type 0
+AnswersOrNot past script bytes trial (Ok ending) old new = AnswersAfter past script bytes trial ending old new
+AnswersOrNot past script bytes trial (Err why) old new = IsNoStart past script.processes why × (new ≡ old)

@@ -95,17 +95,19 @@ pub fn try_orders<R: ByteSource, W: Write>(
         W.contents output.new ≡ W.contents output.old }
     ensures output { (all : List ℕ) (script : Whole) → R.remaining input.old ≡ Some all →
         script_written (take (MOST_BYTES + 1) all) ≡ Ok script → IsErrOf result Output →
-        AnswersInPart script trial (W.contents output.old) (W.contents output.new) }
+        AnswersInPart script (take (MOST_BYTES + 1) all) trial (W.contents output.old)
+        (W.contents output.new) }
     ensures done { (all : List ℕ) (script : Whole) → R.remaining input.old ≡ Some all →
         script_written (take (MOST_BYTES + 1) all) ≡ Ok script →
-        IfOk result (λ ending. Answers script trial ending (W.contents output.old)
-        (W.contents output.new)) }
+        IfOk result (λ ending. Answers script (take (MOST_BYTES + 1) all) trial ending
+        (W.contents output.old) (W.contents output.new)) }
     ensures cause { IsErrOf result Input → HasFailed (R.failed input.new) }
     ensures well { (IsErrOf result Input → ⊥) → R.failed input.new ≡ R.failed input.old }
 {
     let text = read_all(alloc, input, MOST_BYTES)?;
-    let script = read_script(alloc, text.as_slice())?;
-    try_script(alloc, Journal::new(alloc), &script, output, trial)
+    let bytes = text.as_slice();
+    let script = read_script(alloc, bytes)?;
+    try_script(alloc, Journal::new(alloc), &script, bytes, output, trial)
 }
 
 /// Tries every interleaving of the calls of a script as `try_orders` does, in the state that a
@@ -128,18 +130,19 @@ pub fn try_orders_after<R: ByteSource, W: Write>(
         W.contents output.new ≡ W.contents output.old }
     ensures output { (all : List ℕ) (script : Whole) → R.remaining input.old ≡ Some all →
         script_written (take (MOST_BYTES + 1) all) ≡ Ok script → IsErrOf result Output →
-        AnswersAfterInPart journal.records script trial (W.contents output.old)
-        (W.contents output.new) }
+        AnswersAfterInPart journal.records script (take (MOST_BYTES + 1) all) trial
+        (W.contents output.old) (W.contents output.new) }
     ensures done { (all : List ℕ) (script : Whole) → R.remaining input.old ≡ Some all →
         script_written (take (MOST_BYTES + 1) all) ≡ Ok script →
-        IfOk result (λ answer. AnswersOrNot journal.records script trial answer
-        (W.contents output.old) (W.contents output.new)) }
+        IfOk result (λ answer. AnswersOrNot journal.records script (take (MOST_BYTES + 1) all)
+        trial answer (W.contents output.old) (W.contents output.new)) }
     ensures cause { IsErrOf result Input → HasFailed (R.failed input.new) }
     ensures well { (IsErrOf result Input → ⊥) → R.failed input.new ≡ R.failed input.old }
 {
     let text = read_all(alloc, input, MOST_BYTES)?;
-    let script = read_script(alloc, text.as_slice())?;
-    try_after(alloc, journal, &script, output, trial)
+    let bytes = text.as_slice();
+    let script = read_script(alloc, bytes)?;
+    try_after(alloc, journal, &script, bytes, output, trial)
 }
 
 // Tries every interleaving of the calls of a script after those of a journal, and writes the
@@ -148,6 +151,7 @@ fn try_after<W: Write>(
     alloc: Global,
     journal: Journal,
     script: &Script<'_>,
+    bytes: &[u8],
     output: &mut W,
     trial: Trial,
 ) -> Result<Result<Ending, NoStart>, RunFault>
@@ -157,15 +161,16 @@ fn try_after<W: Write>(
     ensures unwritten { (fault : RunFault) → IsErrOf result fault → fault ≢ Output →
         W.contents output.new ≡ W.contents output.old }
     ensures output { IsErrOf result Output → AnswersAfterInPart journal.records
-        (said_script script.now) trial (W.contents output.old) (W.contents output.new) }
+        (said_script script.now) bytes.now trial (W.contents output.old)
+        (W.contents output.new) }
     ensures done { IfOk result (λ answer. AnswersOrNot journal.records (said_script script.now)
-        trial answer (W.contents output.old) (W.contents output.new)) }
+        bytes.now trial answer (W.contents output.old) (W.contents output.new)) }
 {
     let start = start_after(alloc, script.processes, journal)?;
     match start {
         Ok(books) => {
             let past = books.into_journal();
-            match try_script(alloc, past, script, output, trial) {
+            match try_script(alloc, past, script, bytes, output, trial) {
                 Ok(ending) => Ok(Ok(ending)),
                 Err(fault) => Err(fault),
             }
@@ -179,6 +184,7 @@ fn try_script<W: Write>(
     alloc: Global,
     journal: Journal,
     script: &Script<'_>,
+    bytes: &[u8],
     output: &mut W,
     trial: Trial,
 ) -> Result<Ending, RunFault>
@@ -189,15 +195,15 @@ fn try_script<W: Write>(
     ensures unwritten { (fault : RunFault) → IsErrOf result fault → fault ≢ Output →
         W.contents output.new ≡ W.contents output.old }
     ensures output { IsErrOf result Output →
-        AnswersAfterInPart journal.records (said_script script.now) trial (W.contents output.old)
-        (W.contents output.new) }
+        AnswersAfterInPart journal.records (said_script script.now) bytes.now trial
+        (W.contents output.old) (W.contents output.new) }
     ensures done { IfOk result (λ ending. AnswersAfter journal.records (said_script script.now)
-        trial ending (W.contents output.old) (W.contents output.new)) }
+        bytes.now trial ending (W.contents output.old) (W.contents output.new)) }
 {
-    let mut play = play_after(alloc, script, journal)?;
+    let mut play = play_after(alloc, script, bytes, journal)?;
     let collected = outcomes_of(alloc, &mut play, trial.budget)?;
     let phases = script.phases.len() as u64;
-    let said = answer_text(alloc, &mut play, phases, &collected, trial)?;
+    let said = answer_text(alloc, &mut play, phases, &collected, trial.journal)?;
     write_all(output, said.as_slice())?;
     Ok(answer_ending(&collected, trial.journal))
 }
@@ -208,15 +214,15 @@ fn answer_text(
     play: &mut Play,
     phases: u64,
     collected: &Collected,
-    trial: Trial,
+    journal: Option<u64>,
 ) -> Result<Vec<u8>, AllocError>
     requires { All (IsWitness next_stage stands_still observed
         (first_stage play.old)) collected.now.found.items }
     ensures { IfOk result (λ text. text.items ≡
-        answer_text trial.journal trial.budget phases (first_stage play.old) collected.now) }
+        answer_text journal phases (first_stage play.old) collected.now) }
 {
-    match trial.journal {
-        None => report_text(alloc, phases, collected, trial.budget),
+    match journal {
+        None => report_text(alloc, phases, collected),
         Some(number) => match numbered(&collected.found, number) {
             None => Ok(Vec::new(alloc)),
             Some(found) => journal_of(alloc, play, &found.schedule),

@@ -1,5 +1,5 @@
 //! The outcomes of all schedules of a machine.
-ghost use Rattle.std.specs.Prelude.{◌≡◌, ◌++◌, ◌∷◌, [], ℕ, All, IfOk, List, None, OnOk, Some, false, if◌then◌else◌, is_some, true};
+ghost use Rattle.std.specs.Prelude.{◌≡◌, ◌≤◌, ◌++◌, ◌∷◌, [], ℕ, All, IfOk, List, None, OnOk, Some, false, if◌then◌else◌, is_some, true};
 ghost use Rattle.schedules.specs.Choices.{IsFirstFrom};
 ghost use Rattle.schedules.specs.Persistence.{IsFirst, IsFollowing};
 ghost use Rattle.schedules.specs.Schedules.{after};
@@ -57,6 +57,8 @@ pub struct Collected {
     pub found: Vec<Witnessed>,
     /// Whether every schedule was tried, so that there are no others.
     pub complete: bool,
+    /// How many steps the search took.
+    pub steps: u64,
 }
 
 // Whether two outcomes are equal.
@@ -201,6 +203,8 @@ pub fn collect<M: EquivalentOutcomes>(
         AreAll M.next M.is_goal M.outcome (M.start machine.old) c.found.items) }
     ensures used_up { IfOk result (λ c. c.complete ≡ false →
         TakesAll M.next M.choices (λ depth. 1) budget (M.start machine.old)) }
+    ensures steps { IfOk result (λ c. (c.steps ≤ budget) × (c.complete ≡ false →
+        c.steps ≡ budget)) }
     ensures start { OnOk result (M.start machine.new ≡ M.start machine.old) }
 {
     machine.keeps_alike();
@@ -214,7 +218,7 @@ pub fn collect<M: EquivalentOutcomes>(
     let mut found = Vec::new(alloc);
     note(alloc, machine, &path, &mut found)?;
     let mut next = first_choice(machine);
-    for _ in 0..budget {
+    for steps in 0..budget {
         match next {
             Some(choice) => {
                 let other = following(machine, choice);
@@ -231,6 +235,7 @@ pub fn collect<M: EquivalentOutcomes>(
                     return Ok(Collected {
                         found,
                         complete: true,
+                        steps,
                     });
                 };
                 next = leave(&mut levels, &mut seen)?;
@@ -243,5 +248,6 @@ pub fn collect<M: EquivalentOutcomes>(
     Ok(Collected {
         found,
         complete: false,
+        steps: budget,
     })
 }

@@ -1,12 +1,12 @@
 -- The end of a phase that deadlocked: no process can go on, and at least one waits.
-use Rattle.std.proofs.Common.{◌≡◌, ◌≢◌, ℕ, zero, suc, ◌+◌, ◌<◌, true, false, List, [], ◌∷◌, ◌++◌, length, Option, Some, None, slice_get, refl, ap, sym, ◌∙◌, subst, arith, append_assoc, append-nil}
+use Rattle.std.proofs.Common.{◌≡◌, ◌≢◌, ℕ, zero, suc, ◌+◌, ◌<◌, true, false, List, [], ◌∷◌, ◌++◌, length, Option, Some, None, slice_get, refl, ap, ◌∙◌, subst, arith, append_assoc, append-nil}
 use Rattle.std.proofs.lemmas.List.{length-map}
 use Rattle.std.proofs.lemmas.Option.{slice_get_within}
 use Rattle.std.proofs.lemmas.Option.{slice_get-map}
 use Rattle.fast_mutex.specs.Items.{Ticket}
 use Rattle.std.proofs.lemmas.Bool.{and_parts}
 use Rattle.mq_model.specs.Record.{Past, Record}
-use Rattle.script_orders.specs.Stage.{Stage, one_waits, stands_still, observed, wait_of, wait_text, waiting_lines}
+use Rattle.script_orders.specs.Stage.{Stage, one_waits, stands_still, observed, wait_of, waiting_lines}
 use Rattle.script_orders.specs.Turns.{after_turn}
 use Rattle.script_runner.specs.Stands.{blocked_lines, line_in}
 use Rattle.script_runner.specs.declared.turns.Worked.{Worked}
@@ -34,26 +34,26 @@ rests-turn b p phase past to r rests = grind (arith, no-turn, and_parts)
 
 -- what is reported ---------------------------------------------------------------------------------------------------------
 
-stand-more : (first more : List ℕ) → stand_text (first ++ more) ≡ stand_text first ++ stand_text more
-stand-more [] more = refl
-stand-more (line ∷ first) more = ap (λ (l : List ℕ). wait_text line ++ l) (stand-more first more) ∙ sym (append_assoc (wait_text line) (stand_text first) (stand_text more))
+stand-more : (script first more : List ℕ) → stand_text script (first ++ more) ≡ stand_text script first ++ stand_text script more
+stand-more script [] more = refl
+stand-more script (line ∷ first) more = grind (arith, append_assoc, stand-more script first more)
 
-rests-said : (b : Option ℕ) (i : ℕ) (frame : Frame) (phase : ℕ) (past to : Past) (runners : List Runner) (r : Runner) → slice_get runners i ≡ Some r → Rests b (i + 1) phase past to r → wait_of (ended frame phase to runners) i ≡ stand_text (line_in b)
+rests-said : (b : Option ℕ) (i : ℕ) (frame : Frame) (phase : ℕ) (past to : Past) (runners : List Runner) (r : Runner) → slice_get runners i ≡ Some r → Rests b (i + 1) phase past to r → wait_of (ended frame phase to runners) i ≡ stand_text frame.script (line_in b)
 rests-said b i frame phase past to runners r has rests = grind (arith, and_parts, slice_get-map, append-nil)
 
 -- if each process reports the line in which it waits, from the process at index i on
-lines-from : (s : Stage) (ended : List (Worked (Ticket Record))) (i : ℕ) → ((j : ℕ) (w : Worked (Ticket Record)) → slice_get ended j ≡ Some w → wait_of s (i + j) ≡ stand_text (line_in w.blocked)) →
-    waiting_lines s (i + length ended) ≡ waiting_lines s i ++ stand_text (blocked_lines ended)
+lines-from : (s : Stage) (ended : List (Worked (Ticket Record))) (i : ℕ) → ((j : ℕ) (w : Worked (Ticket Record)) → slice_get ended j ≡ Some w → wait_of s (i + j) ≡ stand_text s.script (line_in w.blocked)) →
+    waiting_lines s (i + length ended) ≡ waiting_lines s i ++ stand_text s.script (blocked_lines ended)
 lines-from s [] i says = grind (arith, append-nil)
 lines-from s (w ∷ ended) i says =
     let here : i + 0 ≡ i = omega arith in
     let next : i + suc (length ended) ≡ suc i + length ended = omega arith in
-    let first : wait_of s i ≡ stand_text (line_in w.blocked) = subst (λ (k : ℕ). wait_of s k ≡ stand_text (line_in w.blocked)) here (says 0 w refl) in
+    let first : wait_of s i ≡ stand_text s.script (line_in w.blocked) = subst (λ (k : ℕ). wait_of s k ≡ stand_text s.script (line_in w.blocked)) here (says 0 w refl) in
     let rest = lines-from s ended (suc i) (λ j x has.
     let there : i + suc j ≡ suc i + j = omega arith in
-    subst (λ (k : ℕ). wait_of s k ≡ stand_text (line_in x.blocked)) there (says (suc j) x has))
+    subst (λ (k : ℕ). wait_of s k ≡ stand_text s.script (line_in x.blocked)) there (says (suc j) x has))
     in
-    rw (next, rest, first, stand-more (line_in w.blocked) (blocked_lines ended)) (append_assoc (waiting_lines s i) (stand_text (line_in w.blocked)) (stand_text (blocked_lines ended)))
+    rw (next, rest, first, stand-more s.script (line_in w.blocked) (blocked_lines ended)) (append_assoc (waiting_lines s i) (stand_text s.script (line_in w.blocked)) (stand_text s.script (blocked_lines ended)))
 
 -- if no process waits, no line is reported
 none-waiting : (s : Stage) (n : ℕ) → one_waits s.past n ≡ false → waiting_lines s n ≡ []
@@ -61,9 +61,9 @@ none-waiting s zero none = refl
 none-waiting s (suc n) none = grind (arith, none-waiting s n)
 
 -- if some line waits, one is reported
-some-waiting : (lines : List ℕ) → lines ≢ [] → stand_text lines ≡ [] → ⊥
-some-waiting [] some none = some refl
-some-waiting (line ∷ lines) some none = cc
+some-waiting : (script lines : List ℕ) → lines ≢ [] → stand_text script lines ≡ [] → ⊥
+some-waiting script [] some none = some refl
+some-waiting script (line ∷ lines) some none = cc
 
 -- none can go on, and one of them waits
 module _ (frame : Frame) (phase : ℕ) (past to : Past) (runners : List Runner) (worked : List (Worked (Ticket Record))) (count : length runners ≡ length worked)
@@ -80,7 +80,7 @@ module _ (frame : Frame) (phase : ℕ) (past to : Past) (runners : List Runner) 
   pub halted-still : stands_still (ended frame phase to runners) ≡ true
   halted-still = still-where frame phase to runners (λ i r has. let w = of-runner i r has in rests-turn w.0.blocked (i + 1) phase past to r w.1)
 
-  halted-lines : waiting_lines (ended frame phase to runners) (length (programs_in runners)) ≡ stand_text (blocked_lines worked)
+  halted-lines : waiting_lines (ended frame phase to runners) (length (programs_in runners)) ≡ stand_text frame.script (blocked_lines worked)
   halted-lines =
       let s : Stage = ended frame phase to runners in
       let many : length (programs_in runners) ≡ 0 + length worked = omega (arith, length-map runners (λ (r : Runner). r.program), count) in
@@ -88,7 +88,7 @@ module _ (frame : Frame) (phase : ℕ) (past to : Past) (runners : List Runner) 
       let below : i < length worked = slice_get_within worked i w has in
       let there = there-is runners i (omega (arith, below, count)) in
       let here : i ≡ 0 + i = omega arith in
-      subst (λ (k : ℕ). wait_of s k ≡ stand_text (line_in w.blocked)) here (rests-said w.blocked i frame phase past to runners there.0 there.1 (rest i there.0 w there.1 has)))
+      subst (λ (k : ℕ). wait_of s k ≡ stand_text s.script (line_in w.blocked)) here (rests-said w.blocked i frame phase past to runners there.0 there.1 (rest i there.0 w there.1 has)))
 
-  pub halted-outcome : (lines : List ℕ) → blocked_lines worked ≡ lines → lines ≢ [] → observed (ended frame phase to runners) ≡ stand_outcome phase lines
+  pub halted-outcome : (lines : List ℕ) → blocked_lines worked ≡ lines → lines ≢ [] → observed (ended frame phase to runners) ≡ stand_outcome frame.script phase lines
   halted-outcome lines are some = grind (arith, halted-lines, some-waiting, none-waiting)

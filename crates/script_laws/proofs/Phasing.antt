@@ -47,7 +47,7 @@ pub record Reached (from : Stage) (journal : Past) (programs : List (Vec Planned
   pub left : AllLeft past tickets
   pub here : IsEnd past journal
   pub count : frame.phases ≡ phase + length phases
-  pub leads : 1 ≤ length phases → after next_stage schedule from ≡ Some (record { programs = programs; phases = frame.phases; start = frame.start; phase = phase; past = past; seats = seats })
+  pub leads : 1 ≤ length phases → after next_stage schedule from ≡ Some (record { programs = programs; phases = frame.phases; script = frame.script; start = frame.start; phase = phase; past = past; seats = seats })
 
 -- if each process has a course through the phase, some interleaving takes them through it
 pub phase-runs : (from : Stage) (journal : Past) (programs : List (Vec Planned Global)) (frame : Frame) (phase : ℕ) (phases : List (List WrittenCall)) (tickets : List (Ticket Record)) (reached : Reached from journal programs frame phase phases tickets) (to : Past) (runners : List Runner) →
@@ -103,7 +103,7 @@ phases-observed GoesOn journal programs frame later tickets of ends then (calls 
 
 -- a stage with this journal before all phases
 abbrev pub frame_of : Stage → Past → Frame
-frame_of from past = record { phases = from.phases; start = past }
+frame_of from past = record { phases = from.phases; script = from.script; start = past }
 
 -- the processes of a script start in its first phase
 pub all-reached : (past : Past) (script : Whole) (system : LockId) (journal : Past) (from : Stage) → bounds_in system.fixed ≡ None → NoneWaits past script.processes → IsEnd past journal → BeginsAfter past script from → Reached from journal from.programs (frame_of from past) 0 script.phases (tickets_with system past 1 script.processes)

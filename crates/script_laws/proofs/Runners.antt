@@ -20,9 +20,11 @@ pub record Runner : Type 0 where
   pub end : Progress
   pub moves : List Move
 
--- what does not change in a play: the number of phases, and the journal before all of them
+-- what does not change in a play: the number of phases, the bytes of the script, and the journal
+-- before all phases
 pub record Frame : Type 0 where
   pub phases : ℕ
+  pub script : List ℕ
   pub start : Past
 
 abbrev pub programs_in : List Runner → List (Vec Planned Global)
@@ -37,7 +39,7 @@ ends_in runners = map (λ (r : Runner). r.end) runners
 -- process p is at index p - 1
 abbrev pub staged : Frame → ℕ → Past → List Runner → Stage
 staged frame phase past runners =
-    record { programs = programs_in runners; phases = frame.phases; start = frame.start; phase = phase; past = past; seats = seats_in runners }
+    record { programs = programs_in runners; phases = frame.phases; script = frame.script; start = frame.start; phase = phase; past = past; seats = seats_in runners }
 
 abbrev pub gone : Runner → Progress → List Move → Runner
 gone r seat moves = record { program = r.program; seat = seat; end = r.end; moves = moves }

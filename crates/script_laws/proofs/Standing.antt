@@ -123,7 +123,7 @@ all-blocked n to (w ∷ worked) (t ∷ after) met now all = rw (sym now.0) (All-
 
 last-stands : (journal : Past) (programs : List (Vec Planned Global)) (frame : Frame) (last : List WrittenCall) (later : List (List WrittenCall)) (before : List (Ticket Record)) (lines : List ℕ) (after : List (Ticket Record)) (stand : ComesToAStand last before lines after) →
     All (IsOf (length programs)) journal → AreAmpleEnds last before stand.ended stand.each → AreEnds journal after →
-    (from : Stage) (phase : ℕ) → Reached from journal programs frame phase (last ∷ later) before → Stands lines from phase
+    (from : Stage) (phase : ℕ) → Reached from journal programs frame phase (last ∷ later) before → Stands frame.script lines from phase
 last-stands journal programs frame last later before lines after stand of ample ends from phase reached =
     let worked : List (Worked (Ticket Record)) = stand.ended in
     let past : Past = reached.past in
@@ -152,17 +152,17 @@ stand-observed script lines old new from stop ample begins =
     let stand = s.stands in
     let between : AreEnds journal s.between = phase-ends journal stand.n s.between (processes_of stand.ended) stop.processes (all-grown s.last s.between stand.ended stand.each) stand.met ends in
     let first = rw s.are at (new-reached script stop.system journal from stop.unbounded begins) in
-    phases-observed (Stands lines) journal from.programs (frame_of from []) (s.last ∷ s.later) s.between of between
+    phases-observed (Stands from.script lines) journal from.programs (frame_of from []) (s.last ∷ s.later) s.between of between
     (last-stands journal from.programs (frame_of from []) s.last s.later s.between lines stop.processes stand of ample.1 ends)
     s.first 0 from tickets s.replies s.ran ample.0 first
 
 -- and found if all interleavings were tried
-pub stand-found : (from : Stage) (found : List Witnessed) (n : ℕ) (texts : List (List ℕ)) (lines : List ℕ) → length texts ≡ n → AreAll next_stage stands_still observed from found → ComesToStand from 0 texts lines → AreFound found 0 texts × (is_among found (stand_outcome n lines) ≡ true)
+pub stand-found : (from : Stage) (found : List Witnessed) (n : ℕ) (texts : List (List ℕ)) (lines : List ℕ) → length texts ≡ n → AreAll next_stage stands_still observed from found → ComesToStand from 0 texts lines → AreFound found 0 texts × (is_among found (stand_outcome from.script n lines) ≡ true)
 stand-found from found n texts lines count all comes =
-    let f = observed-found (Stands lines) from from [] found 0 texts all refl comes in
+    let f = observed-found (Stands from.script lines) from from [] found 0 texts all refl comes in
     let stands = f.goes_on in
     let same : 0 + length texts ≡ n = omega (arith, count) in
     let runs = then-after f.schedule stands.0 from f.to stands.1 f.leads stands.2.runs in (
       f.phases,
-      ap (λ (k : ℕ). is_among found (stand_outcome k lines)) (sym same) ∙ (ap (λ (x : Observed). is_among found x) (sym stands.3) ∙ all (f.schedule ++ stands.0) stands.1 (record { runs = runs; goal = stands.2.goal })),
+      ap (λ (k : ℕ). is_among found (stand_outcome from.script k lines)) (sym same) ∙ (ap (λ (x : Observed). is_among found x) (sym stands.3) ∙ all (f.schedule ++ stands.0) stands.1 (record { runs = runs; goal = stands.2.goal })),
     )

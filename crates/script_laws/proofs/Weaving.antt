@@ -167,7 +167,7 @@ moves_left (r ∷ runners) = length r.moves + moves_left runners
 -- the stage after the phase
 abbrev pub ended : Frame → ℕ → Past → List Runner → Stage
 ended frame phase to runners =
-    record { programs = programs_in runners; phases = frame.phases; start = frame.start; phase = phase; past = to; seats = ends_in runners }
+    record { programs = programs_in runners; phases = frame.phases; script = frame.script; start = frame.start; phase = phase; past = to; seats = ends_in runners }
 
 abbrev pub Weaves : Frame → ℕ → Past → Past → List Runner → Type 0
 Weaves frame phase to past runners =

@@ -5,7 +5,8 @@ use Rattle.fast_mutex.specs.Items.{Ticket, tickets_from}
 use Rattle.mq_model.specs.Record.{Record}
 use Rattle.schedules.specs.Schedules.{LeadsToGoal}
 use Rattle.schedules.specs.Observed.{Observed}
-use Rattle.script_orders.specs.Stage.{Stage, next_stage, stands_still, observed, wait_text}
+use Rattle.script_orders.specs.Stage.{Stage, next_stage, stands_still, observed}
+use Rattle.script_orders.specs.Waiting.{wait_text}
 use Rattle.script_runner.specs.Runs.{calls_of}
 use Rattle.script_runner.specs.Stands.{EndsIn, EndsPhase}
 use Rattle.script_runner.specs.Stops.{StopsInDeadlock}
@@ -35,26 +36,26 @@ IsAmpleStop {script} stop =
     AreAmplePhases stop.stops.first (tickets_from stop.system 1 script.processes) stop.stops.between stop.stops.replies stop.stops.ran
     × AreAmpleEnds stop.stops.last stop.stops.between stop.stops.stands.ended stop.stops.stands.each
 
--- what is printed for the calls in these lines, which wait for ever
-abbrev pub stand_text : List ℕ → List ℕ
-stand_text [] = []
-stand_text (line ∷ lines) = wait_text line ++ stand_text lines
+-- the report of the calls in these lines of a script, which wait for ever
+abbrev pub stand_text : List ℕ → List ℕ → List ℕ
+stand_text script [] = []
+stand_text script (line ∷ lines) = wait_text script line ++ stand_text script lines
 
--- the outcome of a phase that deadlocks in the calls of these lines
-abbrev pub stand_outcome : ℕ → List ℕ → Observed
-stand_outcome phase lines = record { stage = phase; stuck = true; text = stand_text lines }
+-- the outcome of a phase that deadlocks in the calls of these lines of a script
+abbrev pub stand_outcome : List ℕ → ℕ → List ℕ → Observed
+stand_outcome script phase lines = record { stage = phase; stuck = true; text = stand_text script lines }
 
 -- in some interleaving of the calls from this stage, the phase with this number deadlocks in the
--- calls of these lines
-abbrev pub Stands : List ℕ → Stage → ℕ → Type 0
-Stands lines from phase =
-    (schedule : List ℕ) × (to : Stage) × LeadsToGoal next_stage stands_still from schedule to × (observed to ≡ stand_outcome phase lines)
+-- calls of these lines of a script
+abbrev pub Stands : List ℕ → List ℕ → Stage → ℕ → Type 0
+Stands script lines from phase =
+    (schedule : List ℕ) × (to : Stage) × LeadsToGoal next_stage stands_still from schedule to × (observed to ≡ stand_outcome script phase lines)
 
 -- In some interleaving of the calls from this stage, phases end one after the other, each with its
--- replies, and then the next one deadlocks in the calls of these lines. `phase` is the number of
--- the first.
+-- replies, and then the next one deadlocks in the calls of these lines of its script. `phase` is
+-- the number of the first.
 abbrev pub ComesToStand : Stage → ℕ → List (List ℕ) → List ℕ → Type 0
-ComesToStand from phase texts lines = AreObservedBefore (Stands lines) from phase texts
+ComesToStand from phase texts lines = AreObservedBefore (Stands from.script lines) from phase texts
 
 -- the replies of each phase of a run that ended before the one that deadlocked
 abbrev pub replies_before : {script : Whole} {lines : List ℕ} {old new : Option (List ℕ)} → StopsInDeadlock script lines old new → List (List ℕ)

@@ -64,5 +64,6 @@ pub fn finds_deadlocks()
         (found : List Witnessed) (stop : StopsInDeadlock script lines old new) → IsAmpleStop stop →
         Begins script from → AreAll next_stage stands_still observed from found →
         AreFound found 0 (replies_before stop)
-        × (is_among found (stand_outcome (length stop.stops.first) lines) ≡ true) }
+        × (is_among found (stand_outcome from.script (length stop.stops.first) lines)
+        ≡ true) }
 {}

@@ -33,7 +33,8 @@ use Rattle.script_orders.specs.Progress.{Progress}
 use Rattle.script_orders.specs.Said.{said}
 use Rattle.script_orders.specs.Scenes.{Scene, after_call, after_step, close_first, close_held, is_held}
 use Rattle.script_orders.specs.Turns.{Turned, after_line, after_turn, scene_of, turned}
-use Rattle.script_orders.specs.Stage.{Stage, after_phase, first_stage, in_next_phase, is_phase_over, next_stage, none_can_turn, one_waits, replies, seats_cleared, stands_still, observed, turn_of, wait_line_of, wait_of, wait_text, waiting_lines, waits, with_turn}
+use Rattle.script_orders.specs.Stage.{Stage, after_phase, first_stage, in_next_phase, is_phase_over, next_stage, none_can_turn, one_waits, replies, seats_cleared, stands_still, observed, turn_of, wait_line_of, wait_of, waiting_lines, waits, with_turn}
+use Rattle.script_orders.specs.Waiting.{wait_text}
 use Rattle.script_orders.specs.StageLaws.{next-first}
 use Rattle.script_orders.specs.Likeness.{AreStagesAlike, IsStageKey, is_to_come, one_receives, receives, receives_from, seat_code, stage_code, step_receives, will_receive, with_past}
 use Rattle.script_orders.specs.declared.plan.Planned.{Planned}
@@ -271,7 +272,7 @@ waits-alike x y (suc n) alike =
 lines-alike : {received : Bool} (s : Stage) (past : Past) (n : ℕ) → Agree received s.past past → waiting_lines (with_past s past) n ≡ waiting_lines s n
 lines-alike s past zero alike = refl
 lines-alike s past (suc n) alike =
-    let line : Bool → List ℕ = λ b. if b then wait_text (wait_line_of s n) else [] in
+    let line : Bool → List ℕ = λ b. if b then wait_text s.script (wait_line_of s n) else [] in
     ap (λ (text : List ℕ). text ++ wait_of (with_past s past) n) (lines-alike s past n alike)
     ∙ ap (λ (b : Bool). waiting_lines s n ++ line b) (alike.equivalent.waits (n + 1))
 
@@ -425,6 +426,7 @@ stages-key from x y key legal to_x to_y key_x key_y =
     let first : first_stage y ≡ first_stage x = first_y ∙ sym first_x in
     let programs : y.programs ≡ x.programs = ap (λ (s : Stage). s.programs) first in
     let phases : y.phases ≡ x.phases = ap (λ (s : Stage). s.phases) first in
+    let script : y.script ≡ x.script = ap (λ (s : Stage). s.script) first in
     let start : y.start ≡ x.start = ap (λ (s : Stage). s.start) first in
     let count : length from.programs ≡ length x.programs = ap (λ (s : Stage). length s.programs) (sym first_x) in
     let few : length from.programs ≤ 32 = omega (arith, count, key_x.few) in
@@ -432,16 +434,17 @@ stages-key from x y key legal to_x to_y key_x key_y =
     let phase : y.phase ≡ x.phase = cc in
     let rest : listed seat_code y.seats ++ key_if (receives y) y.past ≡ listed seat_code x.seats ++ key_if (receives x) x.past = cc in
     let parts = decodable-listed seat_code decodable-seat y.seats x.seats (key_if (receives y) y.past) (key_if (receives x) x.past) rest in
-    let same : receives y ≡ receives x = λ i. receives (record { programs = programs i; phases = y.phases; start = y.start; phase = y.phase; past = y.past; seats = parts.0 i }) in
+    let same : receives y ≡ receives x = λ i. receives (record { programs = programs i; phases = y.phases; script = y.script; start = y.start; phase = y.phase; past = y.past; seats = parts.0 i }) in
     let keys : key_if (receives x) x.past ≡ key_if (receives x) y.past = sym parts.1 ∙ ap (λ (b : Bool). key_if b y.past) same in
-    let build : List (Vec Planned Global) → ℕ → Past → ℕ → List Progress → Stage = λ programs phases start phase seats. record { programs = programs; phases = phases; start = start; phase = phase; past = y.past; seats = seats } in
+    let build : List (Vec Planned Global) → ℕ → List ℕ → Past → ℕ → List Progress → Stage = λ programs phases script start phase seats. record { programs = programs; phases = phases; script = script; start = start; phase = phase; past = y.past; seats = seats } in
     record {
       few = key_x.few;
       differ =
-          ap (λ (ps : List (Vec Planned Global)). build ps y.phases y.start y.phase y.seats) programs
-          ∙ ap (λ (n : ℕ). build x.programs n y.start y.phase y.seats) phases
-          ∙ ap (λ (past : Past). build x.programs x.phases past y.phase y.seats) start
-          ∙ ap (λ (n : ℕ). build x.programs x.phases x.start n y.seats) phase
-          ∙ ap (λ (seats : List Progress). build x.programs x.phases x.start x.phase seats) parts.0;
+          ap (λ (ps : List (Vec Planned Global)). build ps y.phases y.script y.start y.phase y.seats) programs
+          ∙ ap (λ (n : ℕ). build x.programs n y.script y.start y.phase y.seats) phases
+          ∙ ap (λ (bytes : List ℕ). build x.programs x.phases bytes y.start y.phase y.seats) script
+          ∙ ap (λ (past : Past). build x.programs x.phases x.script past y.phase y.seats) start
+          ∙ ap (λ (n : ℕ). build x.programs x.phases x.script x.start n y.seats) phase
+          ∙ ap (λ (seats : List Progress). build x.programs x.phases x.script x.start x.phase seats) parts.0;
       journals = same-key (receives x) x.past y.past (are-legal from few legal to_x.0 x to_x.1) (are-legal from few legal to_y.0 y to_y.1) keys;
     }

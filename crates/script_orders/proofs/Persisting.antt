@@ -162,7 +162,7 @@ both-orders {Holds} {Passes} x y z index other a lines g few legal holds c can p
     ∙ set-both x.seats index other here.progress s.t.progress distinct
     ∙ ap (λ (progress : Progress). slice_set (slice_set x.seats index here.progress) other progress) (sym pass.progress)
     in
-    let build : List Progress → Stage = λ seats. record { programs = x.programs; phases = x.phases; start = x.start; phase = x.phase; past = u.past; seats = seats } in
+    let build : List Progress → Stage = λ seats. record { programs = x.programs; phases = x.phases; script = x.script; start = x.start; phase = x.phase; past = u.past; seats = seats } in
     let alike : AreStagesAlike v u = record {
       few = few;
       differ = ap build seats;

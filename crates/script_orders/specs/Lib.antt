@@ -4,6 +4,7 @@ pub mod Progress
 pub mod SeatModel
 pub mod Scenes
 pub mod Turns
+pub mod Waiting
 pub mod Stage
 pub mod StageLaws
 pub mod Saves

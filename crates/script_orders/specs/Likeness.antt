@@ -15,7 +15,7 @@ use Rattle.script_orders.specs.declared.plan.Step.TheVariants.{Call, Refusal, Ex
 
 -- the same stage with another journal
 abbrev pub with_past : Stage → Past → Stage
-with_past s past = record { programs = s.programs; phases = s.phases; start = s.start; phase = s.phase; past = past; seats = s.seats }
+with_past s past = record { programs = s.programs; phases = s.phases; script = s.script; start = s.start; phase = s.phase; past = past; seats = s.seats }
 
 -- whether a step receives a message
 abbrev pub step_receives : Step → Bool

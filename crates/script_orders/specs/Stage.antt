@@ -1,6 +1,5 @@
 -- The state of the processes of a script.
-use Rattle.std.specs.Prelude.{ℕ, ◌+◌, ◌==◌, Bool, true, false, not, ◌&&◌, ◌||◌, nat_lt, List, [], ◌∷◌, ◌++◌, codes, length, map, replicate, Option, Some, None, is_some, is_none, if◌then◌else◌, slice_get, slice_set, Vec, zero, suc}
-use Rattle.std.specs.Fmt.{decimal}
+use Rattle.std.specs.Prelude.{ℕ, ◌+◌, ◌==◌, Bool, true, false, not, ◌&&◌, ◌||◌, nat_lt, List, [], ◌∷◌, ◌++◌, length, map, replicate, Option, Some, None, is_some, is_none, if◌then◌else◌, slice_get, slice_set, Vec, zero, suc}
 use Rattle.std.specs.Option.{option_map, option_and_then, unwrap_or}
 use Rattle.std.specs.declared.alloc.Global.{Global}
 use Rattle.mq_model.specs.Record.{Past}
@@ -8,13 +7,15 @@ use Rattle.mq_model.specs.Waits.{open_wait}
 use Rattle.schedules.specs.Observed.{Observed}
 use Rattle.script_orders.specs.Progress.{Progress}
 use Rattle.script_orders.specs.Turns.{Turned, after_turn}
+use Rattle.script_orders.specs.Waiting.{wait_text}
 use Rattle.script_orders.specs.declared.plan.Planned.{Planned}
 
--- The lines of each process, the number of phases, and the journal before the script; the current
--- phase, the journal so far, and the state of each process. Process p is at p - 1.
+-- The lines of each process, the number of phases, the bytes of the script, and the journal before
+-- it; the current phase, the journal so far, and the state of each process. Process p is at p - 1.
 pub record Stage : Type 0 where
   pub programs : List (Vec Planned Global)
   pub phases : ℕ
+  pub script : List ℕ
   pub start : Past
   pub phase : ℕ
   pub past : Past
@@ -25,7 +26,7 @@ abbrev pub fresh : Progress
 fresh = record { begun = 0; text = [] }
 
 abbrev pub first_stage : Stage → Stage
-first_stage s = record { programs = s.programs; phases = s.phases; start = s.start; phase = 0; past = s.start; seats = replicate (length s.programs) fresh }
+first_stage s = record { programs = s.programs; phases = s.phases; script = s.script; start = s.start; phase = 0; past = s.start; seats = replicate (length s.programs) fresh }
 
 -- the next step of the process at an index, if it can take one
 abbrev pub turn_of : Stage → ℕ → Option Turned
@@ -37,6 +38,7 @@ abbrev pub with_turn : Stage → ℕ → Turned → Stage
 with_turn s index turned = record {
   programs = s.programs;
   phases = s.phases;
+  script = s.script;
   start = s.start;
   phase = s.phase;
   past = turned.past;
@@ -65,7 +67,7 @@ seats_cleared seats = map (λ (seat : Progress). let next : Progress = record { 
 
 -- the next phase has begun
 abbrev pub in_next_phase : Stage → Stage
-in_next_phase s = record { programs = s.programs; phases = s.phases; start = s.start; phase = s.phase + 1; past = s.past; seats = seats_cleared s.seats }
+in_next_phase s = record { programs = s.programs; phases = s.phases; script = s.script; start = s.start; phase = s.phase + 1; past = s.past; seats = seats_cleared s.seats }
 
 -- a phase ends when no process can take a step and none waits, if there is a next phase
 abbrev pub is_phase_over : Stage → Bool
@@ -96,12 +98,9 @@ abbrev pub wait_line_of : Stage → ℕ → ℕ
 wait_line_of s index =
     unwrap_or (option_and_then (λ (program : Vec Planned Global). option_map (λ (seat : Progress). line_of program seat.begun) (slice_get s.seats index)) (slice_get s.programs index)) 0
 
-abbrev pub wait_text : ℕ → List ℕ
-wait_text line = codes "line " ++ (decimal line ++ (codes ": waits for ever" ++ 10 ∷ []))
-
 -- the text about the process at an index: if it waits, the line of that call
 abbrev pub wait_of : Stage → ℕ → List ℕ
-wait_of s index = if is_some (open_wait s.past (index + 1)) then wait_text (wait_line_of s index) else []
+wait_of s index = if is_some (open_wait s.past (index + 1)) then wait_text s.script (wait_line_of s index) else []
 
 -- the text about the calls in which the first n processes wait
 abbrev pub waiting_lines : Stage → ℕ → List ℕ

@@ -11,3 +11,4 @@ pub mod readback;
 pub mod report;
 pub mod said;
 pub mod turn;
+mod waiting;

@@ -19,22 +19,30 @@ use schedules::outcomes::{Collected, collect};
 use script_text::script::Script;
 use std::alloc::{AllocError, Global};
 
-/// The processes of a script, before their first lines.
-pub fn play_of(alloc: Global, script: &Script<'_>) -> Result<Play, AllocError>
+/// The processes of a script with these bytes, before their first lines.
+pub fn play_of(alloc: Global, script: &Script<'_>, bytes: &[u8]) -> Result<Play, AllocError>
     requires { script.now.processes ≤ 32 }
-    ensures { IfOk result (Begins (said_script script.now)) }
+    ensures begins { IfOk result (Begins (said_script script.now)) }
+    ensures script { IfOk result (λ play. play.script ≡ bytes.now) }
 {
-    play_after(alloc, script, Journal::new(alloc))
+    play_after(alloc, script, bytes, Journal::new(alloc))
 }
 
 /// The same after the calls of a journal.
-pub fn play_after(alloc: Global, script: &Script<'_>, journal: Journal) -> Result<Play, AllocError>
+pub fn play_after(
+    alloc: Global,
+    script: &Script<'_>,
+    bytes: &[u8],
+    journal: Journal,
+) -> Result<Play, AllocError>
     requires processes { script.now.processes ≤ 32 }
     requires legal { Legal journal.records }
-    ensures { IfOk result (BeginsAfter journal.records (said_script script.now)) }
+    ensures begins { IfOk result (BeginsAfter journal.records (said_script script.now)) }
+    ensures script { IfOk result (λ play. play.script ≡ bytes.now) }
 {
     let programs = programs_of(alloc, script)?;
-    Play::new(alloc, programs, script.phases.len() as u64, journal)
+    let phases = script.phases.len() as u64;
+    Play::new(alloc, programs, phases, bytes.to_vec(alloc)?, journal)
 }
 
 /// Tries every interleaving of the calls of a script, in at most `budget` steps, and collects the
@@ -49,14 +57,24 @@ pub fn outcomes_of(alloc: Global, play: &mut Play, budget: u64) -> Result<Collec
         AreAll next_stage stands_still observed (first_stage play.old) c.found.items) }
     ensures used_up { IfOk result (λ c. c.complete ≡ false →
         TakesAll next_stage choice_count (λ depth. 1) budget (first_stage play.old)) }
+    ensures steps { IfOk result (λ c. (c.steps ≤ budget) × (c.complete ≡ false →
+        c.steps ≡ budget)) }
     ensures in_order { IfOk result (λ c. AreInOrder c.found.items) }
     ensures legal { AreLegal (first_stage play.old) }
     ensures start { OnOk result (first_stage play.new ≡ first_stage play.old) }
 {
     play.stays_legal();
-    let Collected { found, complete } = collect(alloc, play, budget)?;
+    let Collected {
+        found,
+        complete,
+        steps,
+    } = collect(alloc, play, budget)?;
     let found = in_phases(alloc, found)?;
-    Ok(Collected { found, complete })
+    Ok(Collected {
+        found,
+        complete,
+        steps,
+    })
 }
 
 /// If a process neither waits nor can take a step, after a schedule from the start of a script, it

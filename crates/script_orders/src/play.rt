@@ -12,6 +12,7 @@ use crate::alone::{lines_may_use, starts_on};
 use crate::keys::push_seats;
 use crate::plan::{Planned, Step};
 use crate::turn::{Seat, can_turn, turn};
+use crate::waiting::wait_text;
 use mq_equivalence::keys::key_if;
 use mq_model::journals::Journal;
 use mq_state::trail::Trail;
@@ -30,6 +31,8 @@ pub struct Play {
     alloc: Global,
     programs: Vec<Vec<Planned>>,
     phases: u64,
+    // The bytes of the script.
+    script: Vec<u8>,
     // The journal before the script.
     start: Journal,
     phase: u64,
@@ -117,12 +120,13 @@ fn replies(alloc: Global, seats: &[Seat]) -> Result<Vec<u8>, AllocError>
 }
 
 impl Play {
-    /// The processes 1, 2, .. of a script with their lines, none of which is begun, after the calls
-    /// of a journal.
+    /// The processes 1, 2, .. of a script with these bytes, with their lines, none of which is begun,
+    /// after the calls of a journal.
     pub fn new(
         alloc: Global,
         programs: Vec<Vec<Planned>>,
         phases: u64,
+        script: Vec<u8>,
         start: Journal,
     ) -> Result<Play, AllocError>
         requires few { length programs.items ≤ 32 }
@@ -130,6 +134,7 @@ impl Play {
         ensures { IfOk result (λ play. play ≡ record {
           programs = programs.items;
           phases = phases;
+          script = script.items;
           start = start.records;
           phase = 0;
           past = start.records;
@@ -142,6 +147,7 @@ impl Play {
             alloc,
             programs,
             phases,
+            script,
             start,
             phase: 0,
             trail,
@@ -190,6 +196,7 @@ impl Play {
             alloc,
             programs,
             phases: _,
+            script: _,
             start: _,
             phase,
             trail,
@@ -275,9 +282,8 @@ impl Play {
         ensures { OnOk result (text.new.items ≡ text.old.items ++ wait_of self.now index) }
     {
         if self.trail.waits(index as u32 + 1) {
-            let line = self.wait_line(index);
-            let waits = format!(in alloc; "line {line}: waits for ever\n")?;
-            text.extend_from_slice(waits.as_bytes())?;
+            let waits = wait_text(alloc, &self.script, self.wait_line(index))?;
+            text.extend_from_slice(&waits)?;
         }
         Ok(())
     }

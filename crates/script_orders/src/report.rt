@@ -86,34 +86,29 @@ fn push_phase(
     push_entries(alloc, text, found, phase)
 }
 
-fn end_text(alloc: Global, complete: bool, budget: u64) -> Result<String, AllocError>
-    ensures { IfOk result (λ text. string_bytes text ≡ end_text complete budget) }
+fn end_text(alloc: Global, complete: bool, steps: u64) -> Result<String, AllocError>
+    ensures { IfOk result (λ text. string_bytes text ≡ end_text complete steps) }
 {
     if complete {
-        String::from_str(alloc, "every order was tried\n")
+        format!(in alloc; "every order was tried, in {steps} steps\n")
     } else {
-        format!(in alloc; "the budget of {budget} steps was used up: there may be more\n")
+        format!(in alloc; "the budget of {steps} steps was used up: there may be more\n")
     }
 }
 
 /// The report of the outcomes of a script with this number of phases. For each phase it has the
 /// number of outcomes and the replies of each, the number of deadlocks and the calls that wait in
-/// each. At the end it says whether every interleaving was tried. Outcomes and deadlocks are
-/// numbered by their positions in the list, from 1.
-pub fn report_text(
-    alloc: Global,
-    phases: u64,
-    collected: &Collected,
-    budget: u64,
-) -> Result<Vec<u8>, AllocError>
+/// each. At the end it says whether every interleaving was tried, and in how many steps. Outcomes
+/// and deadlocks are numbered by their positions in the list, from 1.
+pub fn report_text(alloc: Global, phases: u64, collected: &Collected) -> Result<Vec<u8>, AllocError>
     ensures { IfOk result (λ text. text.items ≡
-        report_text phases collected.now.found.items collected.now.complete budget) }
+        report_text phases collected.now.found.items collected.now.complete collected.now.steps) }
 {
     let mut text = Vec::new(alloc);
     for phase in 0..phases {
         push_phase(alloc, &mut text, &collected.found, phase)?;
     }
-    let end = end_text(alloc, collected.complete, budget)?;
+    let end = end_text(alloc, collected.complete, collected.steps)?;
     text.extend_from_slice(end.as_bytes())?;
     Ok(text)
 }

@@ -9,8 +9,9 @@ use std::test::Fail;
 
 // All outcomes of a script, within this number of steps.
 fn collected_of(alloc: Global, script: &str, budget: u64) -> Result<Collected, Fail> {
-    let script = read_script(alloc, script.as_bytes())?;
-    let mut play = play_of(alloc, &script)?;
+    let bytes = script.as_bytes();
+    let script = read_script(alloc, bytes)?;
+    let mut play = play_of(alloc, &script, bytes)?;
     Ok(outcomes_of(alloc, &mut play, budget)?)
 }
 

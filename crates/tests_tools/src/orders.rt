@@ -14,10 +14,11 @@ fn prints(
     budget: u64,
     wanted: &str,
 ) -> Result<(), Fail> {
-    let script = read_script(alloc, script.as_bytes())?;
-    let mut play = play_of(alloc, &script)?;
+    let bytes = script.as_bytes();
+    let script = read_script(alloc, bytes)?;
+    let mut play = play_of(alloc, &script, bytes)?;
     let collected = outcomes_of(alloc, &mut play, budget)?;
-    let text = report_text(alloc, script.phases.len() as u64, &collected, budget)?;
+    let text = report_text(alloc, script.phases.len() as u64, &collected)?;
     assert_eq!(rt; text.as_slice(), wanted.as_bytes());
     Ok(())
 }
@@ -49,7 +50,7 @@ outcome 3
 outcome 4
 1 got 0 1 b
 2 got 0 1 a
-every order was tried
+every order was tried, in 50 steps
 ";
 
 #[test]
@@ -99,8 +100,8 @@ outcome 3
 2 EAGAIN
 2 ok
 deadlock 4
-line 7: waits for ever
-every order was tried
+line 7: waits for ever: 1 recv 0 8
+every order was tried, in 48 steps
 ";
 
 #[test]
@@ -135,7 +136,7 @@ outcome 2
 2 got 0 1 x
 3 ok
 3 got 0 1 x
-every order was tried
+every order was tried, in 38 steps
 ";
 
 // A call on a queue that no other process will use is tried alone: only the opens are tried in
@@ -181,7 +182,7 @@ outcome 6
 outcome 7
 1 ok
 2 got 0 1 a
-every order was tried
+every order was tried, in 36 steps
 ";
 
 #[test]

@@ -67,8 +67,8 @@ outcome 3
 2 EAGAIN
 2 ok
 deadlock 4
-line 7: waits for ever
-every order was tried
+line 7: waits for ever: 1 recv 0 8
+every order was tried, in 48 steps
 ";
 
 #[test]
@@ -193,7 +193,7 @@ static ONE_OUTCOME: [(&str, &str); 3] = [
         "processes 1\n",
         "phase 1: outcomes 1, deadlocks 0\n\
          outcome 1\n\
-         every order was tried\n",
+         every order was tried, in 0 steps\n",
     ),
     (
         "processes 2\n1 open /q bc 1 8\n--\n2 open /q b\n--\n1 recv 0 8\n2 send 0 5 hi\n",
@@ -207,7 +207,7 @@ static ONE_OUTCOME: [(&str, &str); 3] = [
          outcome 3\n\
          1 got 5 2 hi\n\
          2 ok\n\
-         every order was tried\n",
+         every order was tried, in 18 steps\n",
     ),
     (
         "processes 2\n1 open q bc\n2 close 0\n2 exit\n",
@@ -216,7 +216,7 @@ static ONE_OUTCOME: [(&str, &str); 3] = [
          1 EINVAL\n\
          2 EBADF\n\
          2 ok\n\
-         every order was tried\n",
+         every order was tried, in 16 steps\n",
     ),
 ];
 
@@ -326,8 +326,8 @@ outcome 4
 2 notice none
 2 EAGAIN
 deadlock 5
-line 8: waits for ever
-every order was tried
+line 8: waits for ever: 1 recv 0 8
+every order was tried, in 204 steps
 ";
 
 static RARE_JOURNAL: &str = "0 1 open bc limits 10 8 \"/q\" -> fd 0 created

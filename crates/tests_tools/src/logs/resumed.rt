@@ -179,10 +179,10 @@ static RACE: &str = "processes 2\n1 recv 0 8\n2 recv 0 8\n";
 
 static RACE_REPORT: &str = "phase 1: outcomes 0, deadlocks 2\n\
     deadlock 1\n\
-    line 3: waits for ever\n\
+    line 3: waits for ever: 2 recv 0 8\n\
     deadlock 2\n\
-    line 2: waits for ever\n\
-    every order was tried\n";
+    line 2: waits for ever: 1 recv 0 8\n\
+    every order was tried, in 8 steps\n";
 
 #[test]
 fn orders_begin_where_the_journal_ends(rt: HostRuntime) {

@@ -15,13 +15,13 @@ pub returns-in-Ok-try_script-clause-done : goal.returns-in-Ok-try_script-clause-
 returns-in-Ok-try_script-clause-done g c =
     let start = rw c.in-Ok.is at c.in_ok-start.ensures in
     let same : c.into_journal-past.result.records ≡ c.args.journal.records = c.into_journal-past.ensures.value ∙ start.records in
-    subst (λ (past : Past). AnswersAfter past (said_script c.args.script.now) c.args.trial c.in-Ok-try_script.ending (g.W.Write.contents c.args.output.now) (g.W.Write.contents c.try_script.new.output)) same c.in-Ok-try_script.ensures.done
+    subst (λ (past : Past). AnswersAfter past (said_script c.args.script.now) c.args.bytes.now c.args.trial c.in-Ok-try_script.ending (g.W.Write.contents c.args.output.now) (g.W.Write.contents c.try_script.new.output)) same c.in-Ok-try_script.ensures.done
 
 pub returns-in-Err-try_script-clause-output : goal.returns-in-Err-try_script-clause-output
 returns-in-Err-try_script-clause-output g c = λ failed.
     let start = rw c.in-Ok.is at c.in_ok-start.ensures in
     let same : c.into_journal-past.result.records ≡ c.args.journal.records = c.into_journal-past.ensures.value ∙ start.records in
-    subst (λ (past : Past). AnswersAfterInPart past (said_script c.args.script.now) c.args.trial (g.W.Write.contents c.args.output.now) (g.W.Write.contents c.try_script.new.output)) same (c.in-Err-try_script.ensures.output (fault-alike (Result Ending NoStart) Ending c.in-Err-try_script.fault Output failed))
+    subst (λ (past : Past). AnswersAfterInPart past (said_script c.args.script.now) c.args.bytes.now c.args.trial (g.W.Write.contents c.args.output.now) (g.W.Write.contents c.try_script.new.output)) same (c.in-Err-try_script.ensures.output (fault-alike (Result Ending NoStart) Ending c.in-Err-try_script.fault Output failed))
 
 pub returns-in-Err-clause-done : goal.returns-in-Err-clause-done
 returns-in-Err-clause-done g c = (rw c.in-Err.is at c.in_ok-start.ensures, refl)

@@ -1,13 +1,9 @@
-use Rattle.std.proofs.Common.{◌≡◌, subst, ℕ, List, take, Ok, IfOk}
-use Rattle.script_text.specs.Script.{Whole, said_script, script_written}
+use Rattle.std.proofs.Common.{◌≡◌, ◌∙◌, ℕ, IfOk, List, subst, take}
 use Rattle.mq_model.specs.Record.{Past}
+use Rattle.script_runner.proofs.Stopping.{of-script}
 use Rattle.journal_tasks.specs.EveryOrder.{AnswersAfter, AnswersAfterInPart}
 use Rattle.journal_tasks.proofs.Reading.{read-no_output, script-no_output}
 use Rattle.journal_tasks.proofs.every_order.try_orders.Goals as goal
-
--- the script that was read is the one that the input writes
-same_script : (text slice front : List ℕ) (read script : Whole) → text ≡ front → slice ≡ text → script_written slice ≡ Ok read → script_written front ≡ Ok script → read ≡ script
-same_script text slice front read script whole sliced first second = cc
 
 pub returns-in_err-text-clause-output : goal.returns-in_err-text-clause-output
 returns-in_err-text-clause-output g c = λ all script known written failed.
@@ -20,17 +16,17 @@ returns-in_err-script-clause-output g c = λ all script known written failed.
 pub returns-clause-output : goal.returns-clause-output
 returns-clause-output g c = λ all script known written failed.
     let text : c.in_ok-text.text.items ≡ take 1048577 all = rw known at c.in_ok-text.ensures.bytes in
-    let same = same_script _ _ (take 1048577 all) (said_script c.in_ok-script.script) script text c.as_slice.ensures.value c.in_ok-script.ensures.written written in
     let old = g.W.Write.contents c.args.output.now in
     let new = g.W.Write.contents c.try_script.new.output in
-    subst (λ (past : Past). AnswersAfterInPart past script c.args.trial old new) c.new.ensures
-    (subst (λ s. AnswersAfterInPart c.new.result.records s c.args.trial old new) same (c.try_script.ensures.output failed))
+    subst (λ (past : Past). AnswersAfterInPart past script (take 1048577 all) c.args.trial old new) c.new.ensures
+    (subst (λ (bytes : List ℕ). AnswersAfterInPart c.new.result.records script bytes c.args.trial old new) (c.as_slice-bytes.ensures.value ∙ text)
+    (of-script (λ s. AnswersAfterInPart c.new.result.records s c.as_slice-bytes.result.now c.args.trial old new) text c.as_slice-bytes.ensures.value c.in_ok-script.ensures.written written (c.try_script.ensures.output failed)))
 
 pub returns-clause-done : goal.returns-clause-done
 returns-clause-done g c = λ all script known written.
     let text : c.in_ok-text.text.items ≡ take 1048577 all = rw known at c.in_ok-text.ensures.bytes in
-    let same = same_script _ _ (take 1048577 all) (said_script c.in_ok-script.script) script text c.as_slice.ensures.value c.in_ok-script.ensures.written written in
     let old = g.W.Write.contents c.args.output.now in
     let new = g.W.Write.contents c.try_script.new.output in
-    subst (λ (past : Past). IfOk c.try_script.result (λ ending. AnswersAfter past script c.args.trial ending old new)) c.new.ensures
-    (subst (λ s. IfOk c.try_script.result (λ ending. AnswersAfter c.new.result.records s c.args.trial ending old new)) same c.try_script.ensures.done)
+    subst (λ (past : Past). IfOk c.try_script.result (λ ending. AnswersAfter past script (take 1048577 all) c.args.trial ending old new)) c.new.ensures
+    (subst (λ (bytes : List ℕ). IfOk c.try_script.result (λ ending. AnswersAfter c.new.result.records script bytes c.args.trial ending old new)) (c.as_slice-bytes.ensures.value ∙ text)
+    (of-script (λ s. IfOk c.try_script.result (λ ending. AnswersAfter c.new.result.records s c.as_slice-bytes.result.now c.args.trial ending old new)) text c.as_slice-bytes.ensures.value c.in_ok-script.ensures.written written c.try_script.ensures.done))

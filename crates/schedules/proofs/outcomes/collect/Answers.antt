@@ -32,8 +32,8 @@ reached-following next IsPersistent start s choice other reached is = elim is [
   | inr alone ↦ inr (alone.0, (reached, alone.1))
 ]
 
-pub loop-init : goal.loop-init
-loop-init g c =
+pub loop-steps-init : goal.loop-steps-init
+loop-steps-init g c =
     let next = g.M.Machine.next in
     let start = g.M.Machine.start c.args.machine.now in
     let found = c.note.new.found.items in
@@ -75,58 +75,58 @@ loop-init g c =
 pub note-requires-in-Some-clause-runs : goal.note-requires-in-Some-clause-runs
 note-requires-in-Some-clause-runs g c =
     let next = g.M.Machine.next in
-    let stands = (rw c.in-Some.is at c.loop.invariant.stands) in
-    let at : c.loop.machine ≡ stands.node = stands.here refl in
-    let some : IsSome (next c.loop.machine c.in-Some.choice) = rw at stands.ahead.1 in
-    let step = step-goes next c.loop.machine c.step.new.self c.in-Some.choice _ c.in_ok-_went-in-Some.ensures.went c.in_ok-_went-in-Some.ensures.none some in
-    let start = g.met.M.Machine.same_start c.loop.machine c.step.new.self c.in-Some.choice step ∙ c.loop.invariant.start in
-    let runs : after next c.loop.path.items (g.M.Machine.start c.args.machine.now) ≡ Some c.loop.machine = rw at stands.runs in
+    let stands = (rw c.in-Some.is at c.loop-steps.invariant.stands) in
+    let at : c.loop-steps.machine ≡ stands.node = stands.here refl in
+    let some : IsSome (next c.loop-steps.machine c.in-Some.choice) = rw at stands.ahead.1 in
+    let step = step-goes next c.loop-steps.machine c.step.new.self c.in-Some.choice _ c.in_ok-_went-in-Some.ensures.went c.in_ok-_went-in-Some.ensures.none some in
+    let start = g.met.M.Machine.same_start c.loop-steps.machine c.step.new.self c.in-Some.choice step ∙ c.loop-steps.invariant.start in
+    let runs : after next c.loop-steps.path.items (g.M.Machine.start c.args.machine.now) ≡ Some c.loop-steps.machine = rw at stands.runs in
     rw (c.deref-in-Some.ensures.value, start, c.in_ok-push-in-Some.ensures.items)
-    (after-push next c.loop.path.items c.in-Some.choice _ c.loop.machine c.step.new.self runs step)
+    (after-push next c.loop-steps.path.items c.in-Some.choice _ c.loop-steps.machine c.step.new.self runs step)
 
 pub note-requires-in-Some-clause-witnessed : goal.note-requires-in-Some-clause-witnessed
 note-requires-in-Some-clause-witnessed g c =
     let next = g.M.Machine.next in
-    let stands = (rw c.in-Some.is at c.loop.invariant.stands) in
-    let at : c.loop.machine ≡ stands.node = stands.here refl in
-    let some : IsSome (next c.loop.machine c.in-Some.choice) = rw at stands.ahead.1 in
-    let step = step-goes next c.loop.machine c.step.new.self c.in-Some.choice _ c.in_ok-_went-in-Some.ensures.went c.in_ok-_went-in-Some.ensures.none some in
-    let start = g.met.M.Machine.same_start c.loop.machine c.step.new.self c.in-Some.choice step ∙ c.loop.invariant.start in
-    rw start c.loop.invariant.witnessed
+    let stands = (rw c.in-Some.is at c.loop-steps.invariant.stands) in
+    let at : c.loop-steps.machine ≡ stands.node = stands.here refl in
+    let some : IsSome (next c.loop-steps.machine c.in-Some.choice) = rw at stands.ahead.1 in
+    let step = step-goes next c.loop-steps.machine c.step.new.self c.in-Some.choice _ c.in_ok-_went-in-Some.ensures.went c.in_ok-_went-in-Some.ensures.none some in
+    let start = g.met.M.Machine.same_start c.loop-steps.machine c.step.new.self c.in-Some.choice step ∙ c.loop-steps.invariant.start in
+    rw start c.loop-steps.invariant.witnessed
 
 pub returns-in_default-clause-all : goal.returns-in_default-clause-all
 returns-in_default-clause-all g c =
     let next = g.M.Machine.next in
     let start = g.M.Machine.start c.args.machine.now in
-    let is_new = is_new_goal g.M.Machine.is_goal g.M.Observable.outcome c.loop.found.items in
-    let stands = (rw c.in-None.is at c.loop.invariant.stands) in
-    let empty : c.loop.path.items ≡ [] = nil_from_length _ (omega (arith, c.in_default.ensures.cases)) in
+    let is_new = is_new_goal g.M.Machine.is_goal g.M.Observable.outcome c.loop-steps.found.items in
+    let stands = (rw c.in-None.is at c.loop-steps.invariant.stands) in
+    let empty : c.loop-steps.path.items ≡ [] = nil_from_length _ (omega (arith, c.in_default.ensures.cases)) in
     let here : start ≡ stands.node = (let P : List ℕ → Type 0 = λ xs. after next xs start ≡ Some stands.node in let h : Some start ≡ Some stands.node = subst P empty stands.runs in cc) in
     let from : HasNoGoal next is_new start = rw here stands.ahead in
-    λ _. all-found next g.M.Machine.is_goal g.M.Observable.outcome start c.loop.found.items from
+    λ _. all-found next g.M.Machine.is_goal g.M.Observable.outcome start c.loop-steps.found.items from
 
 pub go_back-requires-clause-runs : goal.go_back-requires-clause-runs
 go_back-requires-clause-runs g c =
-    rw (c.deref-then-is_some.ensures.value, c.loop.invariant.start)
-    (front_runs g.M.Machine.next c.pop.new.self.items (c.in-Some-pop._taken ∷ []) _ c.loop.invariant.stands.node
-    (rw (← c.in-Some-pop.ensures.items) c.loop.invariant.stands.runs))
+    rw (c.deref-then-is_some.ensures.value, c.loop-steps.invariant.start)
+    (front_runs g.M.Machine.next c.pop.new.self.items (c.in-Some-pop._taken ∷ []) _ c.loop-steps.invariant.stands.node
+    (rw (← c.in-Some-pop.ensures.items) c.loop-steps.invariant.stands.runs))
 
 pub go_back-requires-clause-marks : goal.go_back-requires-clause-marks
-go_back-requires-clause-marks g c = rw c.loop.invariant.start c.loop.invariant.marks
+go_back-requires-clause-marks g c = rw c.loop-steps.invariant.start c.loop-steps.invariant.marks
 
-pub loop-preserved : goal.loop-preserved
-loop-preserved g c =
+pub loop-steps-preserved : goal.loop-steps-preserved
+loop-steps-preserved g c =
     let next = g.M.Machine.next in
     let is_goal = g.M.Machine.is_goal in
     let outcome = g.M.Observable.outcome in
     let IsKey = g.M.Keyed.IsKey in
     let start = g.M.Machine.start c.args.machine.now in
-    let path = c.loop.path.items in
-    let levels = c.loop.levels.items in
-    let now = c.loop.machine in
-    let seen = c.loop.seen in
+    let path = c.loop-steps.path.items in
+    let levels = c.loop-steps.levels.items in
+    let now = c.loop-steps.machine in
+    let seen = c.loop-steps.seen in
     let each : ℕ → ℕ = λ depth. 1 in
-    let found = c.loop.found.items in
+    let found = c.loop-steps.found.items in
     let is_new = is_new_goal is_goal outcome found in
     let IsPersistent = g.M.PersistentChoices.IsPersistent in
     let IsTaken : g.row.M.Denot → ℕ → Type 0 = IsReachedPersistent next IsPersistent start in
@@ -150,18 +150,18 @@ loop-preserved g c =
           let more = w.note-in-Some.new.found.items in
           let key = w.in_ok-key-in-Some.key in
           let level : Level = record { other = w.following-other.result; key = w.kept-key.result } in
-          let stands = (rw w.in-Some.is at c.loop.invariant.stands) in
+          let stands = (rw w.in-Some.is at c.loop-steps.invariant.stands) in
           let at : now ≡ stands.node = stands.here refl in
           let some : IsSome (next now choice) = rw at stands.ahead.1 in
           let step = step-goes next now t choice _ w.in_ok-_went-in-Some.ensures.went w.in_ok-_went-in-Some.ensures.none some in
-          let same : g.M.Machine.start t ≡ start = g.met.M.Machine.same_start now t choice step ∙ c.loop.invariant.start in
+          let same : g.M.Machine.start t ≡ start = g.met.M.Machine.same_start now t choice step ∙ c.loop-steps.invariant.start in
           let runs : after next path start ≡ Some now = rw at stands.runs in
           let reached : IsReached next start t = (path ++ choice ∷ [], after-push next path choice start now t runs step) in
           let old_goal : is_new_goal is_goal outcome more t ≡ false = noted-is_old is_goal outcome more t w.in_ok-note-in-Some.ensures.noted in
           let less = new-fewer is_goal outcome found more w.in_ok-note-in-Some.ensures.kept in
           let fewer = stands-fewer next is_new (is_new_goal is_goal outcome more) IsTaken IsKey less path levels start now (Some choice) stands in
           let done : AreDone next (is_new_goal is_goal outcome more) IsKey start seen =
-          done-fewer next is_new (is_new_goal is_goal outcome more) IsKey start seen less c.loop.invariant.done
+          done-fewer next is_new (is_new_goal is_goal outcome more) IsKey start seen less c.loop-steps.invariant.done
           in
           let is : IsLevel next IsTaken IsKey now choice level = record {
             following = reached-following next IsPersistent start now choice level.other (path, runs) w.following-other.ensures;
@@ -182,39 +182,39 @@ loop-preserved g c =
             distinct = w.in_ok-note-in-Some.ensures.distinct;
             witnessed = (rw same at w.in_ok-note-in-Some.ensures.witnessed);
             spent = λ node at_node.
-                let now_there : HasSpent next g.M.Machine.choices each c.args.budget c.loop.counter 0 path start now (Some choice) = (rw w.in-Some.is at c.loop.invariant.spent now runs) in
+                let now_there : HasSpent next g.M.Machine.choices each c.args.budget c.loop-steps.steps 0 path start now (Some choice) = (rw w.in-Some.is at c.loop-steps.invariant.spent now runs) in
                 let after_choice = after-push next path choice start now t runs step in
                 let there : after next (path ++ choice ∷ []) start ≡ Some node = (rw w.in_ok-push-in-Some.ensures.items at at_node) in
                 let e : t ≡ node = cc in
                 rw w.in_ok-push-in-Some.ensures.items
-                (subst (λ (x : g.row.M.Denot). HasSpent next g.M.Machine.choices each c.args.budget (c.loop.counter + 1) 0 (path ++ choice ∷ []) start x w.first_at-next.result) e
-                (spends-entered next g.M.Machine.choices each c.args.budget c.loop.counter 0 path choice start now t w.first_at-next.result runs step (omega arith) now_there));
-            marks = c.loop.invariant.marks;
+                (subst (λ (x : g.row.M.Denot). HasSpent next g.M.Machine.choices each c.args.budget (c.loop-steps.steps + 1) 0 (path ++ choice ∷ []) start x w.first_at-next.result) e
+                (spends-entered next g.M.Machine.choices each c.args.budget c.loop-steps.steps 0 path choice start now t w.first_at-next.result runs step (omega arith) now_there));
+            marks = c.loop-steps.invariant.marks;
           }
       | in-None+in-Some-pop+in_ok-next-in-None+then-is_some+in_ok-go_back-in-None w ↦
-          let stands = (rw w.in-None.is at c.loop.invariant.stands) in
+          let stands = (rw w.in-None.is at c.loop-steps.invariant.stands) in
           let back : Leaves next is_new IsTaken IsKey w.pop.new.self.items w.in-Some-pop._taken levels start stands.node = stands-back next is_new IsTaken IsKey (enough found) path w.pop.new.self.items w.in-Some-pop._taken levels start now stands w.in-Some-pop.ensures.items in
           let last = w.in_ok-next-in-None.ensures back.others back.level back.are in
-          let runs : after next w.pop.new.self.items start ≡ Some w.go_back.new.machine = (rw (w.deref-then-is_some.ensures.value, c.loop.invariant.start) at w.in_ok-go_back-in-None.ensures.runs) in
+          let runs : after next w.pop.new.self.items start ≡ Some w.go_back.new.machine = (rw (w.deref-then-is_some.ensures.value, c.loop-steps.invariant.start) at w.in_ok-go_back-in-None.ensures.runs) in
           rw (w.path-is, w.levels-is, w.marks-is, w.machine-is, w.found-is, w.seen-is, w.next-is)
           record {
             stands = rw (last.0, last.1) (back.back w.go_back.new.machine (λ some. runs));
             done =
                 done-more next is_new g.M.Keyed.IsAlike IsKey start c.keeps_alike.ensures.by_key
                 (new-alike is_goal outcome g.M.Keyed.IsAlike c.keeps_alike.ensures.same_goal c.have_equal_outcomes.ensures found) c.keeps_alike.ensures.same_next
-                seen w.leave.new.seen back.level.key stands.node last.2 back.key (path, stands.runs) stands.ahead c.loop.invariant.done;
-            start = w.in_ok-go_back-in-None.ensures.start ∙ c.loop.invariant.start;
-            distinct = c.loop.invariant.distinct;
-            witnessed = c.loop.invariant.witnessed;
+                seen w.leave.new.seen back.level.key stands.node last.2 back.key (path, stands.runs) stands.ahead c.loop-steps.invariant.done;
+            start = w.in_ok-go_back-in-None.ensures.start ∙ c.loop-steps.invariant.start;
+            distinct = c.loop-steps.invariant.distinct;
+            witnessed = c.loop-steps.invariant.witnessed;
             spent = λ node at_node.
                 rw last.0
-                (spends-left next g.M.Machine.choices each g.met.M.Machine.no_others c.args.budget c.loop.counter 0 0 0 path w.pop.new.self.items w.in-Some-pop._taken start stands.node node None back.level.other
+                (spends-left next g.M.Machine.choices each g.met.M.Machine.no_others c.args.budget c.loop-steps.steps 0 0 0 path w.pop.new.self.items w.in-Some-pop._taken start stands.node node None back.level.other
                 w.in-Some-pop.ensures.items stands.runs at_node (omega arith) (omega arith) (omega arith) back.later
-                (rw w.in-None.is at c.loop.invariant.spent stands.node stands.runs));
-            marks = (rw c.loop.invariant.start at w.in_ok-go_back-in-None.ensures.marks);
+                (rw w.in-None.is at c.loop-steps.invariant.spent stands.node stands.runs));
+            marks = (rw c.loop-steps.invariant.start at w.in_ok-go_back-in-None.ensures.marks);
           }
       | in-None+in-Some-pop+in_ok-next-in-None+else-is_some w ↦
-          let stands = (rw w.in-None.is at c.loop.invariant.stands) in
+          let stands = (rw w.in-None.is at c.loop-steps.invariant.stands) in
           let back : Leaves next is_new IsTaken IsKey w.pop.new.self.items w.in-Some-pop._taken levels start stands.node = stands-back next is_new IsTaken IsKey (enough found) path w.pop.new.self.items w.in-Some-pop._taken levels start now stands w.in-Some-pop.ensures.items in
           let last = w.in_ok-next-in-None.ensures back.others back.level back.are in
           let none : is_some back.level.other ≡ false = rw (← last.0) cc in
@@ -225,21 +225,21 @@ loop-preserved g c =
             done =
                 done-more next is_new g.M.Keyed.IsAlike IsKey start c.keeps_alike.ensures.by_key
                 (new-alike is_goal outcome g.M.Keyed.IsAlike c.keeps_alike.ensures.same_goal c.have_equal_outcomes.ensures found) c.keeps_alike.ensures.same_next
-                seen w.leave.new.seen back.level.key stands.node last.2 back.key (path, stands.runs) stands.ahead c.loop.invariant.done;
-            start = c.loop.invariant.start;
-            distinct = c.loop.invariant.distinct;
-            witnessed = c.loop.invariant.witnessed;
+                seen w.leave.new.seen back.level.key stands.node last.2 back.key (path, stands.runs) stands.ahead c.loop-steps.invariant.done;
+            start = c.loop-steps.invariant.start;
+            distinct = c.loop-steps.invariant.distinct;
+            witnessed = c.loop-steps.invariant.witnessed;
             spent = λ node at_node.
                 rw last.0
-                (spends-left next g.M.Machine.choices each g.met.M.Machine.no_others c.args.budget c.loop.counter 0 0 0 path w.pop.new.self.items w.in-Some-pop._taken start stands.node node None back.level.other
+                (spends-left next g.M.Machine.choices each g.met.M.Machine.no_others c.args.budget c.loop-steps.steps 0 0 0 path w.pop.new.self.items w.in-Some-pop._taken start stands.node node None back.level.other
                 w.in-Some-pop.ensures.items stands.runs at_node (omega arith) (omega arith) (omega arith) back.later
-                (rw w.in-None.is at c.loop.invariant.spent stands.node stands.runs));
-            marks = c.loop.invariant.marks;
+                (rw w.in-None.is at c.loop-steps.invariant.spent stands.node stands.runs));
+            marks = c.loop-steps.invariant.marks;
           }
     ]
 
 pub returns-clause-used_up : goal.returns-clause-used_up
 returns-clause-used_up g c used =
-    let stands = c.loop.invariant.stands in
-    spends-within g.M.Machine.next g.M.Machine.choices (λ depth. 1) g.met.M.Machine.no_others c.args.budget c.loop.counter 0 c.loop.path.items (g.M.Machine.start c.args.machine.now) stands.node c.loop.next
-    stands.runs (c.loop.invariant.spent stands.node stands.runs) (omega arith)
+    let stands = c.loop-steps.invariant.stands in
+    spends-within g.M.Machine.next g.M.Machine.choices (λ depth. 1) g.met.M.Machine.no_others c.args.budget c.loop-steps.steps 0 c.loop-steps.path.items (g.M.Machine.start c.args.machine.now) stands.node c.loop-steps.next
+    stands.runs (c.loop-steps.invariant.spent stands.node stands.runs) (omega arith)

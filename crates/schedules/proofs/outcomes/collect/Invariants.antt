@@ -12,8 +12,8 @@ use Rattle.schedules.proofs.outcomes.collect.Given as goal
 -- At the position of the search, the outcome of each goal before it was found, except at persistent
 -- choices, and so was that of each goal after a state whose key was noted. It has made this many
 -- steps. The marks are states of the machine.
-abbrev pub invariant-loop : goal.invariant-loop
-invariant-loop g l = record {
+abbrev pub invariant-loop-steps : goal.invariant-loop-steps
+invariant-loop-steps g l = record {
   stands :
       Stands g.M.Machine.next (is_new_goal g.M.Machine.is_goal g.M.Observable.outcome l.found.items)
       (IsReachedPersistent g.M.Machine.next g.M.PersistentChoices.IsPersistent (g.M.Machine.start l.fn.machine)) g.M.Keyed.IsKey l.path.items l.levels.items
@@ -26,6 +26,6 @@ invariant-loop g l = record {
   witnessed : All (IsWitness g.M.Machine.next g.M.Machine.is_goal g.M.Observable.outcome (g.M.Machine.start l.fn.machine)) l.found.items;
   spent :
       (node : g.row.M.Denot) → after g.M.Machine.next l.path.items (g.M.Machine.start l.fn.machine) ≡ Some node →
-      HasSpent g.M.Machine.next g.M.Machine.choices (λ depth. 1) l.fn.budget l.counter 0 l.path.items (g.M.Machine.start l.fn.machine) node l.next;
+      HasSpent g.M.Machine.next g.M.Machine.choices (λ depth. 1) l.fn.budget l.steps 0 l.path.items (g.M.Machine.start l.fn.machine) node l.next;
   marks : AreMarks g.M.Machine.next g.M.Machine.start g.M.Machine.IsSaved (g.M.Machine.start l.fn.machine) l.marks.items;
 }
