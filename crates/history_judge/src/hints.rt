@@ -1,7 +1,7 @@
 //! The hints: in which order the operations of a history are best tried.
 ghost use Rattle.std.specs.Prelude.{◌≡◌, ◌+◌, IfOk, OnOk, length, vec_len};
 
-use crate::heuristic::Heuristic;
+use crate::by_queue::order_by_queue;
 use crate::tasks::tasks_of;
 use histories::operation::{Operation, Outcome};
 use std::alloc::{AllocError, Global};
@@ -16,11 +16,11 @@ const STEPS_EACH: u64 = 50;
 pub fn hints_of(alloc: Global, histories: &Vec<Vec<Operation>>) -> Result<Vec<Vec<u64>>, AllocError>
     ensures { IfOk result (λ hints. length hints.items ≡ length histories.now.items) }
 {
-    let mut heuristic = Heuristic::new(alloc, tasks_of(alloc, histories)?)?;
+    let tasks = tasks_of(alloc, histories)?;
     let steps = STEPS_EACH
         .saturating_mul(operation_count(histories))
         .saturating_add(STEPS);
-    match heuristic.order(alloc, steps)? {
+    match order_by_queue(alloc, &tasks, steps)? {
         Some(order) => hints_by_order(alloc, histories, &order),
         None => hints_by_ends(alloc, histories),
     }

@@ -2,6 +2,7 @@
 //! linearizable.
 #![tactic(auto)]
 
+mod by_queue;
 pub mod contents;
 pub mod descriptors;
 mod first_contradiction;
