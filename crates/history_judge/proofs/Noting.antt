@@ -1,5 +1,5 @@
 -- The tables in which the ends of calls are noted.
-use Rattle.std.proofs.Common.{◌≡◌, ℕ, zero, suc, ◌+◌, ◌<◌, ◌==◌, Bool, true, false, ◌&&◌, ◌||◌, max, List, [], ◌∷◌, length, Option, Some, None, ◌≤◌, get_or, nat_le, replicate, slice_get, slice_set, if◌then◌else◌, refl, leb-true, add-one, sym, ◌∙◌, ap, subst, arith, eqb-true}
+use Rattle.std.proofs.Common.{◌≡◌, ℕ, zero, suc, ◌+◌, ◌<◌, ◌==◌, Bool, true, false, ◌||◌, max, List, [], ◌∷◌, length, Option, Some, ◌≤◌, get_or, nat_le, replicate, slice_get, slice_set, refl, leb-true, add-one, sym, ◌∙◌, ap, subst, arith, eqb-true}
 use Rattle.std.specs.Option.{option_and_then}
 use Rattle.std.proofs.lemmas.Bool.{and_parts, eqb-false}
 use Rattle.mq_model.specs.Limits.{most_processes}
@@ -7,7 +7,7 @@ use Rattle.mq_model.proofs.Places.{split}
 use Rattle.histories.specs.Histories.{is_pending}
 use Rattle.histories.specs.declared.operation.Operation.{Operation}
 use Rattle.history_judge.specs.Processes.{AreOfProcesses, is_process}
-use Rattle.history_judge.specs.WellFormed.{LatestMoments, fault_at, fault_behind, fault_of, has_pending, is_pending_by, latest, latest_of, moment_by}
+use Rattle.history_judge.specs.WellFormed.{fault_at, fault_behind, fault_of, has_pending, latest, latest_of}
 use Rattle.history_judge.specs.declared.line.Called.{Called}
 
 -- the table has the latest of these times of each process, for the first n calls

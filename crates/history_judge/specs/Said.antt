@@ -56,12 +56,16 @@ impossible_line line calls is_shortest found =
     codes "impossible: line " ++ (decimal line ++ (codes ", front part of " ++ (decimal calls ++
     (codes " calls" ++ (shortness is_shortest ++ (reason found ++ codes "\n"))))))
 
+abbrev pub undecided_line : ℕ → List ℕ
+undecided_line budget =
+    codes "undecided: the budget of " ++ (decimal budget ++ codes " steps was used up\n")
+
 -- A line, and after it the journal that explains the history if `with_journal`, or the prefix that
--- is not linearizable. The line of a call is counted from 1.
-abbrev pub judgement_text : List Called → Bool → Judgement → List ℕ
-judgement_text calls with_journal (Possible journal) =
+-- is not linearizable. The line of a call is counted from 1. `budget` is the one of the search.
+abbrev pub judgement_text : List Called → ℕ → Bool → Judgement → List ℕ
+judgement_text calls budget with_journal (Possible journal) =
     possible_line (length calls) (process_count calls) ++ (if with_journal then journal.items else [])
-judgement_text calls with_journal (Impossible call front is_shortest found) =
+judgement_text calls budget with_journal (Impossible call front is_shortest found) =
     impossible_line (min (call + 1) (2 ^ 64 - 1)) (length front.items) is_shortest found ++
     history_text front.items
-judgement_text calls with_journal OutOfBudget = codes "undecided: the budget was used up\n"
+judgement_text calls budget with_journal OutOfBudget = undecided_line budget

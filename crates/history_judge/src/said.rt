@@ -1,7 +1,7 @@
 //! The text of the result of checking a history.
 ghost use Rattle.std.specs.Prelude.{◌≡◌, IfOk, Some, string_bytes};
 ghost use Rattle.histories.specs.declared.contradiction.Contradiction.TheVariants as contradiction;
-ghost use Rattle.history_judge.specs.Said.{contradiction_text, count_text, impossible_line, judgement_text, possible_line, reason, send_text, shortness, status_of};
+ghost use Rattle.history_judge.specs.Said.{contradiction_text, count_text, impossible_line, judgement_text, possible_line, reason, send_text, shortness, status_of, undecided_line};
 
 use crate::judgement::Judgement;
 use crate::line::Called;
@@ -112,16 +112,25 @@ fn impossible_line(
     format!(in alloc; "impossible: line {line}, front part of {calls} calls{known}{reason}\n")
 }
 
+// The line for a search that used up its budget.
+fn undecided_line(alloc: Global, budget: u64) -> Result<String, AllocError>
+    ensures { IfOk result (λ line. string_bytes line ≡ undecided_line budget) }
+{
+    format!(in alloc; "undecided: the budget of {budget} steps was used up\n")
+}
+
 /// The text of the result of checking a history: a line, and after it the journal that explains the
-/// history if `with_journal`, or the prefix that is not linearizable, as a history.
+/// history if `with_journal`, or the prefix that is not linearizable, as a history. `budget` is the
+/// one of the search.
 pub fn judgement_text(
     alloc: Global,
     calls: &[Called],
     judgement: &Judgement,
+    budget: u64,
     with_journal: bool,
 ) -> Result<Vec<u8>, AllocError>
     ensures { IfOk result (λ text.
-        text.items ≡ judgement_text calls.now with_journal judgement.now) }
+        text.items ≡ judgement_text calls.now budget with_journal judgement.now) }
 {
     let mut text = Vec::new(alloc);
     match judgement {
@@ -145,7 +154,8 @@ pub fn judgement_text(
             text.extend_from_slice(&history)?;
         }
         Judgement::OutOfBudget => {
-            text.extend_from_slice(b"undecided: the budget was used up\n")?;
+            let line = undecided_line(alloc, budget)?;
+            text.extend_from_slice(line.as_bytes())?;
         }
     }
     Ok(text)

@@ -1,7 +1,7 @@
 -- The calls of a script as those of a history, by induction on their number.
 use Rattle.std.specs.Option.{option_map}
 use Rattle.std.proofs.lemmas.Option.{slice_get_within}
-use Rattle.std.proofs.Common.{Bool, true, false, Option, Some, None, is_some, ◌≤◌, slice_get, if◌then◌else◌, ◌≡◌, ◌<◌, ◌+◌, ◌++◌, ◌∙◌, ℕ, zero, suc, List, [], ◌∷◌, refl, ap, arith, sym, subst, length, get_or, append_assoc, append-nil, inl, inr, add-one}
+use Rattle.std.proofs.Common.{true, false, Option, Some, None, is_some, ◌≤◌, slice_get, ◌≡◌, ◌<◌, ◌+◌, ◌++◌, ◌∙◌, ℕ, zero, suc, List, [], ◌∷◌, refl, ap, arith, sym, subst, length, get_or, append_assoc, append-nil, inl, inr, add-one}
 use Rattle.std.proofs.lemmas.Bool.{cases_lt}
 use Rattle.std.proofs.lemmas.List.{get_or_append_left}
 use Rattle.std.proofs.Math.Seq.{get_or-append_seam}

@@ -4,7 +4,7 @@ ghost use Rattle.text_io.specs.Sources.{HasFailed};
 ghost use Rattle.history_judge.specs.HistoryFault.{IsAtFault};
 ghost use Rattle.journal_format.specs.Lines.{ReadsUpTo};
 ghost use Rattle.history_judge.specs.declared.well_formed.IllFormed.{IllFormed};
-ghost use Rattle.journal_tasks.specs.Judged.{IsIllFormed, JudgesHistory, StopsInJudgement};
+ghost use Rattle.journal_tasks.specs.Judged.{IsIllFormed, JudgesHistory, StopsInJudgement, budget_for};
 ghost use Rattle.journal_tasks.specs.declared.fault.LogFault.TheVariants.{BadLine, IllFormed as FaultOfForm, Input, NoMemory, Output};
 
 use crate::fault::LogFault;
@@ -23,15 +23,25 @@ use text_io::sources::ByteSource;
 pub struct Question {
     /// Whether the journal that explains the history is written, too.
     pub journal: bool,
-    /// The maximum number of steps of the search.
-    pub budget: u64,
+    /// The maximum number of steps of the search; without it, two million, and ten for each call.
+    pub budget: Option<u64>,
 }
 
-/// Without a journal, within two million steps.
+/// Without a journal, within as many steps as the number of calls gives.
 pub const PLAIN: Question = Question {
     journal: false,
-    budget: 2_000_000,
+    budget: None,
 };
+
+// The maximum number of steps of the search for this number of calls.
+fn budget_for(given: Option<u64>, calls: usize) -> u64
+    ensures { result ≡ budget_for given calls }
+{
+    match given {
+        Some(steps) => steps,
+        None => (calls as u64).saturating_mul(10).saturating_add(2_000_000),
+    }
+}
 
 /// Reads a concurrent history line by line, checks whether it is linearizable, and writes the
 /// result. Returns the exit status: 0 if it is linearizable, 1 if it is not, 5 if the budget was
@@ -77,8 +87,9 @@ pub fn judge_history<R: ByteSource, W: Write>(
     if let Some((line, why)) = first_fault(&calls) {
         return Err(LogFault::IllFormed(line, why));
     }
-    let judgement = judge_calls(alloc, &calls, question.budget)?;
-    let said = judgement_text(alloc, &calls, &judgement, question.journal)?;
+    let budget = budget_for(question.budget, calls.len());
+    let judgement = judge_calls(alloc, &calls, budget)?;
+    let said = judgement_text(alloc, &calls, &judgement, budget, question.journal)?;
     write_all(output, said.as_slice())?;
     Ok(status_of(&judgement))
 }

@@ -21,7 +21,7 @@ wanted_of o = record { at = o.at; form = if o.json then Json else Text }
 
 -- a history is checked within a million steps
 abbrev pub question_of : Options → Question
-question_of o = record { journal = o.explained; budget = unwrap_or o.budget 2000000 }
+question_of o = record { journal = o.explained; budget = o.budget }
 
 -- interleavings are tried within five million steps, and the report is written
 abbrev pub trial_of : Options → Trial

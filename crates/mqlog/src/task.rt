@@ -2,7 +2,7 @@
 ghost use Rattle.std.specs.Prelude.{◌≡◌};
 ghost use Rattle.mqlog.specs.Task.{task_named, trial_of, question_of, wanted_of, window_of};
 
-use journal_tasks::{LAST, PLAIN, Question, REPORT, Trial, WHOLE, Wanted, Window};
+use journal_tasks::{LAST, Question, REPORT, Trial, WHOLE, Wanted, Window};
 use journal_views::Form;
 
 /// What the program is asked to do.
@@ -89,7 +89,7 @@ fn question_of(options: Options) -> Question
 {
     Question {
         journal: options.explained,
-        budget: options.budget.unwrap_or(PLAIN.budget),
+        budget: options.budget,
     }
 }
 

@@ -229,7 +229,7 @@ static EXPLAINED: (&str, &str) = (
 
 const WITH_JOURNAL: Question = Question {
     journal: true,
-    budget: 1_000,
+    budget: Some(1_000),
 };
 
 #[test]
@@ -252,12 +252,12 @@ fn is_legal(rt: &impl Abort, alloc: Global, journal: &[u8]) {
 
 const WITHOUT_STEPS: Question = Question {
     journal: false,
-    budget: 2,
+    budget: Some(2),
 };
 
 #[test]
 fn a_budget_is_used_up(rt: HostRuntime) {
-    let undecided = "undecided: the budget was used up\n";
+    let undecided = "undecided: the budget of 2 steps was used up\n";
     for (possible, impossible, said) in &TURNED {
         is_judged(&rt, rt.alloc(), possible, WITHOUT_STEPS, 5, undecided);
         if !said.as_bytes().contains(&b';') {
@@ -304,7 +304,7 @@ static OVERLAPPING: &str = "1 0 10 open bc limits 20 8 \"/q\" -> fd 3\n\
 
 const FEW_STEPS: Question = Question {
     journal: false,
-    budget: 40_000,
+    budget: Some(40_000),
 };
 
 #[test]

@@ -179,7 +179,7 @@ fn status_of(
     let mut output = Vec::new(alloc);
     let question = Question {
         journal: false,
-        budget,
+        budget: Some(budget),
     };
     Ok(judge_history(alloc, &mut text, &mut output, question).ok())
 }

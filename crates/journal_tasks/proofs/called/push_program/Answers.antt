@@ -1,4 +1,4 @@
-use Rattle.std.proofs.Common.{arith, ◌≡◌, ◌≤◌, ◌+◌, ◌∷◌, [], ℕ, false, true, inl, inr, length, slice_get, refl, sym, length-take, ◌++◌, ◌∙◌, ap, subst, append_assoc, get_or, map, take}
+use Rattle.std.proofs.Common.{arith, ◌≡◌, ◌+◌, inr, length, slice_get, sym, length-take, ◌++◌, ◌∙◌, ap, subst, append_assoc, get_or, map, take}
 use Rattle.std.proofs.lemmas.List.{length-map, map_more, take-map}
 use Rattle.script_orders.specs.Plans.{plan_of}
 use Rattle.journal_tasks.specs.Histories.{Makes, MakesAll, asked, completions_of}

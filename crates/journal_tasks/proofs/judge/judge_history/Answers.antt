@@ -1,4 +1,4 @@
-use Rattle.std.proofs.Common.{◌≡◌, ◌∙◌, ℕ, Err, List, Result, Vec, sym, ap, subst}
+use Rattle.std.proofs.Common.{◌≡◌, ◌∙◌, ℕ, Err, List, Result, Vec, ap, length, subst, sym}
 use Rattle.history_judge.specs.Processes.{AreOfProcesses}
 use Rattle.history_judge.specs.Said.{judgement_text}
 use Rattle.history_judge.specs.Verdicts.{IsJudgement}
@@ -9,6 +9,7 @@ use Rattle.journal_format.specs.declared.fault.JournalFault.{JournalFault}
 use Rattle.journal_format.specs.declared.fault.JournalFault.TheVariants as journal
 use Rattle.history_judge.specs.WellFormed.{IsFirstFault, IsWellFormed}
 use Rattle.history_judge.specs.declared.well_formed.IllFormed.{IllFormed}
+use Rattle.journal_tasks.specs.Judged.{budget_for}
 use Rattle.journal_tasks.specs.LogFault.{of_journal_fault}
 use Rattle.journal_tasks.specs.declared.fault.LogFault.TheVariants.{NoMemory, IllFormed as OfForm}
 use Rattle.journal_tasks.proofs.Naming.{named_line}
@@ -27,6 +28,10 @@ returns-in_err-calls-clause-ill_formed g c = λ all line why known bad.
 pub returns-in_err-judgement-clause-ill_formed : goal.returns-in_err-judgement-clause-ill_formed
 returns-in_err-judgement-clause-ill_formed g c = λ all line why known bad.
     absurd (let no : OfForm line why ≡ NoMemory = rw bad at c.from_residual-in_err-judgement.ensures.1 in cc)
+
+pub returns-in_err-said-clause-ill_formed : goal.returns-in_err-said-clause-ill_formed
+returns-in_err-said-clause-ill_formed g c = λ all line why known bad.
+    absurd (let no : OfForm line why ≡ NoMemory = rw bad at c.from_residual-in_err-said.ensures.1 in cc)
 
 pub returns-in-Some-clause-ill_formed : goal.returns-in-Some-clause-ill_formed
 returns-in-Some-clause-ill_formed g c = λ all line why known bad.
@@ -56,8 +61,10 @@ pub returns-in_err-write_all-clause-output : goal.returns-in_err-write_all-claus
 returns-in_err-write_all-clause-output g c = λ all known failed.
     let calls = c.in_ok-calls.calls.items in
     let judgement = c.in_ok-judgement.judgement in
-    let said : c.as_slice.result.now ≡ judgement_text calls c.args.question.journal judgement =
-    c.as_slice.ensures.value ∙ c.in_ok-said.ensures ∙ ap (λ (cs : List Called). judgement_text cs c.args.question.journal judgement) c.deref-3.ensures.value in
+    let budget : c.budget_for-budget.result ≡ budget_for c.args.question.budget (length calls) = c.budget_for-budget.ensures ∙ ap (λ n. budget_for c.args.question.budget n) (c.len.ensures ∙ c.in_ok-calls.calls.ok.0) in
+    let said : c.as_slice.result.now ≡ judgement_text calls (budget_for c.args.question.budget (length calls)) c.args.question.journal judgement =
+    c.as_slice.ensures.value ∙ c.in_ok-said.ensures ∙ ap (λ (cs : List Called). judgement_text cs c.budget_for-budget.result c.args.question.journal judgement) c.deref-3.ensures.value
+    ∙ ap (λ n. judgement_text calls n c.args.question.journal judgement) budget in
     record {
       calls = calls;
       judgement = judgement;
@@ -65,7 +72,7 @@ returns-in_err-write_all-clause-output g c = λ all known failed.
         text = c.in_ok-calls.ensures.found all known;
         fits = c.in_ok-calls.ensures.fits;
         formed = subst (λ (cs : List Called). IsWellFormed cs) c.deref.ensures.value (c.first_fault.ensures.none c.in_default.is);
-        judges = subst (λ (cs : List Called). IsJudgement c.args.question.budget cs judgement) c.deref-2.ensures.value c.in_ok-judgement.ensures;
+        judges = subst (λ n. IsJudgement n calls judgement) budget (subst (λ (cs : List Called). IsJudgement c.budget_for-budget.result cs judgement) c.deref-2.ensures.value c.in_ok-judgement.ensures);
       };
       written = rw said at c.in_err-write_all.ensures.failed;
     }
