@@ -126,28 +126,35 @@ fn simulated(
     Ok(calls)
 }
 
-// The calls as a history, after the opens of their processes.
-fn history_of(alloc: Global, calls: &[Seen], style: Style) -> Result<String, AllocError> {
-    let mut text = String::new(alloc);
+// Appends the calls of eight processes on the queue with this number, after the opens of these.
+fn push_history(
+    alloc: Global,
+    text: &mut String,
+    calls: &[Seen],
+    style: Style,
+    queue: u8,
+) -> Result<(), AllocError> {
     let flags = if style.waits { "bc" } else { "bcn" };
     let room = style.room;
-    for process in 1..9u64 {
-        let begin = process * 2;
+    let first = u64::from(queue) * 8 + 1;
+    for index in 0..8u64 {
+        let process = first + index;
+        let begin = index * 2;
         let end = begin + 1;
         let open = format!(in alloc;
-            "{process} {begin} {end} open {flags} limits {room} 8 \"/q\" -> fd 3\n"
+            "{process} {begin} {end} open {flags} limits {room} 8 \"/q{queue}\" -> fd 3\n"
         )?;
         text.push_str(open.as_str())?;
     }
     for call in calls {
-        let process = call.process.saturating_add(1);
+        let process = first.saturating_add(call.process as u64);
         let begin = call.begin;
         let end = call.end;
         let words = words_of(alloc, *call)?;
         let line = format!(in alloc; "{process} {begin} {end} {words}\n")?;
         text.push_str(line.as_str())?;
     }
-    Ok(text)
+    Ok(())
 }
 
 fn words_of(alloc: Global, call: Seen) -> Result<String, AllocError> {
@@ -167,21 +174,27 @@ fn words_of(alloc: Global, call: Seen) -> Result<String, AllocError> {
     }
 }
 
-// The exit status for the history of some calls.
+// The exit status for the history of some calls on one queue.
 fn status_of(
     alloc: Global,
     calls: &[Seen],
     style: Style,
     budget: u64,
 ) -> Result<Option<u8>, AllocError> {
-    let history = history_of(alloc, calls, style)?;
+    let mut history = String::new(alloc);
+    push_history(alloc, &mut history, calls, style, 0)?;
+    Ok(judged(alloc, &history, budget))
+}
+
+// The exit status for a history.
+fn judged(alloc: Global, history: &str, budget: u64) -> Option<u8> {
     let mut text = history.as_bytes();
     let mut output = Vec::new(alloc);
     let question = Question {
         journal: false,
         budget: Some(budget),
     };
-    Ok(judge_history(alloc, &mut text, &mut output, question).ok())
+    judge_history(alloc, &mut text, &mut output, question).ok()
 }
 
 static STYLES: [Style; 4] = [
@@ -217,6 +230,22 @@ fn histories_of_eight_processes_are_possible_in_a_step_for_each_call(
             let status = status_of(rt.alloc(), &calls, *style, 408)?;
             assert_eq!(rt; status, Some(0), "{seed}");
         }
+    }
+    Ok(())
+}
+
+// The calls of each queue are ordered by themselves, although those of all queues overlap.
+#[test]
+fn histories_of_four_queues_are_possible_in_a_step_for_each_call(
+    rt: HostRuntime,
+) -> Result<(), Fail> {
+    for style in &STYLES {
+        let mut history = String::new(rt.alloc());
+        for queue in 0..4u8 {
+            let calls = simulated(rt.alloc(), u64::from(queue), 400, *style)?;
+            push_history(rt.alloc(), &mut history, &calls, *style, queue)?;
+        }
+        assert_eq!(rt; judged(rt.alloc(), &history, 1632), Some(0));
     }
     Ok(())
 }
