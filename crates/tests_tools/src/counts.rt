@@ -17,13 +17,16 @@ fn collected_of(alloc: Global, script: &str, budget: u64) -> Result<Collected, F
 
 // The numbers of outcomes and of deadlocks of its third phase.
 fn counts(collected: &Collected) -> (usize, usize) {
-    let last = collected.found.iter().filter(|w| w.outcome.stage == 2);
-    let stuck = collected
-        .found
-        .iter()
-        .filter(|w| w.outcome.stage == 2 && w.outcome.stuck)
-        .count();
-    (last.count().saturating_sub(stuck), stuck)
+    let mut outcomes: usize = 0;
+    let mut deadlocks: usize = 0;
+    for found in &collected.found {
+        if found.outcome.stage == 2 && found.outcome.stuck {
+            deadlocks = deadlocks.saturating_add(1);
+        } else if found.outcome.stage == 2 {
+            outcomes = outcomes.saturating_add(1);
+        }
+    }
+    (outcomes, deadlocks)
 }
 
 fn has(
