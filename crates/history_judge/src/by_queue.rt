@@ -7,9 +7,23 @@ use crate::heuristic::Heuristic;
 use crate::tasks::{Task, Tasks};
 use std::alloc::{AllocError, Global};
 
-/// The processes in an order in which their calls can take effect, if one is found. The search for
-/// the order of each queue takes at most `steps` steps.
-pub fn order_by_queue(
+// The maximum number of queues whose calls are ordered by themselves. Each costs a look at all
+// calls.
+const MOST_QUEUES: usize = 64;
+
+/// The processes in an order in which their calls can take effect, if one is found. A search for
+/// the order of a queue takes at most `steps` steps, and so does one for all queues, if these are
+/// too many.
+pub fn order_of(alloc: Global, tasks: Tasks, steps: u64) -> Result<Option<Vec<usize>>, AllocError> {
+    if tasks.queues > MOST_QUEUES {
+        let mut heuristic = Heuristic::new(alloc, tasks)?;
+        return heuristic.order(alloc, steps);
+    }
+    order_by_queue(alloc, &tasks, steps)
+}
+
+// The same, queue by queue.
+fn order_by_queue(
     alloc: Global,
     tasks: &Tasks,
     steps: u64,

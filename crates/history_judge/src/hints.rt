@@ -1,7 +1,7 @@
 //! The hints: in which order the operations of a history are best tried.
 ghost use Rattle.std.specs.Prelude.{◌≡◌, ◌+◌, IfOk, OnOk, length, vec_len};
 
-use crate::by_queue::order_by_queue;
+use crate::by_queue::order_of;
 use crate::tasks::tasks_of;
 use histories::operation::{Operation, Outcome};
 use std::alloc::{AllocError, Global};
@@ -20,7 +20,7 @@ pub fn hints_of(alloc: Global, histories: &Vec<Vec<Operation>>) -> Result<Vec<Ve
     let steps = STEPS_EACH
         .saturating_mul(operation_count(histories))
         .saturating_add(STEPS);
-    match order_by_queue(alloc, &tasks, steps)? {
+    match order_of(alloc, tasks, steps)? {
         Some(order) => hints_by_order(alloc, histories, &order),
         None => hints_by_ends(alloc, histories),
     }
