@@ -120,8 +120,8 @@ fn replies(alloc: Global, seats: &[Seat]) -> Result<Vec<u8>, AllocError>
 }
 
 impl Play {
-    /// The processes 1, 2, .. of a script with these bytes, with their lines, none of which is begun,
-    /// after the calls of a journal.
+    /// The processes 1, 2, .. of a script with these bytes, with their lines, none of which is
+    /// begun, after the calls of a journal.
     pub fn new(
         alloc: Global,
         programs: Vec<Vec<Planned>>,

@@ -1,7 +1,7 @@
 //! Tests of what the programs rest on: the bytes, words and numbers that `text_io` reads and
 //! writes, the runs of scripts, every interleaving of a script's calls, the exploration of small
-//! programs, compared with all their interleavings, and the tasks of `mqlog`. They are in a crate of
-//! their own, so that none of those crates is proved again for them.
+//! programs, compared with all their interleavings, and the tasks of `mqlog`. They are in a crate
+//! of their own, so that none of those crates is proved again for them.
 #![tactic(auto)]
 
 #[cfg(test)]
