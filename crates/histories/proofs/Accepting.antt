@@ -1,5 +1,5 @@
 -- The message of a send that succeeded is accepted before the send returns.
-use Rattle.std.proofs.Common.{◌≡◌, ℕ, ◌+◌, ◌<◌, ◌==◌, Bool, true, false, not, ◌&&◌, ◌||◌, List, [], ◌∷◌, length, Option, Some, None, inl, inr, refl, sym, ◌∙◌, ap, subst, arith, if◌then◌else◌, eqb-true, eq-eqb}
+use Rattle.std.proofs.Common.{◌≡◌, ℕ, ◌+◌, ◌≤◌, ◌<◌, ◌==◌, Bool, true, false, not, ◌&&◌, ◌||◌, List, [], ◌∷◌, length, Option, Some, None, inl, inr, refl, sym, ◌∙◌, ap, subst, arith, if◌then◌else◌, eqb-true, eq-eqb}
 use Rattle.std.specs.Option.{unwrap_or}
 use Rattle.std.specs.Str.{bytes_eq}
 use Rattle.std.proofs.lemmas.Bool.{and_parts, cases_lt}
@@ -36,7 +36,7 @@ use Rattle.histories.specs.RealTime.{operation_at}
 use Rattle.histories.specs.Passed.{has_sent, is_done}
 use Rattle.histories.proofs.Completing.{completed-other, completed-own, added, sent-payload}
 use Rattle.histories.proofs.Cutting.{AreBegun, Ends}
-use Rattle.histories.proofs.Tracing.{legal-linear, own-call, waits-for}
+use Rattle.histories.proofs.Tracing.{IsCallAt, call-older, legal-linear, own-call, waits-for}
 
 -- the record at this place is of a send of this message
 pub record IsOf (past : Past) (m prio : ℕ) (message : List ℕ) : Type 0 where
@@ -45,12 +45,13 @@ pub record IsOf (past : Past) (m prio : ℕ) (message : List ℕ) : Type 0 where
   pub priority : priority_given r.entry.call ≡ prio
   pub bytes : r.payload ≡ message
 
--- a message with these bytes was accepted
-pub record HasAccepted (past : Past) (prio : ℕ) (message : List ℕ) : Type 0 where
+-- the message of the k-th operation of a process was accepted
+pub record HasAccepted (time : ℕ) (histories : Histories) (past : Past) (index k prio : ℕ) (message : List ℕ) : Type 0 where
   pub m : ℕ
   pub q : ℕ
   pub accepted : is_accepted past q m ≡ true
   pub of : IsOf past m prio message
+  pub placed : IsCallAt time histories past index k m
 
 pub of-older : (past : Past) (r : Record) (m prio : ℕ) (message : List ℕ) → IsOf past m prio message → IsOf (r ∷ past) m prio message
 of-older past r m prio message x = record { r = x.r; at = record_at-older past r m (record_at-below past m x.r x.at) ∙ x.at; priority = x.priority; bytes = x.bytes }
@@ -73,8 +74,14 @@ accepted-more past r q m h = split (is_in (admitted past q) m)
     (λ t. or-left _ _ (with-more (entered past r.entry q) (admitted past q) m t))
     (λ f. let old : is_in (handed past q) m ≡ true = rw f at h in or-right (is_in (admitted (r ∷ past) q) m) _ (handed-more past r q m old))
 
-has-older : (past : Past) (r : Record) (prio : ℕ) (message : List ℕ) → HasAccepted past prio message → HasAccepted (r ∷ past) prio message
-has-older past r prio message x = record { m = x.m; q = x.q; accepted = accepted-more past r x.q x.m x.accepted; of = of-older past r x.m prio message x.of }
+has-older : (time : ℕ) (histories : Histories) (past : Past) (r : Record) (index k prio : ℕ) (message : List ℕ) → HasAccepted time histories past index k prio message → HasAccepted time histories (r ∷ past) index k prio message
+has-older time histories past r index k prio message x = record {
+  m = x.m;
+  q = x.q;
+  accepted = accepted-more past r x.q x.m x.accepted;
+  of = of-older past r x.m prio message x.of;
+  placed = call-older time histories past r index k x.m x.placed;
+}
 
 -- the queue of a send that did not fail
 pub send-on : (past : Past) (p : Process) (call : Call) (y : Reply) → Says past p call y → is_send call ≡ true → is_sent y ≡ true → (q : ℕ) × (called_queue past p call ≡ Some q)
@@ -205,7 +212,8 @@ admitting past b w h not_handed =
 
 -- the wait of a process is for its current operation, so an admitted one is of its message
 collected-accepted : (histories : Histories) (past : Past) (linear : IsLinearization histories past) (time : ℕ) → AreBegun time histories past linear → (r : Record) → IsLegalNext past r → (index : ℕ) (o : Operation) (prio : ℕ) (message : List ℕ) →
-    r.entry.process ≡ index + 1 → current_of histories past index ≡ Some o → Sends o prio message → (b : ℕ) → r.entry.reply ≡ reply.Collected b → not (is_handed past b) ≡ true → HasAccepted past prio message
+    r.entry.process ≡ index + 1 → current_of histories past index ≡ Some o → Sends o prio message → (b : ℕ) → r.entry.reply ≡ reply.Collected b → not (is_handed past b) ≡ true →
+    HasAccepted time histories past index (completed past (index + 1)) prio message
 collected-accepted histories past linear time begun r legal index o prio message process is sends b was not_handed =
     let legal_past = legal-linear histories past linear in
     let c = collected past r legal b (ap cause was) in
@@ -218,7 +226,13 @@ collected-accepted histories past linear time begun r legal index o prio message
     let both : Some y.operation ≡ Some o = sym there ∙ is in
     let same : y.operation ≡ o = cc in
     let call : IsCallOf y.r o = subst (λ (x : Operation). IsCallOf y.r x) same y.call in
-    record { m = x.w; q = q.0; accepted = or-left _ _ q.1; of = call-of past y.r o x.w prio message sends call (waits-sent y.r.entry.reply y.waits) y.at }
+    record {
+      m = x.w;
+      q = q.0;
+      accepted = or-left _ _ q.1;
+      of = call-of past y.r o x.w prio message sends call (waits-sent y.r.entry.reply y.waits) y.at;
+      placed = subst (λ (i : ℕ). IsCallAt time histories past i (completed past (i + 1)) x.w) at y.placed;
+    }
   where
     waits-sent : (y : Reply) → is_wait y ≡ true → is_sent y ≡ true
     waits-sent reply.Waits e = refl
@@ -234,13 +248,16 @@ collected-accepted histories past linear time begun r legal index o prio message
     waits-sent (reply.Refused f) e = absurd (let bad : false ≡ true = e in cc)
 
 -- the record that completes a send
-completing-accepted : (histories : Histories) (past : Past) (linear : IsLinearization histories past) (time : ℕ) → AreBegun time histories past linear → (r : Record) → IsLegalNext past r → (from : ComesFrom histories past r) → (prio : ℕ) (message : List ℕ) →
-    Sends from.operation prio message → is_wait r.entry.reply ≡ false → HasAccepted (r ∷ past) prio message
-completing-accepted histories past linear time begun r legal from prio message sends goes =
+completing-accepted : (histories : Histories) (past : Past) (linear : IsLinearization histories past) (time : ℕ) → AreBegun time histories past linear → (r : Record) → IsLegalNext past r → (from : ComesFrom histories past r) → from.operation.begin ≤ time → (prio : ℕ) (message : List ℕ) →
+    Sends from.operation prio message → is_wait r.entry.reply ≡ false → HasAccepted time histories (r ∷ past) from.index (completed past (from.index + 1)) prio message
+completing-accepted histories past linear time begun r legal from by_then prio message sends goes =
     let fit : completes past r.entry.reply ≡ true = subst (λ (x : Outcome). fits past r.entry.reply x ≡ true) sends.done from.fits in
     by r.entry.reply refl fit
   where
-    now : (y : Reply) → r.entry.reply ≡ y → is_sent y ≡ true → is_wait y ≡ false → HasAccepted (r ∷ past) prio message
+    Accepts : Type 0
+    Accepts = HasAccepted time histories (r ∷ past) from.index (completed past (from.index + 1)) prio message
+
+    now : (y : Reply) → r.entry.reply ≡ y → is_sent y ≡ true → is_wait y ≡ false → Accepts
     now y is sent quiet =
         let says : Says past r.entry.process r.entry.call r.entry.reply = legal_says past r legal in
         let sent_now : is_sent r.entry.reply ≡ true = subst (λ (x : Reply). is_sent x ≡ true) (sym is) sent in
@@ -249,12 +266,20 @@ completing-accepted histories past linear time begun r legal from prio message s
         let send : is_send r.entry.call ≡ true = ap is_send call.call ∙ sends.send in
         let q = send-on past r.entry.process r.entry.call r.entry.reply says send sent_now in
         let here : record_at (r ∷ past) (length past) ≡ Some r = rw (eq-eqb (length past) (length past) refl) refl in
-        record { m = length past; q = q.0; accepted = newest-accepted past r q.0 send q.1 y is sent quiet; of = call-of (r ∷ past) r from.operation (length past) prio message sends call sent_now here }
+        record {
+          m = length past;
+          q = q.0;
+          accepted = newest-accepted past r q.0 send q.1 y is sent quiet;
+          of = call-of (r ∷ past) r from.operation (length past) prio message sends call sent_now here;
+          placed = record { before = past; r = r; linear = (linear, legal, from); begun = (begun, by_then); ends = inl refl; at = refl; of = refl; number = refl; own = own };
+        }
 
-    by : (y : Reply) → r.entry.reply ≡ y → completes past y ≡ true → HasAccepted (r ∷ past) prio message
+    by : (y : Reply) → r.entry.reply ≡ y → completes past y ≡ true → Accepts
     by (reply.Queued n) is fit = now (reply.Queued n) is refl refl
     by (reply.Handed w) is fit = now (reply.Handed w) is refl refl
-    by (reply.Collected b) is fit = has-older past r prio message (collected-accepted histories past linear time begun r legal from.index from.operation prio message from.process from.is sends b is fit)
+    by (reply.Collected b) is fit =
+        has-older time histories past r from.index (completed past (from.index + 1)) prio message
+        (collected-accepted histories past linear time begun r legal from.index from.operation prio message from.process from.is sends b is fit)
     by reply.Waits is fit = absurd (let bad : true ≡ false = subst (λ (x : Reply). is_wait x ≡ false) is goes in cc)
     by reply.Done is fit = absurd (no-done r.entry.call (subst (λ (y : Reply). Says past r.entry.process r.entry.call y) is (legal_says past r legal)) (is_call is))
       where
@@ -281,10 +306,10 @@ completing-accepted histories past linear time begun r legal from prio message s
 
 -- the message of each completed send was accepted
 pub completed-accepted : (time : ℕ) (histories : Histories) (past : Past) (linear : IsLinearization histories past) → AreBegun time histories past linear → (index k : ℕ) (o : Operation) (prio : ℕ) (message : List ℕ) →
-    operation_at histories index k ≡ Some o → has_sent prio message o ≡ true → k < completed past (index + 1) → HasAccepted past prio message
+    operation_at histories index k ≡ Some o → has_sent prio message o ≡ true → k < completed past (index + 1) → HasAccepted time histories past index k prio message
 completed-accepted time histories [] linear begun index k o prio message is sent below = absurd (omega (arith, below))
 completed-accepted time histories (r ∷ past) linear begun index k o prio message is sent below = elim (cases_lt k (completed past (index + 1))) [
-  | inl before ↦ has-older past r prio message (completed-accepted time histories past linear.0 begun.0 index k o prio message is sent before)
+  | inl before ↦ has-older time histories past r index k prio message (completed-accepted time histories past linear.0 begun.0 index k o prio message is sent before)
   | inr after ↦ split (r.entry.process == index + 1)
       (λ own.
       let mine : r.entry.process ≡ index + 1 = eqb-true _ _ own in
@@ -300,7 +325,9 @@ completed-accepted time histories (r ∷ past) linear begun index k o prio messa
       let there : current_of histories past index ≡ Some from.operation = subst (λ (n : ℕ). current_of histories past n ≡ Some from.operation) at from.is in
       let both : Some from.operation ≡ Some o = sym there ∙ here in
       let same : from.operation ≡ o = cc in
-      completing-accepted histories past linear.0 time begun.0 r linear.1 from prio message (subst (λ (x : Operation). Sends x prio message) (sym same) (sends-of o prio message sent)) goes))
+      let has = completing-accepted histories past linear.0 time begun.0 r linear.1 from begun.1 prio message (subst (λ (x : Operation). Sends x prio message) (sym same) (sends-of o prio message sent)) goes in
+      let has_his : HasAccepted time histories (r ∷ past) index (completed past (index + 1)) prio message = subst (λ (i : ℕ). HasAccepted time histories (r ∷ past) i (completed past (i + 1)) prio message) at has in
+      subst (λ (n : ℕ). HasAccepted time histories (r ∷ past) index n prio message) number has_his))
       (λ other. let same = completed-other past r (index + 1) (λ e. let k : (r.entry.process == index + 1) ≡ true = eq-eqb _ _ e in let bad : true ≡ false = sym k ∙ other in cc) in absurd (omega (arith, same, below, after)))
 ]
 

@@ -1,8 +1,11 @@
--- The messages in the only queue, and those that were got, all entered it.
-use Rattle.std.proofs.Common.{◌≡◌, ℕ, ◌+◌, ◌≤◌, zero, suc, true, List, [], ◌∷◌, length, take, Option, Some, None, is_some, Vec, refl, ap, subst, arith, slice_get, count_by}
+-- The messages in the queue of a name, and those that were got from it, all entered it.
+use Rattle.std.proofs.Common.{◌≡◌, ◌≢◌, ℕ, ◌+◌, ◌≤◌, ◌==◌, zero, suc, Bool, true, false, List, [], ◌∷◌, length, Option, Some, None, is_some, Vec, refl, sym, ◌∙◌, ap, subst, arith, eqb-true, slice_get}
+use Rattle.std.specs.Str.{bytes_eq}
 use Rattle.std.specs.declared.alloc.Global.{Global}
+use Rattle.std.proofs.lemmas.Bool.{eqb-false}
 use Rattle.mq_model.specs.Record.{Record, Past}
-use Rattle.mq_model.specs.Descriptors.{called_queue, created, held, is_place}
+use Rattle.mq_model.specs.Descriptors.{called_queue, created, is_place}
+use Rattle.mq_model.specs.Names.{name_of}
 use Rattle.mq_model.specs.Messages.{admits, is_in, present, with_place}
 use Rattle.mq_model.specs.Legality.{Legal}
 use Rattle.mq_model.specs.declared.entries.Call.{Call}
@@ -11,20 +14,28 @@ use Rattle.mq_model.specs.declared.entries.Description.{Description}
 use Rattle.mq_model.specs.declared.entries.Reply.{Reply}
 use Rattle.mq_model.specs.declared.entries.Reply.TheVariants as reply
 use Rattle.mq_model.proofs.Cases.{BestReply, Says}
-use Rattle.mq_model.proofs.HeldQueues.{created-held, created-more}
+use Rattle.mq_model.proofs.Alive.{name_of-older}
+use Rattle.mq_model.proofs.Frames.{created-below}
+use Rattle.mq_model.proofs.HeldQueues.{created-more}
+use Rattle.mq_model.proofs.PresentFew.{called-created}
 use Rattle.mq_model.proofs.LegalReplies.{legal_says}
 use Rattle.mq_model.proofs.Places.{find-in, split}
-use Rattle.mq_model.proofs.Presence.{GotFacts, present-got_here, present-handed, without-fewer}
+use Rattle.mq_model.proofs.Presence.{GotFacts, present-got_elsewhere, present-got_here, present-handed, without-fewer}
 use Rattle.mq_model.proofs.Steps.{present-queued, present-queued_elsewhere, without}
 use Rattle.histories.specs.declared.operation.Operation.{Operation}
 use Rattle.histories.specs.Histories.{Histories, current_of, is_through}
 use Rattle.histories.specs.Linearizations.{IsLinearization}
 use Rattle.histories.specs.Outcomes.{hands}
+use Rattle.histories.specs.OwnCalls.{ends_wait}
+use Rattle.histories.specs.Named.{has_any, unbinds}
 use Rattle.histories.specs.NotFull.{takes_out}
+use Rattle.histories.proofs.Accepting.{send-on}
 use Rattle.histories.proofs.Completing.{length-with, one_if}
 use Rattle.histories.proofs.Cutting.{AreBegun, Ends, ends-older}
-use Rattle.histories.proofs.Entering.{entered_by, entered-step, own_come, queued-sends}
-use Rattle.histories.proofs.Getting.{got_by, got-step, own_gain}
+use Rattle.histories.proofs.Entering.{admits-on, entered_by, entered-step, own_come, queued-sends}
+use Rattle.histories.proofs.Getting.{got_by, got-step, if_on, own_gain, record_on}
+use Rattle.histories.proofs.Marking.{tally}
+use Rattle.histories.proofs.Naming.{call-marked}
 use Rattle.histories.proofs.Totals.{of_process, total, total-le}
 use Rattle.histories.proofs.Tracing.{legal-linear}
 
@@ -41,53 +52,79 @@ gone _ = 0
 abbrev rec : ℕ → Call → Reply → List ℕ → Record
 rec p call y payload = record { entry = record { process = p; call = call; reply = y }; payload = payload }
 
--- each queue that was created is this one
-abbrev IsOnly : Past → ℕ → Type 0
-IsOnly past q = (k : ℕ) → is_in (created past) k ≡ true → k ≡ q
+-- of the queues that were created, this one has the name
+abbrev pub HasName : List ℕ → Past → ℕ → Type 0
+HasName name past q = (k : ℕ) → is_in (created past) k ≡ true → bytes_eq (name_of past k) name ≡ (k == q)
 
-got-here : (past : Past) → Legal past → (p d : ℕ) (call : Call) (h : Description) (m : ℕ) (a n : Option ℕ) (payload : List ℕ) (q : ℕ) → IsOnly past q → held past p d ≡ Some h → BestReply past h (reply.Got m a n) →
-    length (present (rec p call (reply.Got m a n) payload ∷ past) q) + 1 ≤ length (present past q) + one_if (is_some a)
-got-here past legal p d call h m a n payload q only is says =
-    let on : h.queue ≡ q = only h.queue (created-held past legal p d h is) in
+got-here : (past : Past) → Legal past → (p : ℕ) (call : Call) (h : Description) (m : ℕ) (a n : Option ℕ) (payload : List ℕ) → BestReply past h (reply.Got m a n) →
+    length (present (rec p call (reply.Got m a n) payload ∷ past) h.queue) + 1 ≤ length (present past h.queue) + one_if (is_some a)
+got-here past legal p call h m a n payload says =
     let facts : GotFacts past h.queue m a = record { inside = (find-in _ (present past h.queue) m says.0).0; admitted = says.1 } in
     let here = present-got_here past legal p call m a n payload h.queue facts in
     let fewer = without-fewer m (present past h.queue) facts.inside in
     let more = length-with a (without m (present past h.queue)) in
     let count : length (present (rec p call (reply.Got m a n) payload ∷ past) h.queue) ≡ length (with_place a (without m (present past h.queue))) = ap length here in
-    let le : length (present (rec p call (reply.Got m a n) payload ∷ past) h.queue) + 1 ≤ length (present past h.queue) + one_if (is_some a) = omega (arith, count, fewer, more) in
-    subst (λ (k : ℕ). length (present (rec p call (reply.Got m a n) payload ∷ past) k) + 1 ≤ length (present past k) + one_if (is_some a)) on le
+    omega (arith, count, fewer, more)
 
-present-got : (past : Past) → Legal past → (p : ℕ) (call : Call) (m : ℕ) (a n : Option ℕ) (payload : List ℕ) → Says past p call (reply.Got m a n) → (q : ℕ) → IsOnly past q →
-    length (present (rec p call (reply.Got m a n) payload ∷ past) q) + 1 ≤ length (present past q) + one_if (is_some a)
-present-got past legal p (MqReceive d room) m a n payload says q only = got-here past legal p d (MqReceive d room) says.0 m a n payload q only says.1 says.3
-present-got past legal p (MqTimedReceive d room until now) m a n payload says q only = got-here past legal p d (MqTimedReceive d room until now) says.0 m a n payload q only says.1 says.3
-present-got past legal p (MqOpen flags attr) m a n payload says q only = absurd says
-present-got past legal p (MqClose d) m a n payload says q only = absurd says.0
-present-got past legal p MqUnlink m a n payload says q only = absurd says
-present-got past legal p (MqSend d prio len) m a n payload says q only = absurd says.3
-present-got past legal p (MqTimedSend d prio len until now) m a n payload says q only = absurd says.3
-present-got past legal p (MqGetattr d) m a n payload says q only = absurd says
-present-got past legal p (MqSetattr d nonblock) m a n payload says q only = absurd says
-present-got past legal p (MqNotify d value) m a n payload says q only = absurd says
-present-got past legal p NextNotice m a n payload says q only = absurd (cc)
-present-got past legal p Collect m a n payload says q only = absurd (cc)
-present-got past legal p (Withdraw now) m a n payload says q only = absurd (cc)
+-- what a receive does to a queue, if it is on it or not
+got-at : (past : Past) → Legal past → (p : ℕ) (call : Call) (h : Description) (m : ℕ) (a n : Option ℕ) (payload : List ℕ) → BestReply past h (reply.Got m a n) → (q : ℕ) →
+    length (present (rec p call (reply.Got m a n) payload ∷ past) q) + if_on (h.queue == q) 1 ≤ length (present past q) + if_on (h.queue == q) (one_if (is_some a))
+got-at past legal p call h m a n payload says q = split (h.queue == q)
+    (λ t.
+    let on : h.queue ≡ q = eqb-true _ _ t in
+    let le = got-here past legal p call h m a n payload says in
+    rw t (subst (λ (k : ℕ). length (present (rec p call (reply.Got m a n) payload ∷ past) k) + 1 ≤ length (present past k) + one_if (is_some a)) on le))
+    (λ f.
+    let facts : GotFacts past h.queue m a = record { inside = (find-in _ (present past h.queue) m says.0).0; admitted = says.1 } in
+    let apart : q ≢ h.queue = λ e. eqb-false _ _ f (sym e) in
+    let same = ap length (present-got_elsewhere past p call m a n payload h.queue q facts apart) in
+    rw f (omega (arith, same)))
 
-present-step : (past : Past) → Legal past → (p : ℕ) (call : Call) (y : Reply) (payload : List ℕ) → Says past p call y → (q : ℕ) → IsOnly past q →
-    length (present (rec p call y payload ∷ past) q) + gone y ≤ length (present past q) + came y
-present-step past legal p call (reply.Queued n) payload says q only = split (is_place q (called_queue past p call))
-    (λ on. let e = ap length (present-queued past p call q n payload legal (queued-sends past p n call says) on) in rw e (omega arith))
-    (λ off. let e = ap length (present-queued_elsewhere past p call q n payload off) in rw e (omega arith))
-present-step past legal p call (reply.Got m a n) payload says q only = present-got past legal p call m a n payload says q only
-present-step past legal p call (reply.Handed w) payload says q only = let e = ap length (present-handed past p call w payload q) in rw e (omega arith)
-present-step past legal p call (reply.Opened d c) payload says q only = omega arith
-present-step past legal p call reply.Waits payload says q only = omega arith
-present-step past legal p call (reply.Collected b) payload says q only = omega arith
-present-step past legal p call (reply.Withdrawn b) payload says q only = omega arith
-present-step past legal p call (reply.Attrs s) payload says q only = omega arith
-present-step past legal p call (reply.Notice v) payload says q only = omega arith
-present-step past legal p call reply.Done payload says q only = omega arith
-present-step past legal p call (reply.Refused f) payload says q only = omega arith
+present-got : (past : Past) → Legal past → (p : ℕ) (call : Call) (m : ℕ) (a n : Option ℕ) (payload : List ℕ) → Says past p call (reply.Got m a n) → (q : ℕ) →
+    length (present (rec p call (reply.Got m a n) payload ∷ past) q) + if_on (is_place q (called_queue past p call)) 1 ≤ length (present past q) + if_on (is_place q (called_queue past p call)) (one_if (is_some a))
+present-got past legal p (MqReceive d room) m a n payload says q = rw says.1 (got-at past legal p (MqReceive d room) says.0 m a n payload says.3 q)
+present-got past legal p (MqTimedReceive d room until now) m a n payload says q = rw says.1 (got-at past legal p (MqTimedReceive d room until now) says.0 m a n payload says.3 q)
+present-got past legal p (MqOpen flags attr) m a n payload says q = absurd says
+present-got past legal p (MqClose d) m a n payload says q = absurd says.0
+present-got past legal p MqUnlink m a n payload says q = absurd says
+present-got past legal p (MqSend d prio len) m a n payload says q = absurd says.3
+present-got past legal p (MqTimedSend d prio len until now) m a n payload says q = absurd says.3
+present-got past legal p (MqGetattr d) m a n payload says q = absurd says
+present-got past legal p (MqSetattr d nonblock) m a n payload says q = absurd says
+present-got past legal p (MqNotify d value) m a n payload says q = absurd says
+present-got past legal p NextNotice m a n payload says q = absurd (cc)
+present-got past legal p Collect m a n payload says q = absurd (cc)
+present-got past legal p (Withdraw now) m a n payload says q = absurd (cc)
+
+if_on-zero : (on : Bool) → if_on on 0 ≡ 0
+if_on-zero true = refl
+if_on-zero false = refl
+
+present-step : (past : Past) → Legal past → (p : ℕ) (call : Call) (y : Reply) (payload : List ℕ) → Says past p call y → (q : ℕ) →
+    length (present (rec p call y payload ∷ past) q) + if_on (is_place q (called_queue past p call)) (gone y) ≤ length (present past q) + if_on (is_place q (called_queue past p call)) (came y)
+present-step past legal p call (reply.Queued n) payload says q = split (is_place q (called_queue past p call))
+    (λ on.
+    let e : length (present (rec p call (reply.Queued n) payload ∷ past) q) ≡ suc (length (present past q)) = ap length (present-queued past p call q n payload legal (queued-sends past p n call says) on) in
+    let none = if_on-zero (is_place q (called_queue past p call)) in
+    let one : if_on (is_place q (called_queue past p call)) 1 ≡ 1 = ap (λ (b : Bool). if_on b 1) on in
+    omega (arith, e, none, one))
+    (λ off.
+    let e : length (present (rec p call (reply.Queued n) payload ∷ past) q) ≡ length (present past q) = ap length (present-queued_elsewhere past p call q n payload off) in
+    let none = if_on-zero (is_place q (called_queue past p call)) in
+    omega (arith, e, none))
+present-step past legal p call (reply.Got m a n) payload says q = present-got past legal p call m a n payload says q
+present-step past legal p call (reply.Handed w) payload says q =
+    let e = ap length (present-handed past p call w payload q) in
+    let none = if_on-zero (is_place q (called_queue past p call)) in
+    omega (arith, e, none)
+present-step past legal p call (reply.Opened d c) payload says q = let none = if_on-zero (is_place q (called_queue past p call)) in omega (arith, none)
+present-step past legal p call reply.Waits payload says q = let none = if_on-zero (is_place q (called_queue past p call)) in omega (arith, none)
+present-step past legal p call (reply.Collected b) payload says q = let none = if_on-zero (is_place q (called_queue past p call)) in omega (arith, none)
+present-step past legal p call (reply.Withdrawn b) payload says q = let none = if_on-zero (is_place q (called_queue past p call)) in omega (arith, none)
+present-step past legal p call (reply.Attrs s) payload says q = let none = if_on-zero (is_place q (called_queue past p call)) in omega (arith, none)
+present-step past legal p call (reply.Notice v) payload says q = let none = if_on-zero (is_place q (called_queue past p call)) in omega (arith, none)
+present-step past legal p call reply.Done payload says q = let none = if_on-zero (is_place q (called_queue past p call)) in omega (arith, none)
+present-step past legal p call (reply.Refused f) payload says q = let none = if_on-zero (is_place q (called_queue past p call)) in omega (arith, none)
 
 -- what a record adds on both sides
 balanced : (y : Reply) → came y + (own_gain y + one_if (hands y)) ≤ gone y + (own_come y + one_if (is_some (admits y)))
@@ -103,28 +140,87 @@ balanced (reply.Notice v) = omega arith
 balanced reply.Done = omega arith
 balanced (reply.Refused f) = omega arith
 
--- at each record of a complete linearization with this queue only
-pub balance : (time : ℕ) (histories : Histories) (full past : Past) (linear : IsLinearization histories past) → AreBegun time histories past linear → IsLinearization histories full → Ends past full →
-    ((i : ℕ) → is_through (current_of histories full i) ≡ true) → (q : ℕ) → IsOnly past q →
-    length (present past q) + total (got_by histories past) (length histories) ≤ total (entered_by time histories past) (length histories)
-balance time histories full [] linear begun whole ends through q only =
-    let none = total-le (got_by histories []) (λ i. 0) (length histories) (λ i lt. nothing (slice_get histories i)) in
+balanced-on : (on : Bool) (y : Reply) → if_on on (came y) + if_on on (own_gain y + one_if (hands y)) ≤ if_on on (gone y) + if_on on (own_come y + one_if (is_some (admits y)))
+balanced-on true y = balanced y
+balanced-on false y = omega arith
+
+-- a call that brings in or takes out a message is on the queue if and only if its operation is
+same-side : (time : ℕ) (name : List ℕ) (histories : Histories) (past : Past) (r : Record) (linear : IsLinearization histories (r ∷ past)) → AreBegun time histories (r ∷ past) linear → has_any (unbinds time name) histories ≡ false → (q : ℕ) → HasName name past q →
+    ((k : ℕ) → called_queue past r.entry.process r.entry.call ≡ Some k → ends_wait r.entry.call ≡ false) → (k : ℕ) → called_queue past r.entry.process r.entry.call ≡ Some k →
+    is_place q (called_queue past r.entry.process r.entry.call) ≡ record_on name histories past r linear
+same-side time name histories past r linear begun stays q named own k on =
+    let legal = legal-linear histories past linear.0 in
+    let made = called-created past legal r.entry.process k r.entry.call on in
+    ap (is_place q) on ∙ sym (named k made) ∙ sym (call-marked time name histories past r linear begun stays (own k on) k on)
+
+-- a call that names a descriptor ends no wait
+names-own : (past : Past) (p : ℕ) (call : Call) (k : ℕ) → called_queue past p call ≡ Some k → ends_wait call ≡ false
+names-own past p Collect k e = absurd (let bad : None ≡ Some k = e in cc)
+names-own past p (Withdraw now) k e = absurd (let bad : None ≡ Some k = e in cc)
+names-own past p _ k e = refl
+
+-- what a record changes
+abbrev IsStep : Past → Record → ℕ → Bool → Type 0
+IsStep past r q on = length (present (r ∷ past) q) + if_on on (gone r.entry.reply) ≤ length (present past q) + if_on on (came r.entry.reply)
+
+step-on : (time : ℕ) (name : List ℕ) (histories : Histories) (past : Past) (r : Record) (linear : IsLinearization histories (r ∷ past)) → AreBegun time histories (r ∷ past) linear → has_any (unbinds time name) histories ≡ false → (q : ℕ) → HasName name past q →
+    IsStep past r q (record_on name histories past r linear)
+step-on time name histories past r linear begun stays q named = by (called_queue past r.entry.process r.entry.call) refl
+  where
+    legal : Legal past
+    legal = legal-linear histories past linear.0
+
+    says : Says past r.entry.process r.entry.call r.entry.reply
+    says = legal_says past r linear.1
+
+    step : length (present (r ∷ past) q) + if_on (is_place q (called_queue past r.entry.process r.entry.call)) (gone r.entry.reply) ≤ length (present past q) + if_on (is_place q (called_queue past r.entry.process r.entry.call)) (came r.entry.reply)
+    step = present-step past legal r.entry.process r.entry.call r.entry.reply r.payload says q
+
+    -- a call through no descriptor moves no message
+    still : (y : Reply) → Says past r.entry.process r.entry.call y → called_queue past r.entry.process r.entry.call ≡ None → (gone y ≡ 0) × (came y ≡ 0)
+    still (reply.Queued n) x none = absurd (let on = send-on past r.entry.process r.entry.call (reply.Queued n) x (queued-sends past r.entry.process n r.entry.call x) refl in let bad : None ≡ Some on.0 = sym none ∙ on.1 in cc)
+    still (reply.Got m a n) x none = absurd (let on = admits-on past r.entry.process m a n r.entry.call x in let bad : None ≡ Some on.0 = sym none ∙ on.1 in cc)
+    still (reply.Handed w) x none = (refl, refl)
+    still (reply.Opened d c) x none = (refl, refl)
+    still reply.Waits x none = (refl, refl)
+    still (reply.Collected b) x none = (refl, refl)
+    still (reply.Withdrawn b) x none = (refl, refl)
+    still (reply.Attrs s) x none = (refl, refl)
+    still (reply.Notice v) x none = (refl, refl)
+    still reply.Done x none = (refl, refl)
+    still (reply.Refused f) x none = (refl, refl)
+
+    by : (o : Option ℕ) → called_queue past r.entry.process r.entry.call ≡ o → IsStep past r q (record_on name histories past r linear)
+    by (Some k) e = subst (IsStep past r q) (same-side time name histories past r linear begun stays q named (names-own past r.entry.process r.entry.call) k e) step
+    by None e =
+        let zero_of = still r.entry.reply says e in
+        let off : is_place q (called_queue past r.entry.process r.entry.call) ≡ false = ap (is_place q) e in
+        let before : IsStep past r q false = subst (IsStep past r q) off step in
+        let gone_none : if_on (record_on name histories past r linear) (gone r.entry.reply) ≡ 0 = ap (if_on (record_on name histories past r linear)) zero_of.0 ∙ if_on-zero (record_on name histories past r linear) in
+        omega (arith, before, gone_none)
+
+-- at each record of a complete linearization
+pub balance : (time : ℕ) (name : List ℕ) (histories : Histories) (full past : Past) (linear : IsLinearization histories past) → AreBegun time histories past linear → has_any (unbinds time name) histories ≡ false → IsLinearization histories full → Ends past full →
+    ((i : ℕ) → is_through (current_of histories full i) ≡ true) → (q : ℕ) → HasName name past q →
+    length (present past q) + total (got_by name histories past) (length histories) ≤ total (entered_by time name histories past) (length histories)
+balance time name histories full [] linear begun stays whole ends through q named =
+    let none = total-le (got_by name histories []) (λ i. 0) (length histories) (λ i lt. nothing (slice_get histories i)) in
     let zero_all = total-zero (length histories) in
     omega (arith, none, zero_all)
   where
-    nothing : (o : Option (Vec Operation Global)) → of_process (λ (v : Vec Operation Global). count_by takes_out (take 0 v.items)) o + 0 ≤ 0
+    nothing : (o : Option (Vec Operation Global)) → of_process (λ (v : Vec Operation Global). tally takes_out name v.items 0) o + 0 ≤ 0
     nothing None = omega arith
     nothing (Some v) = omega arith
 
     total-zero : (n : ℕ) → total (λ i. 0) n ≡ 0
     total-zero zero = refl
     total-zero (suc n) = let before = total-zero n in omega (arith, before)
-balance time histories full (r ∷ past) linear begun whole ends through q only =
-    let legal = legal-linear histories past linear.0 in
-    let few : IsOnly past q = λ k old. only k (created-more past r k old) in
-    let before = balance time histories full past linear.0 begun.0 whole (ends-older r past full ends) through q few in
-    let here = present-step past legal r.entry.process r.entry.call r.entry.reply r.payload (legal_says past r linear.1) q few in
-    let got = got-step time histories past r linear begun in
-    let entered = entered-step time histories full past r linear begun whole ends through in
-    let both = balanced r.entry.reply in
+balance time name histories full (r ∷ past) linear begun stays whole ends through q named =
+    let older : HasName name past q = λ k old.
+    ap (λ (b : List ℕ). bytes_eq b name) (sym (name_of-older past r k (created-below past k old))) ∙ named k (created-more past r k old) in
+    let before = balance time name histories full past linear.0 begun.0 stays whole (ends-older r past full ends) through q older in
+    let here = step-on time name histories past r linear begun stays q older in
+    let got = got-step time name histories past r linear begun stays in
+    let entered = entered-step time name histories full past r linear begun stays whole ends through in
+    let both = balanced-on (record_on name histories past r linear) r.entry.reply in
     omega (arith, before, here, got, entered, both)

@@ -37,6 +37,13 @@ ends-older r part (s ∷ past) ends = elim ends [
   | inr older ↦ inr (ends-older r part past older)
 ]
 
+pub ends-length : (part past : Past) → Ends part past → length part ≤ length past
+ends-length part [] ends = rw ends (omega arith)
+ends-length part (r ∷ past) ends = elim ends [
+  | inl same ↦ rw same (omega arith)
+  | inr older ↦ let le = ends-length part past older in omega (arith, le)
+]
+
 -- no operation is left that had returned by this time
 abbrev pub is_through_by : ℕ → Option Operation → Bool
 is_through_by time None = true

@@ -1,10 +1,11 @@
--- How many messages entered queues at each record of a linearization.
-use Rattle.std.proofs.Common.{◌≡◌, ℕ, ◌+◌, ◌≤◌, ◌<◌, ◌-◌, ◌==◌, Bool, true, false, ◌&&◌, [], ◌∷◌, length, take, Option, Some, None, is_some, Vec, refl, sym, ◌∙◌, ap, subst, arith, if◌then◌else◌, slice_get, count_by, eqb-true, eq-eqb, le-leb}
+-- How many messages entered the queue of a name at each record of a linearization.
+use Rattle.std.proofs.Common.{◌≡◌, ℕ, ◌+◌, ◌≤◌, ◌<◌, ◌-◌, ◌==◌, Bool, true, false, ◌&&◌, List, [], ◌∷◌, length, take, Option, Some, None, is_some, Vec, refl, sym, ◌∙◌, ap, subst, arith, if◌then◌else◌, slice_get, eqb-true, eq-eqb, le-leb}
 use Rattle.std.specs.declared.alloc.Global.{Global}
 use Rattle.std.proofs.lemmas.Bool.{eqb-false}
 use Rattle.std.proofs.lemmas.Option.{slice_get_within}
 use Rattle.mq_model.specs.Record.{Record, Past}
-use Rattle.mq_model.specs.Messages.{admits, blocked_sends, is_send, waiting_sends}
+use Rattle.mq_model.specs.Descriptors.{called_queue, descriptor_of}
+use Rattle.mq_model.specs.Messages.{admits, blocked_sends, is_send, least, waiting_sends}
 use Rattle.mq_model.specs.Waits.{answered_by, is_answered, is_wait, named_wait, names_wait, open_wait}
 use Rattle.mq_model.specs.declared.entries.Call.{Call}
 use Rattle.mq_model.specs.declared.entries.Call.TheVariants.{MqOpen, MqClose, MqUnlink, MqSend, MqReceive, MqGetattr, MqSetattr, MqNotify, NextNotice, Collect, MqTimedSend, MqTimedReceive, Withdraw}
@@ -16,7 +17,7 @@ use Rattle.mq_model.proofs.Frames.{answered_by-none}
 use Rattle.mq_model.proofs.LegalReplies.{legal_says}
 use Rattle.mq_model.proofs.NamedWaits.{least-in}
 use Rattle.mq_model.proofs.Places.{is_in-filter, split}
-use Rattle.mq_model.proofs.Waiters.{admits-least, waiter}
+use Rattle.mq_model.proofs.Waiters.{waiter}
 use Rattle.mq_laws.proofs.GivenOnce.{answered-named}
 use Rattle.mq_laws.proofs.LegalPlaces.{has-here}
 use Rattle.mq_laws.proofs.SentMessages.{blocked-sent}
@@ -27,13 +28,18 @@ use Rattle.histories.specs.declared.operation.Outcome.TheVariants.{Pending, Done
 use Rattle.histories.specs.Histories.{Histories, completed, current_of, is_through}
 use Rattle.histories.specs.Linearizations.{IsLinearization}
 use Rattle.histories.specs.Outcomes.{fits, hands, is_handed}
+use Rattle.histories.specs.Named.{has_any, is_marked, marks_of, no_marks, unbinds}
 use Rattle.histories.specs.NotFull.{enters_by, may_enter}
 use Rattle.histories.proofs.Admitting.{IsAdmitted, admitted-enters}
 use Rattle.histories.proofs.Completing.{completed-free, completed-other, free, made-other, made-own, made-same, one_if, operations-of}
 use Rattle.histories.proofs.Cutting.{AreBegun, Ends}
 use Rattle.histories.proofs.Giving.{handed-sends}
+use Rattle.histories.proofs.Getting.{if_on, record_on, same-now}
+use Rattle.histories.proofs.Marking.{is_on_now, is_op_marked, marks_at, tally, tally-fewer, tally-more}
+use Rattle.histories.proofs.Naming.{call-marked, placed-marked}
 use Rattle.histories.proofs.Passing.{completed-made}
-use Rattle.histories.proofs.Totals.{count-fewer, count-more, of_process, total, total-grows}
+use Rattle.histories.proofs.Taking.{sent-called}
+use Rattle.histories.proofs.Totals.{of_process, total, total-grows}
 use Rattle.histories.proofs.Tracing.{current-other, ending-waits-not, legal-linear, own-call, waits-for}
 
 -- the current operation of a process is a send whose message may enter
@@ -41,11 +47,11 @@ abbrev pub enters_now : ℕ → Option Operation → Bool
 enters_now time None = false
 enters_now time (Some o) = enters_by time o
 
--- how many messages of a process entered queues, with that of a send whose wait was served
-abbrev pub entered_by : ℕ → Histories → Past → ℕ → ℕ
-entered_by time histories past i =
-    of_process (λ (v : Vec Operation Global). count_by (enters_by time) (take (completed past (i + 1)) v.items)) (slice_get histories i)
-    + one_if (is_answered past (i + 1) && enters_now time (current_of histories past i))
+-- how many messages of a process entered the queue, with that of a send whose wait was served
+abbrev pub entered_by : ℕ → List ℕ → Histories → Past → ℕ → ℕ
+entered_by time name histories past i =
+    of_process (λ (v : Vec Operation Global). tally (enters_by time) name v.items (completed past (i + 1))) (slice_get histories i)
+    + one_if (is_answered past (i + 1) && (is_on_now name histories past i && enters_now time (current_of histories past i)))
 
 -- a reply by which the message of its send enters at once
 abbrev pub own_come : Reply → ℕ
@@ -58,14 +64,23 @@ answer-step true c None k n = omega arith
 answer-step true c (Some j) k n = omega arith
 answer-step false c o k n = omega arith
 
-other-entered : (time : ℕ) (histories : Histories) (past : Past) (r : Record) (i : ℕ) → (r.entry.process == i + 1) ≡ false → entered_by time histories past i ≤ entered_by time histories (r ∷ past) i
-other-entered time histories past r i other =
+other-entered : (time : ℕ) (name : List ℕ) (histories : Histories) (past : Past) (r : Record) (i : ℕ) → (r.entry.process == i + 1) ≡ false → entered_by time name histories past i ≤ entered_by time name histories (r ∷ past) i
+other-entered time name histories past r i other =
     let e = completed-other past r (i + 1) (eqb-false _ _ other) in
+    let n : ℕ = of_process (λ (v : Vec Operation Global). tally (enters_by time) name v.items (completed past (i + 1))) (slice_get histories i) in
+    let counts : of_process (λ (v : Vec Operation Global). tally (enters_by time) name v.items (completed (r ∷ past) (i + 1))) (slice_get histories i) ≡ n = ap (λ (k : ℕ). of_process (λ (v : Vec Operation Global). tally (enters_by time) name v.items k) (slice_get histories i)) e in
+    let on = same-now name histories past r i other in
     let now : enters_now time (current_of histories (r ∷ past) i) ≡ enters_now time (current_of histories past i) = ap (enters_now time) (current-other histories past r i other) in
-    let n : ℕ = of_process (λ (v : Vec Operation Global). count_by (enters_by time) (take (completed past (i + 1)) v.items)) (slice_get histories i) in
-    let step = answer-step (names_wait r.entry.reply (open_wait past (i + 1))) (enters_now time (current_of histories (r ∷ past) i)) (answered_by past (i + 1)) (length past) n in
-    let same : one_if (is_answered past (i + 1) && enters_now time (current_of histories (r ∷ past) i)) ≡ one_if (is_answered past (i + 1) && enters_now time (current_of histories past i)) = ap (λ (b : Bool). one_if (is_answered past (i + 1) && b)) now in
-    rw (e, other) (omega (arith, step, same))
+    let c : Bool = is_on_now name histories past i && enters_now time (current_of histories past i) in
+    let both : (is_on_now name histories (r ∷ past) i && enters_now time (current_of histories (r ∷ past) i)) ≡ c =
+    ap (λ (b : Bool). b && enters_now time (current_of histories (r ∷ past) i)) on ∙ ap (λ (b : Bool). is_on_now name histories past i && b) now in
+    let answered : is_answered (r ∷ past) (i + 1) ≡ is_some (if names_wait r.entry.reply (open_wait past (i + 1)) then Some (length past) else answered_by past (i + 1)) = rw other refl in
+    let same : one_if (is_answered (r ∷ past) (i + 1) && (is_on_now name histories (r ∷ past) i && enters_now time (current_of histories (r ∷ past) i)))
+    ≡ one_if (is_some (if names_wait r.entry.reply (open_wait past (i + 1)) then Some (length past) else answered_by past (i + 1)) && c) =
+    ap (λ (b : Bool). one_if (b && (is_on_now name histories (r ∷ past) i && enters_now time (current_of histories (r ∷ past) i)))) answered
+    ∙ ap (λ (b : Bool). one_if (is_some (if names_wait r.entry.reply (open_wait past (i + 1)) then Some (length past) else answered_by past (i + 1)) && b)) both in
+    let step = answer-step (names_wait r.entry.reply (open_wait past (i + 1))) c (answered_by past (i + 1)) (length past) n in
+    omega (arith, counts, same, step)
 
 -- a process that waits has made a call
 waits-made : (histories : Histories) (past : Past) → IsLinearization histories past → (p w : ℕ) → open_wait past p ≡ Some w → 1 ≤ made past p
@@ -174,26 +189,41 @@ wait-come (reply.Handed w) e = absurd (let bad : false ≡ true = e in cc)
 wait-come _ e = refl
 
 -- the count at a process, by the operations that it has completed
-entered-quiet : (time : ℕ) (histories : Histories) (past : Past) (i : ℕ) (v : Vec Operation Global) → slice_get histories i ≡ Some v → is_answered past (i + 1) ≡ false →
-    entered_by time histories past i ≡ count_by (enters_by time) (take (completed past (i + 1)) v.items)
-entered-quiet time histories past i v has quiet = rw (has, quiet) (omega arith)
+entered-quiet : (time : ℕ) (name : List ℕ) (histories : Histories) (past : Past) (i : ℕ) (v : Vec Operation Global) → slice_get histories i ≡ Some v → is_answered past (i + 1) ≡ false →
+    entered_by time name histories past i ≡ tally (enters_by time) name v.items (completed past (i + 1))
+entered-quiet time name histories past i v has quiet = rw (has, quiet) (omega arith)
 
-entered-is : (time : ℕ) (histories : Histories) (past : Past) (i : ℕ) (v : Vec Operation Global) (o : Operation) → slice_get histories i ≡ Some v → current_of histories past i ≡ Some o → is_answered past (i + 1) ≡ true →
-    entered_by time histories past i ≡ count_by (enters_by time) (take (completed past (i + 1)) v.items) + one_if (enters_by time o)
-entered-is time histories past i v o has is answered =
-    let now : enters_now time (current_of histories past i) ≡ enters_by time o = ap (enters_now time) is in
-    let one : one_if (is_answered past (i + 1) && enters_now time (current_of histories past i)) ≡ one_if (enters_by time o) = rw answered (ap one_if now) in
-    let count : of_process (λ (w : Vec Operation Global). count_by (enters_by time) (take (completed past (i + 1)) w.items)) (slice_get histories i) ≡ count_by (enters_by time) (take (completed past (i + 1)) v.items) = rw has refl in
+entered-is : (time : ℕ) (name : List ℕ) (histories : Histories) (past : Past) (i : ℕ) (v : Vec Operation Global) (o : Operation) → slice_get histories i ≡ Some v → current_of histories past i ≡ Some o → is_answered past (i + 1) ≡ true →
+    entered_by time name histories past i ≡ tally (enters_by time) name v.items (completed past (i + 1)) + one_if (is_marked (marks_at name histories i (completed past (i + 1))) (descriptor_of o.call) && enters_by time o)
+entered-is time name histories past i v o has is answered =
+    let marks : List Bool = marks_at name histories i (completed past (i + 1)) in
+    let now : (is_on_now name histories past i && enters_now time (current_of histories past i)) ≡ (is_marked marks (descriptor_of o.call) && enters_by time o) =
+    ap (λ (x : Option Operation). is_op_marked marks x && enters_now time x) is in
+    let one : one_if (is_answered past (i + 1) && (is_on_now name histories past i && enters_now time (current_of histories past i))) ≡ one_if (is_marked marks (descriptor_of o.call) && enters_by time o) = rw answered (ap one_if now) in
+    let count : of_process (λ (w : Vec Operation Global). tally (enters_by time) name w.items (completed past (i + 1))) (slice_get histories i) ≡ tally (enters_by time) name v.items (completed past (i + 1)) = ap (of_process (λ (w : Vec Operation Global). tally (enters_by time) name w.items (completed past (i + 1)))) has in
     omega (arith, one, count)
 
-own-entered : (time : ℕ) (histories : Histories) (past : Past) (r : Record) (linear : IsLinearization histories (r ∷ past)) → linear.2.operation.begin ≤ time →
-    entered_by time histories past linear.2.index + own_come r.entry.reply ≤ entered_by time histories (r ∷ past) linear.2.index
-own-entered time histories past r linear begun =
+come-on : (on : Bool) (n : ℕ) (enters : Bool) → n ≤ one_if enters → if_on on n ≤ one_if (on && enters)
+come-on true n enters le = le
+come-on false n enters le = omega arith
+
+if_on-zero : (on : Bool) (n : ℕ) → n ≡ 0 → if_on on n ≡ 0
+if_on-zero true n e = e
+if_on-zero false n e = refl
+
+own-entered : (time : ℕ) (name : List ℕ) (histories : Histories) (past : Past) (r : Record) (linear : IsLinearization histories (r ∷ past)) → linear.2.operation.begin ≤ time →
+    entered_by time name histories past linear.2.index + if_on (record_on name histories past r linear) (own_come r.entry.reply) ≤ entered_by time name histories (r ∷ past) linear.2.index
+own-entered time name histories past r linear begun =
     let ops = operations-of histories past linear.2.index linear.2.operation linear.2.is in
-    let after = entered-quiet time histories (r ∷ past) linear.2.index ops.v ops.has quiet_now in
+    let n : ℕ = completed past (linear.2.index + 1) in
+    let on : Bool = record_on name histories past r linear in
+    let after = entered-quiet time name histories (r ∷ past) linear.2.index ops.v ops.has quiet_now in
+    let more : tally (enters_by time) name ops.v.items (n + 1) ≡ tally (enters_by time) name ops.v.items n + one_if (on && enters_by time linear.2.operation) =
+    tally-more (enters_by time) name ops.v.items n linear.2.operation ops.at_n
+    ∙ ap (λ (b : Bool). tally (enters_by time) name ops.v.items n + one_if (b && enters_by time linear.2.operation)) (marks_is ops.v ops.has) in
     split (ends_wait r.entry.call)
     (λ ends.
-    let none = ending-come past r.entry.process r.entry.call r.entry.reply (legal_says past r linear.1) ends in
+    let none = if_on-zero on (own_come r.entry.reply) (ending-come past r.entry.process r.entry.call r.entry.reply (legal_says past r linear.1) ends) in
     let waits_not : is_wait r.entry.reply ≡ false = split (is_wait r.entry.reply)
     (λ t. let own = ending-waits-not past r linear.1 t in let bad : true ≡ false = sym ends ∙ own in absurd (cc))
     (λ f. f) in
@@ -204,42 +234,44 @@ own-entered time histories past r linear begun =
     let b = some-of (answered_by past (linear.2.index + 1)) t in
     let named = answered-named past (linear.2.index + 1) b.0 b.1 in
     let some = waits-made histories past linear.0 (linear.2.index + 1) named.w named.opened in
-    let before : completed past (linear.2.index + 1) ≡ made past (linear.2.index + 1) - 1 = rw named.opened refl in
-    let next : completed (r ∷ past) (linear.2.index + 1) ≡ completed past (linear.2.index + 1) + 1 = omega (arith, number, before, some) in
-    let more = count-more (enters_by time) ops.v.items (completed past (linear.2.index + 1)) linear.2.operation ops.at_n in
-    let old = entered-is time histories past linear.2.index ops.v linear.2.operation ops.has linear.2.is t in
-    let new : count_by (enters_by time) (take (completed (r ∷ past) (linear.2.index + 1)) ops.v.items) ≡ count_by (enters_by time) (take (completed past (linear.2.index + 1) + 1) ops.v.items) = ap (λ (k : ℕ). count_by (enters_by time) (take k ops.v.items)) next in
+    let before : n ≡ made past (linear.2.index + 1) - 1 = rw named.opened refl in
+    let next : completed (r ∷ past) (linear.2.index + 1) ≡ n + 1 = omega (arith, number, before, some) in
+    let old = entered-is time name histories past linear.2.index ops.v linear.2.operation ops.has linear.2.is t in
+    let new : tally (enters_by time) name ops.v.items (completed (r ∷ past) (linear.2.index + 1)) ≡ tally (enters_by time) name ops.v.items (n + 1) = ap (tally (enters_by time) name ops.v.items) next in
     omega (arith, none, after, more, old, new))
     (λ f.
-    let old = entered-quiet time histories past linear.2.index ops.v ops.has f in
+    let old = entered-quiet time name histories past linear.2.index ops.v ops.has f in
     let most = completed-made past (linear.2.index + 1) in
-    let more = count-fewer (enters_by time) ops.v.items (completed past (linear.2.index + 1)) (completed (r ∷ past) (linear.2.index + 1)) (omega (arith, most, number)) in
-    omega (arith, none, after, old, more)))
+    let fewer = tally-fewer (enters_by time) name ops.v.items n (completed (r ∷ past) (linear.2.index + 1)) (omega (arith, most, number)) in
+    omega (arith, none, after, old, fewer)))
     (λ own.
     let none = free past r (linear.2.index + 1) linear.2.process linear.1 own in
     let quiet : is_answered past (linear.2.index + 1) ≡ false = ap is_some (answered_by-none past (linear.2.index + 1) (none-of (open_wait past (linear.2.index + 1)) none)) in
-    let old = entered-quiet time histories past linear.2.index ops.v ops.has quiet in
+    let old = entered-quiet time name histories past linear.2.index ops.v ops.has quiet in
     let number = completed-free past (linear.2.index + 1) none in
-    let more = made-own past r (linear.2.index + 1) linear.2.process own in
+    let made_more = made-own past r (linear.2.index + 1) linear.2.process own in
     split (is_wait r.entry.reply)
     (λ waits.
-    let come = wait-come r.entry.reply waits in
+    let come = if_on-zero on (own_come r.entry.reply) (wait-come r.entry.reply waits) in
     let some_now : is_some (open_wait (r ∷ past) (linear.2.index + 1)) ≡ true = rw (eq-eqb _ _ linear.2.process, waits) refl in
     let before : completed (r ∷ past) (linear.2.index + 1) ≡ made (r ∷ past) (linear.2.index + 1) - 1 = rw some_now refl in
-    let same : completed (r ∷ past) (linear.2.index + 1) ≡ completed past (linear.2.index + 1) = omega (arith, before, more, number) in
-    let new : count_by (enters_by time) (take (completed (r ∷ past) (linear.2.index + 1)) ops.v.items) ≡ count_by (enters_by time) (take (completed past (linear.2.index + 1)) ops.v.items) = ap (λ (k : ℕ). count_by (enters_by time) (take k ops.v.items)) same in
+    let same : completed (r ∷ past) (linear.2.index + 1) ≡ n = omega (arith, before, made_more, number) in
+    let new : tally (enters_by time) name ops.v.items (completed (r ∷ past) (linear.2.index + 1)) ≡ tally (enters_by time) name ops.v.items n = ap (tally (enters_by time) name ops.v.items) same in
     omega (arith, come, after, old, new))
     (λ goes.
     let free_now : is_some (open_wait (r ∷ past) (linear.2.index + 1)) ≡ false = rw (eq-eqb _ _ linear.2.process, goes) refl in
     let after_made = completed-free (r ∷ past) (linear.2.index + 1) free_now in
-    let next : completed (r ∷ past) (linear.2.index + 1) ≡ completed past (linear.2.index + 1) + 1 = omega (arith, after_made, more, number) in
-    let step = count-more (enters_by time) ops.v.items (completed past (linear.2.index + 1)) linear.2.operation ops.at_n in
-    let new : count_by (enters_by time) (take (completed (r ∷ past) (linear.2.index + 1)) ops.v.items) ≡ count_by (enters_by time) (take (completed past (linear.2.index + 1) + 1) ops.v.items) = ap (λ (k : ℕ). count_by (enters_by time) (take k ops.v.items)) next in
-    let le = come-le time histories past r linear begun own in
-    omega (arith, after, old, step, new, le)))
+    let next : completed (r ∷ past) (linear.2.index + 1) ≡ n + 1 = omega (arith, after_made, made_more, number) in
+    let new : tally (enters_by time) name ops.v.items (completed (r ∷ past) (linear.2.index + 1)) ≡ tally (enters_by time) name ops.v.items (n + 1) = ap (tally (enters_by time) name ops.v.items) next in
+    let le = come-on on (own_come r.entry.reply) (enters_by time linear.2.operation) (come-le time histories past r linear begun own) in
+    omega (arith, after, old, more, new, le)))
   where
     quiet_now : is_answered (r ∷ past) (linear.2.index + 1) ≡ false
     quiet_now = rw (eq-eqb _ _ linear.2.process) refl
+
+    marks_is : (v : Vec Operation Global) → slice_get histories linear.2.index ≡ Some v →
+        is_marked (marks_of name no_marks (take (completed past (linear.2.index + 1)) v.items)) (descriptor_of linear.2.operation.call) ≡ record_on name histories past r linear
+    marks_is v has = rw has refl
 
 -- a waiting send that a receive admits ------------------------------------------------------------------------------------
 
@@ -248,19 +280,35 @@ got-own past p m a n Collect says = absurd (cc)
 got-own past p m a n (Withdraw now) says = absurd (cc)
 got-own past p m a n _ says = refl
 
+-- a receive that admits a send does so on its queue
+pub admits-on : (past : Past) (p m : ℕ) (a n : Option ℕ) (call : Call) → Says past p call (reply.Got m a n) → (q : ℕ) × (called_queue past p call ≡ Some q) × (a ≡ least (waiting_sends past q))
+admits-on past p m a n (MqReceive d room) says = (says.0.queue, rw says.1 refl, says.3.1)
+admits-on past p m a n (MqTimedReceive d room until now) says = (says.0.queue, rw says.1 refl, says.3.1)
+admits-on past p m a n (MqOpen flags attr) says = absurd says
+admits-on past p m a n (MqClose d) says = absurd says.0
+admits-on past p m a n MqUnlink says = absurd says
+admits-on past p m a n (MqSend d prio len) says = absurd says.3
+admits-on past p m a n (MqTimedSend d prio len until now) says = absurd says.3
+admits-on past p m a n (MqGetattr d) says = absurd says
+admits-on past p m a n (MqSetattr d nonblock) says = absurd says
+admits-on past p m a n (MqNotify d value) says = absurd says
+admits-on past p m a n NextNotice says = absurd (cc)
+admits-on past p m a n Collect says = absurd (cc)
+admits-on past p m a n (Withdraw now) says = absurd (cc)
+
 -- the process of the send
-record HasAdmitted (time : ℕ) (histories : Histories) (past : Past) (r : Record) : Type 0 where
+record HasAdmitted (time : ℕ) (name : List ℕ) (histories : Histories) (past : Past) (r : Record) (linear : IsLinearization histories (r ∷ past)) : Type 0 where
   pub index : ℕ
   pub within : index < length histories
-  pub grows : entered_by time histories past index + 1 ≤ entered_by time histories (r ∷ past) index
+  pub grows : entered_by time name histories past index + if_on (record_on name histories past r linear) 1 ≤ entered_by time name histories (r ∷ past) index
 
-admits-one : (time : ℕ) (histories : Histories) (full past : Past) (r : Record) (linear : IsLinearization histories (r ∷ past)) → AreBegun time histories (r ∷ past) linear → IsLinearization histories full → Ends (r ∷ past) full →
-    ((i : ℕ) → is_through (current_of histories full i) ≡ true) → (m w : ℕ) (n : Option ℕ) → r.entry.reply ≡ reply.Got m (Some w) n → HasAdmitted time histories past r
-admits-one time histories full past r linear begun whole ends through m w n is =
+admits-one : (time : ℕ) (name : List ℕ) (histories : Histories) (full past : Past) (r : Record) (linear : IsLinearization histories (r ∷ past)) → AreBegun time histories (r ∷ past) linear → has_any (unbinds time name) histories ≡ false → IsLinearization histories full → Ends (r ∷ past) full →
+    ((i : ℕ) → is_through (current_of histories full i) ≡ true) → (m w : ℕ) (n : Option ℕ) → r.entry.reply ≡ reply.Got m (Some w) n → HasAdmitted time name histories past r linear
+admits-one time name histories full past r linear begun stays whole ends through m w n is =
     let legal = legal-linear histories past linear.0 in
     let says : Says past r.entry.process r.entry.call (reply.Got m (Some w) n) = subst (λ (y : Reply). Says past r.entry.process r.entry.call y) is (legal_says past r linear.1) in
-    let x = admits-least past r.entry.process r.entry.call m (Some w) n says in
-    let there = least-in (waiting_sends past x.0) w (sym x.1) in
+    let x = admits-on past r.entry.process m (Some w) n r.entry.call says in
+    let there = least-in (waiting_sends past x.0) w (sym x.2) in
     let y = waiter past legal Send x.0 w there in
     let z = waits-for time histories past linear.0 begun.0 y.0 w y.1 in
     let blocked = (is_in-filter _ (blocked_sends past x.0) w there).0 in
@@ -285,51 +333,67 @@ admits-one time histories full past r linear begun whole ends through m w n is =
     } in
     let may = admitted-enters histories (r ∷ past) full whole ends z.index w (length past) z.operation (through z.index) admitted in
     let enters : enters_by time z.operation ≡ true = rw (le-leb _ _ z.begun, send, may) refl in
+    let called = sent-called past x.0 w sent z.placed.before z.placed.r z.placed.ends z.placed.at in
+    let waits_on = (placed-marked time name histories past z.index (completed past (z.index + 1)) w z.placed stays z.operation z.is x.0 called).1 in
+    let gets_on = call-marked time name histories past r linear begun stays own x.0 x.1 in
+    let number = completed-other past r (z.index + 1) (eqb-false _ _ apart) in
+    let on : is_marked (marks_at name histories z.index (completed (r ∷ past) (z.index + 1))) (descriptor_of z.operation.call) ≡ record_on name histories past r linear =
+    ap (λ (k : ℕ). is_marked (marks_at name histories z.index k) (descriptor_of z.operation.call)) number ∙ waits_on ∙ sym gets_on in
     let ops = operations-of histories past z.index z.operation z.is in
     let quiet : is_answered past (z.index + 1) ≡ false = ap is_some free_yet in
-    let old = entered-quiet time histories past z.index ops.v ops.has quiet in
+    let old = entered-quiet time name histories past z.index ops.v ops.has quiet in
     let names : names_wait r.entry.reply (open_wait past (z.index + 1)) ≡ true =
     ap (λ (y : Reply). names_wait y (open_wait past (z.index + 1))) is ∙ ap (λ (o : Option ℕ). names_wait (reply.Got m (Some w) n) o) opened ∙ eq-eqb w w refl in
     let answered : is_answered (r ∷ past) (z.index + 1) ≡ true = rw (apart, names) refl in
-    let new = entered-is time histories (r ∷ past) z.index ops.v z.operation ops.has still answered in
-    let number = completed-other past r (z.index + 1) (eqb-false _ _ apart) in
-    let counts : count_by (enters_by time) (take (completed (r ∷ past) (z.index + 1)) ops.v.items) ≡ count_by (enters_by time) (take (completed past (z.index + 1)) ops.v.items) = ap (λ (k : ℕ). count_by (enters_by time) (take k ops.v.items)) number in
-    let one : one_if (enters_by time z.operation) ≡ 1 = ap one_if enters in
+    let new = entered-is time name histories (r ∷ past) z.index ops.v z.operation ops.has still answered in
+    let counts : tally (enters_by time) name ops.v.items (completed (r ∷ past) (z.index + 1)) ≡ tally (enters_by time) name ops.v.items (completed past (z.index + 1)) = ap (tally (enters_by time) name ops.v.items) number in
+    let one : one_if (is_marked (marks_at name histories z.index (completed (r ∷ past) (z.index + 1))) (descriptor_of z.operation.call) && enters_by time z.operation) ≡ if_on (record_on name histories past r linear) 1 =
+    ap (λ (b : Bool). one_if (b && enters_by time z.operation)) on ∙ ap (λ (b : Bool). one_if (record_on name histories past r linear && b)) enters ∙ one-on (record_on name histories past r linear) in
     record { index = z.index; within = slice_get_within histories z.index ops.v ops.has; grows = omega (arith, old, new, counts, one) }
   where
     kept_here : hands r.entry.reply ≡ false → is_handed (r ∷ past) (length past) ≡ false
     kept_here e = rw (eq-eqb (length past) (length past) refl) e
+
+    one-on : (b : Bool) → one_if (b && true) ≡ if_on b 1
+    one-on true = refl
+    one-on false = refl
 
 admitting-got : (y : Reply) (w : ℕ) → admits y ≡ Some w → (m : ℕ) × (n : Option ℕ) × (y ≡ reply.Got m (Some w) n)
 admitting-got (reply.Got m a n) w e = (m, n, ap (λ (b : Option ℕ). reply.Got m b n) e)
 admitting-got _ w e = absurd (let bad : None ≡ Some w = e in cc)
 
 -- what one record adds to the messages that entered
-pub entered-step : (time : ℕ) (histories : Histories) (full past : Past) (r : Record) (linear : IsLinearization histories (r ∷ past)) → AreBegun time histories (r ∷ past) linear → IsLinearization histories full → Ends (r ∷ past) full →
+pub entered-step : (time : ℕ) (name : List ℕ) (histories : Histories) (full past : Past) (r : Record) (linear : IsLinearization histories (r ∷ past)) → AreBegun time histories (r ∷ past) linear → has_any (unbinds time name) histories ≡ false → IsLinearization histories full → Ends (r ∷ past) full →
     ((i : ℕ) → is_through (current_of histories full i) ≡ true) →
-    total (entered_by time histories past) (length histories) + (own_come r.entry.reply + one_if (is_some (admits r.entry.reply))) ≤ total (entered_by time histories (r ∷ past)) (length histories)
-entered-step time histories full past r linear begun whole ends through = by (admits r.entry.reply) refl
+    total (entered_by time name histories past) (length histories) + if_on (record_on name histories past r linear) (own_come r.entry.reply + one_if (is_some (admits r.entry.reply))) ≤ total (entered_by time name histories (r ∷ past)) (length histories)
+entered-step time name histories full past r linear begun stays whole ends through = by (admits r.entry.reply) refl
   where
-    own : entered_by time histories past linear.2.index + own_come r.entry.reply ≤ entered_by time histories (r ∷ past) linear.2.index
-    own = own-entered time histories past r linear begun.1
+    on : Bool
+    on = record_on name histories past r linear
 
-    each : (i : ℕ) → entered_by time histories past i ≤ entered_by time histories (r ∷ past) i
+    own : entered_by time name histories past linear.2.index + if_on (record_on name histories past r linear) (own_come r.entry.reply) ≤ entered_by time name histories (r ∷ past) linear.2.index
+    own = own-entered time name histories past r linear begun.1
+
+    each : (i : ℕ) → entered_by time name histories past i ≤ entered_by time name histories (r ∷ past) i
     each i = split (r.entry.process == i + 1)
         (λ mine.
         let at : linear.2.index ≡ i = let p = linear.2.process in let e : r.entry.process ≡ i + 1 = eqb-true _ _ mine in omega (arith, p, e) in
         let le = own in
-        subst (λ (k : ℕ). entered_by time histories past k ≤ entered_by time histories (r ∷ past) k) at (omega (arith, le)))
-        (λ other. other-entered time histories past r i other)
+        subst (λ (k : ℕ). entered_by time name histories past k ≤ entered_by time name histories (r ∷ past) k) at (omega (arith, le)))
+        (λ other. other-entered time name histories past r i other)
 
     by : (o : Option ℕ) → admits r.entry.reply ≡ o →
-        total (entered_by time histories past) (length histories) + (own_come r.entry.reply + one_if (is_some (admits r.entry.reply))) ≤ total (entered_by time histories (r ∷ past)) (length histories)
+        total (entered_by time name histories past) (length histories) + if_on (record_on name histories past r linear) (own_come r.entry.reply + one_if (is_some (admits r.entry.reply))) ≤ total (entered_by time name histories (r ∷ past)) (length histories)
     by None e =
         let ops = operations-of histories past linear.2.index linear.2.operation linear.2.is in
-        let grows = total-grows (entered_by time histories past) (entered_by time histories (r ∷ past)) (length histories) linear.2.index (own_come r.entry.reply) (slice_get_within histories linear.2.index ops.v ops.has) (λ i apart. each i) own in
-        rw e (omega (arith, grows))
+        let grows = total-grows (entered_by time name histories past) (entered_by time name histories (r ∷ past)) (length histories) linear.2.index (if_on (record_on name histories past r linear) (own_come r.entry.reply)) (slice_get_within histories linear.2.index ops.v ops.has) (λ i apart. each i) own in
+        let count : own_come r.entry.reply + one_if (is_some (admits r.entry.reply)) ≡ own_come r.entry.reply = rw e (omega arith) in
+        let is : if_on (record_on name histories past r linear) (own_come r.entry.reply + one_if (is_some (admits r.entry.reply))) ≡ if_on (record_on name histories past r linear) (own_come r.entry.reply) = ap (if_on (record_on name histories past r linear)) count in
+        omega (arith, grows, is)
     by (Some w) e =
         let g = admitting-got r.entry.reply w e in
-        let x = admits-one time histories full past r linear begun whole ends through g.0 w g.1 g.2 in
-        let grows = total-grows (entered_by time histories past) (entered_by time histories (r ∷ past)) (length histories) x.index 1 x.within (λ i apart. each i) x.grows in
-        let none : own_come r.entry.reply ≡ 0 = ap own_come g.2 in
-        rw e (omega (arith, grows, none))
+        let x = admits-one time name histories full past r linear begun stays whole ends through g.0 w g.1 g.2 in
+        let grows = total-grows (entered_by time name histories past) (entered_by time name histories (r ∷ past)) (length histories) x.index (if_on (record_on name histories past r linear) 1) x.within (λ i apart. each i) x.grows in
+        let count : own_come r.entry.reply + one_if (is_some (admits r.entry.reply)) ≡ 1 = ap (λ (y : Reply). own_come y + one_if (is_some (admits y))) g.2 in
+        let is : if_on (record_on name histories past r linear) (own_come r.entry.reply + one_if (is_some (admits r.entry.reply))) ≡ if_on (record_on name histories past r linear) 1 = ap (if_on (record_on name histories past r linear)) count in
+        omega (arith, grows, is)

@@ -1,5 +1,5 @@
 -- Equivalent stages remain equivalent under each choice.
-use Rattle.std.proofs.Common.{◌≡◌, ℕ, zero, suc, ◌+◌, ◌-◌, ◌≤◌, ◌<◌, ◌==◌, Bool, true, false, not, ◌&&◌, inl, inr, List, [], ◌∷◌, length, Option, Some, None, is_some, slice_get, refl, ap, sym, ◌∙◌, subst, arith, if◌then◌else◌, Vec}
+use Rattle.std.proofs.Common.{◌≡◌, ℕ, zero, suc, ◌+◌, ◌-◌, ◌<◌, ◌==◌, Bool, true, false, not, ◌&&◌, inl, inr, List, [], ◌∷◌, length, Option, Some, None, is_some, slice_get, refl, ap, sym, ◌∙◌, subst, arith, if◌then◌else◌, Vec}
 use Rattle.std.specs.Option.{option_and_then, option_map}
 use Rattle.std.specs.declared.alloc.Global.{Global}
 use Rattle.std.proofs.lemmas.Bool.{and_parts, cases_lt}
@@ -11,7 +11,7 @@ use Rattle.mq_model.specs.Legality.{Legal, may_call, reply_to}
 use Rattle.mq_model.specs.declared.entries.Call.{Call}
 use Rattle.mq_model.specs.declared.entries.Call.TheVariants.{Collect, Withdraw}
 use Rattle.mq_model.specs.declared.entries.Deadline.{Deadline}
-use Rattle.mq_state.specs.Trails.{can_call, record_of_call, with_call}
+use Rattle.mq_state.specs.Trails.{can_call, record_of_call}
 use Rattle.histories.specs.OwnCalls.{ends_wait, made}
 use Rattle.mq_state.proofs.Trails.{legal-of}
 use Rattle.mq_equivalence.specs.Key.{key_of}
@@ -31,10 +31,8 @@ use Rattle.histories.specs.Stage.{Stage, first_stage, is_linearized, next_stage,
 use Rattle.histories.specs.StageLaws.{next-first}
 use Rattle.histories.specs.declared.operation.Operation.{Operation}
 use Rattle.histories.specs.declared.operation.Outcome.{Outcome}
-use Rattle.histories.specs.declared.operation.Outcome.TheVariants.{Pending, Refused}
 use Rattle.histories.proofs.Fitting.{fits-alike, shape-same}
 use Rattle.histories.proofs.Linearizing.{schedule-makes-linearization}
-use Rattle.histories.proofs.RealTime.{completed-grows}
 
 -- how far the processes are -----------------------------------------------------------------------------------------------
 

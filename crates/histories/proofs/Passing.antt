@@ -1,5 +1,5 @@
 -- A history in which a receive passed over a message has no linearization.
-use Rattle.std.proofs.Common.{◌≡◌, ℕ, ◌+◌, ◌-◌, ◌≤◌, ◌<◌, ◌==◌, zero, suc, Bool, true, false, not, ◌&&◌, ◌||◌, List, [], ◌∷◌, length, take, Option, Some, None, is_some, Vec, ◌⊎◌, inl, inr, refl, sym, ◌∙◌, ap, subst, arith, slice_get, nat_le, nat_lt, eqb-true, eq-eqb, ltb-true, leb-false, IfSome, if◌then◌else◌}
+use Rattle.std.proofs.Common.{◌≡◌, ℕ, ◌+◌, ◌-◌, ◌≤◌, ◌<◌, ◌==◌, zero, suc, Bool, true, false, not, ◌&&◌, ◌||◌, List, [], ◌∷◌, length, take, take-take, Option, Some, None, is_some, Vec, ◌⊎◌, inl, inr, refl, sym, ◌∙◌, ap, subst, arith, slice_get, nat_le, nat_lt, eqb-true, eq-eqb, ltb-true, leb-false, if◌then◌else◌}
 use Rattle.std.specs.Option.{option_map}
 use Rattle.std.specs.List.{list_all, list_any}
 use Rattle.std.specs.Prelude.{int_lt, pos}
@@ -8,11 +8,11 @@ use Rattle.std.proofs.lemmas.Bool.{and_parts, cases_lt}
 use Rattle.std.proofs.lemmas.Bool.Decides.{nat_tests}
 use Rattle.std.proofs.lemmas.Option.{slice_get_past, slice_get_within}
 use Rattle.mq_model.specs.Record.{Record, Past, record_at}
-use Rattle.mq_model.specs.Descriptors.{created, held}
+use Rattle.mq_model.specs.Descriptors.{called_queue, created, descriptor_of, held}
 use Rattle.mq_model.specs.ErrorOrder.{found_reply, is_write_only, timed_reply}
-use Rattle.mq_model.specs.Legality.{IsLegalNext, Legal, reply_to, reply_to_receive}
-use Rattle.mq_model.specs.Messages.{best, goes_first, is_in, is_receive, present, priority, priority_given, taken}
-use Rattle.mq_model.specs.Names.{attributes}
+use Rattle.mq_model.specs.Legality.{IsLegalNext, reply_to, reply_to_receive}
+use Rattle.mq_model.specs.Messages.{best, goes_first, is_accepted, is_in, is_receive, present, priority, priority_given, taken}
+use Rattle.mq_model.specs.Names.{attributes, name_of}
 use Rattle.mq_model.specs.Waits.{open_wait}
 use Rattle.mq_model.specs.declared.entries.Call.{Call}
 use Rattle.mq_model.specs.declared.entries.Call.TheVariants.{MqReceive, MqTimedReceive}
@@ -24,13 +24,11 @@ use Rattle.mq_model.specs.declared.faults.Fault.{Fault}
 use Rattle.mq_model.specs.declared.faults.Fault.TheVariants.{Again, BadDescriptor, MessageSize, TimedOut}
 use Rattle.mq_model.proofs.Best.{best-none, find-test}
 use Rattle.mq_model.proofs.Cases.{Says, either}
-use Rattle.mq_model.proofs.HeldQueues.{created-held}
 use Rattle.mq_model.proofs.Places.{find-in, split}
-use Rattle.mq_model.proofs.PresentFew.{present-created}
 use Rattle.mq_model.proofs.LegalReplies.{got_says, legal_says}
 use Rattle.mq_model.proofs.Prefixes.{record_at-below}
 use Rattle.mq_model.proofs.Presence.{present-admitted}
-use Rattle.mq_laws.proofs.SentMessages.{admitted-sent}
+use Rattle.mq_laws.proofs.SentMessages.{accepted-sent, admitted-sent}
 use Rattle.histories.proofs.Giving.{is_sending}
 use Rattle.std.specs.Str.{bytes_eq}
 use Rattle.std.proofs.lemmas.Slice.Eq.{bytes_eq-Decides}
@@ -44,18 +42,21 @@ use Rattle.histories.specs.Linearizations.{ComesFrom, IsCallOf, IsLinearization}
 use Rattle.histories.specs.Outcomes.{fits, has_bytes, has_priority, is_message}
 use Rattle.histories.specs.RealTime.{operation_at}
 use Rattle.histories.specs.Excess.{HasNoOrder, has_got, returned_by, sends_by}
-use Rattle.histories.specs.Passed.{IsPassed, got_other, has_any, has_returned, has_sent, may_receive, passes, passes_over, says_empty}
+use Rattle.histories.specs.Named.{calls_on, has_returned_on, is_marked, marks_of, no_marks}
+use Rattle.histories.specs.Passed.{IsPassed, got_other, is_part, passes, says_empty, sends_other_of}
+use Rattle.histories.specs.declared.passed.Part.TheVariants.{Sent, PassedOver, SentBefore, Received}
 use Rattle.histories.specs.declared.passed.Passed.{Passed}
-use Rattle.histories.proofs.Accepting.{HasAccepted, IsOf, accepted-later, completed-accepted, ending-reply, of-later}
+use Rattle.histories.proofs.Accepting.{IsOf, accepted-later, completed-accepted, ending-reply, of-later}
 use Rattle.histories.proofs.Completing.{sending-operation}
 use Rattle.histories.proofs.Cutting.{AreBegun, Ends, cut, ends-older, ends-trans, is_through_by, none-left, through-each}
-use Rattle.histories.proofs.OneQueue.{none-has, one-queue}
+use Rattle.histories.proofs.Marking.{any-on, marks_at, none-has-on}
+use Rattle.histories.proofs.Naming.{call-placed, created-placed, name-later, one-of-name, placed-marked}
 use Rattle.histories.proofs.Refuting.{count_returned, returned-completed}
-use Rattle.histories.proofs.Taking.{taker}
-use Rattle.histories.proofs.Tracing.{legal-linear, made-record, own-call, record-with}
+use Rattle.histories.proofs.Taking.{sent-called, taker}
+use Rattle.histories.proofs.Tracing.{IsCallAt, made-record, own-call, record-with}
 
--- an operation that a test finds among those that had returned by a time
-pub record HasFound (time : ℕ) (test : Operation → Bool) (histories : Histories) : Type 0 where
+-- an operation on the queue that a test finds among those that had returned by a time
+pub record HasFound (time : ℕ) (name : List ℕ) (test : Operation → Bool) (histories : Histories) : Type 0 where
   pub index : ℕ
   pub v : Vec Operation Global
   pub has : slice_get histories index ≡ Some v
@@ -63,6 +64,7 @@ pub record HasFound (time : ℕ) (test : Operation → Bool) (histories : Histor
   pub below : k < count_returned time v.items
   pub operation : Operation
   pub is : slice_get v.items k ≡ Some operation
+  pub on : is_marked (marks_at name histories index k) (descriptor_of operation.call) ≡ true
   pub passes : test operation ≡ true
 
 any-at : {A : Type 0} (test : A → Bool) (xs : List A) → list_any test xs ≡ true → (k : ℕ) × (x : A) × (slice_get xs k ≡ Some x) × (test x ≡ true)
@@ -77,19 +79,32 @@ take-at (suc n) [] k x is = absurd (let bad : None ≡ Some x = is in cc)
 take-at (suc n) (y ∷ ys) zero x is = (omega arith, is)
 take-at (suc n) (y ∷ ys) (suc k) x is = let rest = take-at n ys k x is in let lt = rest.0 in (omega (arith, lt), rest.1)
 
-pub found : (time : ℕ) (test : Operation → Bool) (histories : Histories) → has_returned time test histories ≡ true → HasFound time test histories
-found time test histories e =
-    let a = any-at (λ (v : Vec Operation Global). list_any test (returned_by time v.items)) histories e in
-    let b = any-at test (returned_by time a.1.items) a.3 in
-    let c = take-at (count_returned time a.1.items) a.1.items b.0 b.1 b.2 in
-    record { index = a.0; v = a.1; has = a.2; k = b.0; below = c.0; operation = b.1; is = c.1; passes = b.3 }
+pub found : (time : ℕ) (name : List ℕ) (test : Operation → Bool) (histories : Histories) → has_returned_on time name test histories ≡ true → HasFound time name test histories
+found time name test histories e =
+    let a = any-at (λ (v : Vec Operation Global). list_any test (calls_on name (returned_by time v.items))) histories e in
+    let xs = a.1.items in
+    let b = any-on test name no_marks (returned_by time xs) a.3 in
+    let c = take-at (count_returned time xs) xs b.k b.operation b.is in
+    let lt = c.0 in
+    let marks : marks_of name no_marks (take b.k (returned_by time xs)) ≡ marks_of name no_marks (take b.k xs) = ap (marks_of name no_marks) (take-take b.k (count_returned time xs) xs (omega (arith, lt))) in
+    record {
+      index = a.0;
+      v = a.1;
+      has = a.2;
+      k = b.k;
+      below = c.0;
+      operation = b.operation;
+      is = c.1;
+      on = rw a.2 (ap (λ (m : List Bool). is_marked m (descriptor_of b.operation.call)) (sym marks) ∙ b.on);
+      passes = b.passes;
+    }
 
-pub found-at : (time : ℕ) (test : Operation → Bool) (histories : Histories) (x : HasFound time test histories) → operation_at histories x.index x.k ≡ Some x.operation
-found-at time test histories x = rw x.has x.is
+pub found-at : (time : ℕ) (name : List ℕ) (test : Operation → Bool) (histories : Histories) (x : HasFound time name test histories) → operation_at histories x.index x.k ≡ Some x.operation
+found-at time name test histories x = rw x.has x.is
 
 -- what had returned by a time at which no operation is left is completed
-pub found-completed : (time : ℕ) (test : Operation → Bool) (histories : Histories) (past : Past) (x : HasFound time test histories) → is_through_by time (current_of histories past x.index) ≡ true → x.k < completed past (x.index + 1)
-found-completed time test histories past x through =
+pub found-completed : (time : ℕ) (name : List ℕ) (test : Operation → Bool) (histories : Histories) (past : Past) (x : HasFound time name test histories) → is_through_by time (current_of histories past x.index) ≡ true → x.k < completed past (x.index + 1)
+found-completed time name test histories past x through =
     let here : is_through_by time (slice_get x.v.items (completed past (x.index + 1))) ≡ true = rw x.has at through in
     let le = returned-completed time x.v.items (completed past (x.index + 1)) here in
     let lt = x.below in
@@ -197,29 +212,23 @@ finds-passes-not past prio reply.Done x finds fit pass = finds
 
 -- the theorem ------------------------------------------------------------------------------------------------------------
 
--- a receive before which the message is in the only queue
-finds-now : (past : Past) (r : Record) (o : Operation) → Legal past → IsLegalNext past r → IsCallOf r o → (q m prio : ℕ) → is_in (present past q) m ≡ true → priority past m ≡ prio →
-    ((k : ℕ) → is_in (created past) k ≡ true → k ≡ q) → is_receive o.call ≡ true → Finds past prio r.entry.reply
-finds-now past r o legal next call q m prio there same only receive = by r.entry.call refl (ap is_receive call.call ∙ receive)
+-- a receive from the queue in which the message is
+finds-now : (past : Past) (r : Record) (o : Operation) → IsLegalNext past r → IsCallOf r o → (q m prio : ℕ) → is_in (present past q) m ≡ true → priority past m ≡ prio →
+    ((k : ℕ) → called_queue past r.entry.process r.entry.call ≡ Some k → k ≡ q) → is_receive o.call ≡ true → Finds past prio r.entry.reply
+finds-now past r o next call q m prio there same only receive = by r.entry.call refl (ap is_receive call.call ∙ receive)
   where
-    on : (d : ℕ) (h : Description) → held past r.entry.process d ≡ Some h → h.queue ≡ q
-    on d h is = only h.queue (created-held past legal r.entry.process d h is)
-
     by : (call : Call) → r.entry.call ≡ call → is_receive call ≡ true → Finds past prio r.entry.reply
     by (MqReceive d room) c e =
-        let finds = receive-finds past q m prio (held past r.entry.process d) room there same (on d) in
+        let on : (h : Description) → held past r.entry.process d ≡ Some h → h.queue ≡ q = λ h is. only h.queue (ap (called_queue past r.entry.process) c ∙ ap (option_map (λ (x : Description). x.queue)) is) in
+        let finds = receive-finds past q m prio (held past r.entry.process d) room there same on in
         let is : reply_to past r.entry.process (MqReceive d room) r.payload ≡ r.entry.reply = ap (λ (x : Call). reply_to past r.entry.process x r.payload) (sym c) ∙ sym next.reply in
         subst (λ (y : Reply). Finds past prio y) is finds
     by (MqTimedReceive d room until now) c e =
-        let finds = timed-finds past prio until now _ (receive-finds past q m prio (held past r.entry.process d) room there same (on d)) in
+        let on : (h : Description) → held past r.entry.process d ≡ Some h → h.queue ≡ q = λ h is. only h.queue (ap (called_queue past r.entry.process) c ∙ ap (option_map (λ (x : Description). x.queue)) is) in
+        let finds = timed-finds past prio until now _ (receive-finds past q m prio (held past r.entry.process d) room there same on) in
         let is : reply_to past r.entry.process (MqTimedReceive d room until now) r.payload ≡ r.entry.reply = ap (λ (x : Call). reply_to past r.entry.process x r.payload) (sym c) ∙ sym next.reply in
         subst (λ (y : Reply). Finds past prio y) is finds
     by _ c e = absurd (let bad : false ≡ true = e in cc)
-
-receive-contradicts : (past : Past) (r : Record) (o : Operation) → Legal past → IsLegalNext past r → IsCallOf r o → (q m prio : ℕ) → is_in (present past q) m ≡ true → priority past m ≡ prio →
-    ((k : ℕ) → is_in (created past) k ≡ true → k ≡ q) → fits past r.entry.reply o.outcome ≡ true → is_receive o.call ≡ true → passes prio o.outcome ≡ true → ⊥
-receive-contradicts past r o legal next call q m prio there same only fit receive pass =
-    finds-passes-not past prio r.entry.reply o.outcome (finds-now past r o legal next call q m prio there same only receive) fit pass
 
 pub completed-made : (past : Past) (p : ℕ) → completed past p ≤ made past p
 completed-made past p = by (is_some (open_wait past p))
@@ -228,7 +237,21 @@ completed-made past p = by (is_some (open_wait past p))
     by true = omega arith
     by false = omega arith
 
--- a receive of the history, with what was made before it
+-- the message was accepted by the queue of the name
+record IsSent (e : Passed) (past : Past) : Type 0 where
+  pub m : ℕ
+  pub q : ℕ
+  pub accepted : is_accepted past q m ≡ true
+  pub of : IsOf past m e.prio e.message.items
+  pub made : is_in (created past) q ≡ true
+  pub named : name_of past q ≡ e.name.items
+
+abbrev sent-later : (e : Passed) (before past : Past) → Ends before past → IsSent e before → IsSent e past
+sent-later e before past ends x =
+    let later = name-later before past x.q ends x.made in
+    record { m = x.m; q = x.q; accepted = accepted-later before past x.q x.m ends x.accepted; of = of-later before past x.m e.prio e.message.items ends x.of; made = later.0; named = later.1 ∙ x.named }
+
+-- a receive from the queue of the name, with what was made before it
 record IsReceive (e : Passed) (histories : Histories) (full past : Past) (r : Record) (o : Operation) : Type 0 where
   pub linear : IsLinearization histories (r ∷ past)
   pub begun : AreBegun e.to histories (r ∷ past) linear
@@ -238,46 +261,59 @@ record IsReceive (e : Passed) (histories : Histories) (full past : Past) (r : Re
   pub whole : IsLinearization histories full
   pub inside : Ends past full
   pub complete : is_complete histories full ≡ true
+  pub on : (k : ℕ) → called_queue past r.entry.process r.entry.call ≡ Some k → (is_in (created past) k ≡ true) × (name_of past k ≡ e.name.items)
+
+-- the queue of the receive is that of the message
+only-queue : (histories : Histories) (e : Passed) → IsPassed histories e → (full past : Past) (r : Record) (o : Operation) → IsReceive e histories full past r o → (x : IsSent e past) →
+    (k : ℕ) → called_queue past r.entry.process r.entry.call ≡ Some k → k ≡ x.q
+only-queue histories e is full past r o it x k called =
+    let on = it.on k called in
+    one-of-name e.to e.name.items histories past it.linear.0 it.begun.0 is.bound k x.q on.0 x.made on.1 x.named
 
 -- a message that was accepted before a receive is still in its queue
 record IsThere (past : Past) (prio m q : ℕ) : Type 0 where
   pub there : is_in (present past q) m ≡ true
   pub same : priority past m ≡ prio
 
-still-there : (histories : Histories) (e : Passed) → IsPassed histories e → (full past : Past) (r : Record) (o : Operation) → IsReceive e histories full past r o → (acc : HasAccepted past e.prio e.message.items) → IsThere past e.prio acc.m acc.q
-still-there histories e is full past r o x acc = split (is_in (taken past) acc.m)
+still-there : (histories : Histories) (e : Passed) → IsPassed histories e → (full past : Past) (r : Record) (o : Operation) → IsReceive e histories full past r o → (x : IsSent e past) → IsThere past e.prio x.m x.q
+still-there histories e is full past r o it x = split (is_in (taken past) x.m)
     (λ t.
-    let y = taker e.to histories full past x.linear.0 x.begun.0 x.whole x.inside (through-all histories full x.complete) acc.m e.prio e.message.items acc.of t in
-    let no = none-has (may_receive e.to e.prio e.message.items) histories y.index y.k y.operation is.stays y.is in
+    let to = accepted-sent past x.q x.m x.accepted in
+    let y = taker e.to histories full past it.linear.0 it.begun.0 it.whole it.inside (through-all histories full it.complete) x.m x.q e.prio e.message.items x.of to t in
+    let marked = (placed-marked e.to e.name.items histories past y.index y.k y.place y.placed is.bound y.operation y.is x.q y.on).1 in
+    let on = marked ∙ (bytes_eq-Decides (name_of past x.q) e.name.items).1 x.named in
+    let no = none-has-on (is_part Received e) e.name.items histories y.index y.k y.operation is.stays y.is on in
     let bad : true ≡ false = sym y.may ∙ no in absurd (cc))
-    (λ f. record { there = present-or-taken past acc.q acc.m acc.accepted ∙ ap not f; same = rw acc.of.at acc.of.priority })
-
-only-queue : (histories : Histories) (e : Passed) → IsPassed histories e → (full past : Past) (r : Record) (o : Operation) → IsReceive e histories full past r o → (q m : ℕ) → is_in (present past q) m ≡ true → (k : ℕ) → is_in (created past) k ≡ true → k ≡ q
-only-queue histories e is full past r o x q m there k other =
-    one-queue e.to e.name.items histories past x.linear.0 x.begun.0 is.one_queue k q other (present-created past (legal-linear histories past x.linear.0) q m there)
+    (λ f. record { there = present-or-taken past x.q x.m x.accepted ∙ ap not f; same = rw x.of.at x.of.priority })
 
 -- the send of the message had returned before a record of what began later
-sent-before : (histories : Histories) (e : Passed) → IsPassed histories e → (past : Past) (linear : IsLinearization histories past) → AreBegun e.to histories past linear → (begin : ℕ) → e.from < begin → none_ended histories past begin (length histories) ≡ true → HasAccepted past e.prio e.message.items
+sent-before : (histories : Histories) (e : Passed) → IsPassed histories e → (past : Past) (linear : IsLinearization histories past) → AreBegun e.to histories past linear → (begin : ℕ) → e.from < begin → none_ended histories past begin (length histories) ≡ true → IsSent e past
 sent-before histories e is past linear begun begin later in_time =
-    let sender = found e.from (has_sent e.prio e.message.items) histories is.sent in
-    let within = slice_get_within histories sender.index sender.v sender.has in
-    let before = none-left histories past begin e.from (length histories) sender.index in_time later within in
-    let sent = found-completed e.from (has_sent e.prio e.message.items) histories past sender before in
-    completed-accepted e.to histories past linear begun sender.index sender.k sender.operation e.prio e.message.items (found-at e.from (has_sent e.prio e.message.items) histories sender) sender.passes sent
+    let test : Operation → Bool = is_part Sent e in
+    let x = found e.from e.name.items test histories is.sent in
+    let within = slice_get_within histories x.index x.v x.has in
+    let before = none-left histories past begin e.from (length histories) x.index in_time later within in
+    let sent = found-completed e.from e.name.items test histories past x before in
+    let at = found-at e.from e.name.items test histories x in
+    let acc = completed-accepted e.to histories past linear begun x.index x.k x.operation e.prio e.message.items at x.passes sent in
+    let to = accepted-sent past acc.q acc.m acc.accepted in
+    let y = acc.placed in
+    let called = sent-called past acc.q acc.m to y.before y.r y.ends y.at in
+    let marked = placed-marked e.to e.name.items histories past x.index x.k acc.m y is.bound x.operation at acc.q called in
+    record { m = acc.m; q = acc.q; accepted = acc.accepted; of = acc.of; made = marked.0; named = (bytes_eq-Decides (name_of past acc.q) e.name.items).0 (sym marked.1 ∙ x.on) }
 
 -- a receive that finds no message of this priority or a higher one
-lower-not : (histories : Histories) (e : Passed) → IsPassed histories e → (full past : Past) (r : Record) (o : Operation) → IsReceive e histories full past r o → HasAccepted past e.prio e.message.items → passes e.prio o.outcome ≡ true → ⊥
-lower-not histories e is full past r o x acc pass =
-    let there = still-there histories e is full past r o x acc in
-    receive-contradicts past r o (legal-linear histories past x.linear.0) x.linear.1 x.call acc.q acc.m e.prio there.there there.same
-    (only-queue histories e is full past r o x acc.q acc.m there.there) x.fits x.receive pass
+lower-not : (histories : Histories) (e : Passed) → IsPassed histories e → (full past : Past) (r : Record) (o : Operation) → IsReceive e histories full past r o → IsSent e past → passes e.prio o.outcome ≡ true → ⊥
+lower-not histories e is full past r o it x pass =
+    let there = still-there histories e is full past r o it x in
+    let finds = finds-now past r o it.linear.1 it.call x.q x.m e.prio there.there there.same (only-queue histories e is full past r o it x) it.receive in
+    finds-passes-not past e.prio r.entry.reply o.outcome finds it.fits pass
 
 -- a receive that gets a message of the priority that was sent later ------------------------------------------------------
 
--- the reply gives a message that goes before all others of its queue
-record GivesFirst (past : Past) (prio : ℕ) (bytes : List ℕ) : Type 0 where
+-- the reply gives a message that goes before all others of the queue
+record GivesFirst (past : Past) (q prio : ℕ) (bytes : List ℕ) : Type 0 where
   pub b : ℕ
-  pub q : ℕ
   pub there : is_in (present past q) b ≡ true
   pub all : list_all (goes_first past b) (present past q) ≡ true
   pub of : IsOf past b prio bytes
@@ -290,19 +326,26 @@ of-message past b prio bytes e = by (record_at past b) refl (and_parts _ _ e)
     by (Some r) is parts = record { r = r; at = is; priority = eqb-true _ _ parts.0; bytes = (bytes_eq-Decides r.payload bytes).0 parts.1 }
 
 -- a receive that finds a message waits for none, so what it got is in its queue
-gives-first : (past : Past) (r : Record) (o : Operation) → Legal past → IsLegalNext past r → IsCallOf r o → (q m prio : ℕ) (bytes : List ℕ) → is_in (present past q) m ≡ true → priority past m ≡ prio → ((k : ℕ) → is_in (created past) k ≡ true → k ≡ q) →
-    fits past r.entry.reply o.outcome ≡ true → is_receive o.call ≡ true → has_got prio bytes o.outcome ≡ true → GivesFirst past prio bytes
-gives-first past r o legal next call q m prio bytes there same only fit receive got =
-    by r.entry.reply refl (finds-now past r o legal next call q m prio there same only receive) o.outcome fit got
+gives-first : (past : Past) (r : Record) (o : Operation) → IsLegalNext past r → IsCallOf r o → (q m prio : ℕ) (bytes : List ℕ) → is_in (present past q) m ≡ true → priority past m ≡ prio →
+    ((k : ℕ) → called_queue past r.entry.process r.entry.call ≡ Some k → k ≡ q) →
+    fits past r.entry.reply o.outcome ≡ true → is_receive o.call ≡ true → has_got prio bytes o.outcome ≡ true → GivesFirst past q prio bytes
+gives-first past r o next call q m prio bytes there same only fit receive got =
+    by r.entry.reply refl (finds-now past r o next call q m prio there same only receive) o.outcome fit got
   where
-    first_of : (b : ℕ) (a n : Option ℕ) → r.entry.reply ≡ reply.Got b a n → is_message past b prio bytes ≡ true → GivesFirst past prio bytes
+    first_of : (b : ℕ) (a n : Option ℕ) → r.entry.reply ≡ reply.Got b a n → is_message past b prio bytes ≡ true → GivesFirst past q prio bytes
     first_of b a n is e =
         let says : Says past r.entry.process r.entry.call (reply.Got b a n) = subst (λ (y : Reply). Says past r.entry.process r.entry.call y) is (legal_says past r next) in
         let x = got_says past r.entry.process r.entry.call b a n says in
         let y = find-in (λ (k : ℕ). list_all (goes_first past k) (present past x.2.queue)) (present past x.2.queue) b x.6 in
-        record { b = b; q = x.2.queue; there = y.0; all = y.1; of = of-message past b prio bytes e }
+        let queue : x.2.queue ≡ q = only x.2.queue (rw (x.3.1, x.4) refl) in
+        record {
+          b = b;
+          there = subst (λ (k : ℕ). is_in (present past k) b ≡ true) queue y.0;
+          all = subst (λ (k : ℕ). list_all (goes_first past b) (present past k) ≡ true) queue y.1;
+          of = of-message past b prio bytes e;
+        }
 
-    by : (y : Reply) → r.entry.reply ≡ y → Finds past prio y → (x : Outcome) → fits past r.entry.reply x ≡ true → has_got prio bytes x ≡ true → GivesFirst past prio bytes
+    by : (y : Reply) → r.entry.reply ≡ y → Finds past prio y → (x : Outcome) → fits past r.entry.reply x ≡ true → has_got prio bytes x ≡ true → GivesFirst past q prio bytes
     by (reply.Got b a n) is finds (Got p other) fit got =
         let parts = and_parts (p == prio) (bytes_eq other.items bytes) got in
         let here : is_message past b p other.items ≡ true = rw is at fit in
@@ -322,17 +365,17 @@ gives-first past r o legal next call q m prio bytes there same only fit receive 
     by y is finds _ fit got = absurd (let bad : false ≡ true = got in cc)
 
 -- the send of a message that nobody had begun to send by this time came after those that had returned
-later-not : (histories : Histories) (e : Passed) → IsPassed histories e → (full past : Past) (r : Record) (o : Operation) → IsReceive e histories full past r o → HasAccepted past e.prio e.message.items →
-    (bytes : List ℕ) → has_any (sends_by e.from e.prio bytes) histories ≡ false → has_got e.prio bytes o.outcome ≡ true → ⊥
-later-not histories e is full past r o x acc bytes later got =
-    let legal = legal-linear histories past x.linear.0 in
-    let there = still-there histories e is full past r o x acc in
-    let only = only-queue histories e is full past r o x acc.q acc.m there.there in
-    let y = gives-first past r o legal x.linear.1 x.call acc.q acc.m e.prio bytes there.there there.same only x.fits x.receive got in
-    let sent = admitted-sent past y.q y.b (present-admitted past y.q y.b y.there) in
+later-not : (histories : Histories) (e : Passed) → IsPassed histories e → (full past : Past) (r : Record) (o : Operation) → IsReceive e histories full past r o → IsSent e past →
+    (v : Vec ℕ Global) → e.other ≡ Some v → has_got e.prio v.items o.outcome ≡ true → ⊥
+later-not histories e is full past r o it x v other got =
+    let bytes : List ℕ = v.items in
+    let there = still-there histories e is full past r o it x in
+    let only = only-queue histories e is full past r o it x in
+    let y = gives-first past r o it.linear.1 it.call x.q x.m e.prio bytes there.there there.same only it.fits it.receive got in
+    let sent = admitted-sent past x.q y.b (present-admitted past x.q y.b y.there) in
     let both : Some y.of.r ≡ Some sent.r = sym y.of.at ∙ sent.at in
     let same : y.of.r ≡ sent.r = cc in
-    let z = record-with e.to histories past x.linear.0 x.begun.0 y.b sent.r sent.at in
+    let z = record-with e.to histories past it.linear.0 it.begun.0 y.b sent.r sent.at in
     let from : ComesFrom histories z.before sent.r = z.linear.2 in
     let says = legal_says z.before sent.r z.linear.1 in
     let own = ending-reply z.before sent.r.entry.process sent.r.entry.call sent.r.entry.reply says sent.reply in
@@ -341,22 +384,27 @@ later-not histories e is full past r o x acc bytes later got =
     let payload : sent.r.payload ≡ bytes = ap (λ (s : Record). s.payload) (sym same) ∙ y.of.bytes in
     let sending : is_sending e.prio bytes sent.r ≡ true = rw (sent.send, sent.reply, eq-eqb _ _ prio, (bytes_eq-Decides sent.r.payload bytes).1 payload) refl in
     let sends_it = sending-operation z.before sent.r from.operation e.prio bytes call from.fits sending in
-    let none = none-has (sends_by e.from e.prio bytes) histories from.index (completed z.before (from.index + 1)) from.operation later from.is in
+    let placed : IsCallAt e.to histories past from.index (completed z.before (from.index + 1)) y.b = record { before = z.before; r = sent.r; linear = z.linear; begun = z.begun; ends = z.ends; at = z.place; of = refl; number = refl; own = own } in
+    let called = sent-called past x.q y.b sent z.before sent.r z.ends z.place in
+    let marked = (placed-marked e.to e.name.items histories past from.index (completed z.before (from.index + 1)) y.b placed is.bound from.operation from.is x.q called).1 in
+    let on = marked ∙ (bytes_eq-Decides (name_of past x.q) e.name.items).1 x.named in
+    let test : is_part SentBefore e from.operation ≡ false = none-has-on (is_part SentBefore e) e.name.items histories from.index (completed z.before (from.index + 1)) from.operation is.later from.is on in
+    let none : sends_by e.from e.prio bytes from.operation ≡ false = subst (λ (b : Option (Vec ℕ Global)). sends_other_of e.from e.prio b from.operation ≡ false) other test in
     let late : nat_le from.operation.begin e.from ≡ false = split (nat_le from.operation.begin e.from)
     (λ t. let bad : true ≡ false = rw (t, sends_it) at none in absurd (cc))
     (λ f. f) in
     let after = leb-false from.operation.begin e.from late in
     let first = sent-before histories e is z.before z.linear.0 z.begun.0 from.operation.begin after from.in_time in
     let old : Ends z.before past = ends-older sent.r z.before past z.ends in
-    let acc_old : HasAccepted past e.prio e.message.items = record { m = first.m; q = first.q; accepted = accepted-later z.before past first.q first.m old first.accepted; of = of-later z.before past first.m e.prio e.message.items old first.of } in
-    let still = still-there histories e is full past r o x acc_old in
-    let queue : y.q ≡ first.q = only-queue histories e is full past r o x first.q first.m still.there y.q (present-created past legal y.q y.b y.there) in
-    let here : is_in (present past y.q) first.m ≡ true = subst (λ (k : ℕ). is_in (present past k) first.m ≡ true) (sym queue) still.there in
-    let goes = all-at (goes_first past y.b) (present past y.q) first.m y.all here in
+    let was = sent-later e z.before past old first in
+    let still = still-there histories e is full past r o it was in
+    let queue : was.q ≡ x.q = one-of-name e.to e.name.items histories past it.linear.0 it.begun.0 is.bound was.q x.q was.made x.made was.named x.named in
+    let here : is_in (present past x.q) was.m ≡ true = subst (λ (k : ℕ). is_in (present past k) was.m ≡ true) queue still.there in
+    let goes = all-at (goes_first past y.b) (present past x.q) was.m y.all here in
     let mine : priority past y.b ≡ e.prio = rw y.of.at y.of.priority in
     let below = record_at-below z.before first.m first.of.r first.of.at in
     let place = z.place in
-    goes-not past y.b first.m (mine ∙ sym still.same) (omega (arith, below, place)) goes
+    goes-not past y.b was.m (mine ∙ sym still.same) (omega (arith, below, place)) goes
   where
     goes-not : (past : Past) (b m : ℕ) → priority past b ≡ priority past m → m < b → goes_first past b m ≡ true → ⊥
     goes-not past b m same lt e = by (priority past b) (priority past m) same lt e
@@ -369,32 +417,39 @@ pub passed-refutes : (histories : Histories) (e : Passed) → IsPassed histories
 passed-refutes histories e is past linear = split (is_complete histories past)
     (λ complete.
     let c = cut e.to histories past linear complete in
-    let receiver = found e.to (passes_over e.from e.prio e.other) histories is.passed in
-    let within = slice_get_within histories receiver.index receiver.v receiver.has in
-    let received = found-completed e.to (passes_over e.from e.prio e.other) histories c.part receiver (c.through receiver.index within) in
-    let few = completed-made c.part (receiver.index + 1) in
-    let x = made-record e.to histories c.part c.linear c.begun receiver.index receiver.k receiver.operation (found-at e.to (passes_over e.from e.prio e.other) histories receiver) (omega (arith, received, few)) in
-    let one = and_parts (is_receive receiver.operation.call && nat_lt e.from receiver.operation.begin) (passes e.prio receiver.operation.outcome || got_other e.prio e.other receiver.operation.outcome) receiver.passes in
-    let two = and_parts (is_receive receiver.operation.call) (nat_lt e.from receiver.operation.begin) one.0 in
-    let acc = sent-before histories e is x.past x.linear.0 x.begun.0 receiver.operation.begin (ltb-true e.from receiver.operation.begin two.1) x.in_time in
-    let it : IsReceive e histories past x.past x.r receiver.operation = record {
-      linear = x.linear;
-      begun = x.begun;
+    let test : Operation → Bool = is_part PassedOver e in
+    let it = found e.to e.name.items test histories is.passed in
+    let o = it.operation in
+    let within = slice_get_within histories it.index it.v it.has in
+    let received = found-completed e.to e.name.items test histories c.part it (c.through it.index within) in
+    let few = completed-made c.part (it.index + 1) in
+    let at = found-at e.to e.name.items test histories it in
+    let x = made-record e.to histories c.part c.linear c.begun it.index it.k o at (omega (arith, received, few)) in
+    let one = and_parts (is_receive o.call && nat_lt e.from o.begin) (passes e.prio o.outcome || got_other e.prio e.other o.outcome) it.passes in
+    let two = and_parts (is_receive o.call) (nat_lt e.from o.begin) one.0 in
+    let p = x.placed in
+    let sent = sent-before histories e is p.before p.linear.0 p.begun.0 o.begin (ltb-true e.from o.begin two.1) x.in_time in
+    let received_it : IsReceive e histories past p.before p.r o = record {
+      linear = p.linear;
+      begun = p.begun;
       call = x.call;
       fits = x.fits;
       receive = two.0;
       whole = linear;
-      inside = ends-older x.r x.past past (ends-trans (x.r ∷ x.past) c.part past x.ends c.ends);
+      inside = ends-older p.r p.before past (ends-trans (p.r ∷ p.before) c.part past p.ends c.ends);
       complete = complete;
+      on = λ k called.
+          let made = created-placed e.to histories c.part it.index it.k x.place p k called in
+          let marked = call-placed e.to e.name.items histories c.part it.index it.k x.place p is.bound o at k called in
+          (made, (bytes_eq-Decides (name_of p.before k) e.name.items).0 (sym marked ∙ it.on));
     } in
-    split (passes e.prio receiver.operation.outcome)
-    (λ pass. absurd (lower-not histories e is past x.past x.r receiver.operation it acc pass))
+    split (passes e.prio o.outcome)
+    (λ pass. absurd (lower-not histories e is past p.before p.r o received_it sent pass))
     (λ no.
-    let other : got_other e.prio e.other receiver.operation.outcome ≡ true = rw no at one.1 in
-    absurd (by-other receiver.operation.outcome e.other refl is.later other (later-not histories e is past x.past x.r receiver.operation it acc))))
+    let other : got_other e.prio e.other o.outcome ≡ true = rw no at one.1 in
+    absurd (by-other o.outcome e.other refl other (later-not histories e is past p.before p.r o received_it sent))))
     (λ f. f)
   where
-    by-other : (x : Outcome) (other : Option (Vec ℕ Global)) → e.other ≡ other → IfSome e.other (λ (v : Vec ℕ Global). has_any (sends_by e.from e.prio v.items) histories ≡ false) → got_other e.prio e.other x ≡ true →
-        ((bytes : List ℕ) → has_any (sends_by e.from e.prio bytes) histories ≡ false → has_got e.prio bytes x ≡ true → ⊥) → ⊥
-    by-other x None same later got refutes = let bad : false ≡ true = rw same at got in cc
-    by-other x (Some v) same later got refutes = refutes v.items (rw same at later) (rw same at got)
+    by-other : (x : Outcome) (other : Option (Vec ℕ Global)) → e.other ≡ other → got_other e.prio e.other x ≡ true → ((v : Vec ℕ Global) → e.other ≡ Some v → has_got e.prio v.items x ≡ true → ⊥) → ⊥
+    by-other x None same got refutes = let bad : false ≡ true = rw same at got in cc
+    by-other x (Some v) same got refutes = refutes v same (rw same at got)

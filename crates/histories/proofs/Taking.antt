@@ -1,12 +1,12 @@
 -- Which operation takes a message from its queue.
-use Rattle.std.proofs.Common.{◌≡◌, ℕ, ◌+◌, ◌≤◌, ◌==◌, Bool, true, false, not, ◌&&◌, List, [], ◌∷◌, length, Option, Some, is_none, ◌⊎◌, inl, inr, refl, sym, ◌∙◌, ap, subst, arith, eqb-true, eq-eqb}
+use Rattle.std.proofs.Common.{◌≡◌, ℕ, ◌+◌, ◌≤◌, ◌<◌, ◌==◌, Bool, true, false, not, ◌&&◌, List, [], ◌∷◌, length, Option, Some, is_none, ◌⊎◌, inl, inr, refl, sym, ◌∙◌, ap, subst, arith, eqb-true, eq-eqb}
 use Rattle.std.specs.Option.{option_map, unwrap_or}
 use Rattle.std.specs.Str.{bytes_eq}
 use Rattle.std.proofs.lemmas.Bool.{and_parts, le-leb}
 use Rattle.std.proofs.lemmas.Slice.Eq.{bytes_eq-Decides}
-use Rattle.mq_model.specs.Record.{Record, Past, record_at}
-use Rattle.mq_model.specs.Descriptors.{is_on}
-use Rattle.mq_model.specs.Messages.{blocked_receives, blocks_receive, is_in, is_receive, priority_given, taken, taken_by, waiting_receives, with_place}
+use Rattle.mq_model.specs.Record.{Record, Past, first, record_at}
+use Rattle.mq_model.specs.Descriptors.{called_queue, is_on}
+use Rattle.mq_model.specs.Messages.{blocked_receives, blocks_receive, is_in, is_receive, least, present, priority_given, taken, taken_by, waiting_receives, with_place}
 use Rattle.mq_model.specs.Waits.{answered_by, named_wait, open_wait}
 use Rattle.mq_model.specs.Legality.{Legal, may_call}
 use Rattle.mq_model.specs.declared.entries.Call.{Call}
@@ -18,15 +18,17 @@ use Rattle.mq_model.proofs.Cases.{Says}
 use Rattle.mq_model.proofs.Frames.{record_at-older}
 use Rattle.mq_model.proofs.LegalReplies.{got_says, legal_says}
 use Rattle.mq_model.proofs.NamedWaits.{blocked-cases, least-in, newest-receive}
-use Rattle.mq_model.proofs.Places.{is_in-filter, split}
-use Rattle.mq_model.proofs.Prefixes.{record_at-below}
-use Rattle.mq_model.proofs.Presence.{present-below}
+use Rattle.mq_model.proofs.Places.{find-in, is_in-filter, split}
+use Rattle.mq_model.proofs.Prefixes.{first-all, record_at-below}
+use Rattle.mq_model.proofs.Presence.{place-is, present-admitted, present-below}
 use Rattle.mq_model.proofs.Steps.{taken-below}
-use Rattle.mq_model.proofs.Waiters.{hands-least, waiter}
-use Rattle.mq_laws.specs.Laws.{cause, message_given, withdrawn_wait, Has}
+use Rattle.mq_model.proofs.Waiters.{waiter}
+use Rattle.mq_laws.specs.Laws.{cause, withdrawn_wait, Has}
 use Rattle.mq_laws.proofs.EndedWaits.{has-older, named-once, withdrawn-unnamed}
-use Rattle.mq_laws.proofs.GivenOnce.{answered-named, collected, given-present}
-use Rattle.mq_laws.proofs.LegalPlaces.{has-here}
+use Rattle.mq_laws.proofs.GivenOnce.{answered-named, collected}
+use Rattle.mq_laws.proofs.GoneQueues.{same-queue}
+use Rattle.mq_laws.proofs.LegalPlaces.{first-older, has-here}
+use Rattle.mq_laws.proofs.SentMessages.{IsSentTo, admitted-sent}
 use Rattle.histories.specs.OwnCalls.{ends_wait}
 use Rattle.histories.specs.declared.operation.Operation.{Operation}
 use Rattle.histories.specs.declared.operation.Outcome.{Outcome}
@@ -39,16 +41,89 @@ use Rattle.histories.specs.Excess.{has_got}
 use Rattle.histories.specs.Passed.{may_receive}
 use Rattle.histories.proofs.Accepting.{IsOf, ending-reply, of-older, or-right}
 use Rattle.histories.proofs.Completing.{free}
-use Rattle.histories.proofs.Cutting.{AreBegun, Ends, ends-older}
-use Rattle.histories.proofs.Tracing.{current-other, legal-linear, own-call, waits-for}
+use Rattle.histories.proofs.Cutting.{AreBegun, Ends, ends-length, ends-older}
+use Rattle.histories.proofs.Tracing.{IsCallAt, call-older, current-other, legal-linear, own-call, waits-for}
 
--- an operation that began by this time may have received the message
-pub record HasTaker (time : ℕ) (histories : Histories) (prio : ℕ) (message : List ℕ) : Type 0 where
+-- an operation that began by this time, and was made on this queue, may have received the message
+pub record HasTaker (time : ℕ) (histories : Histories) (past : Past) (q prio : ℕ) (message : List ℕ) : Type 0 where
   pub index : ℕ
   pub k : ℕ
   pub operation : Operation
   pub is : operation_at histories index k ≡ Some operation
   pub may : may_receive time prio message operation ≡ true
+  pub place : ℕ
+  pub placed : IsCallAt time histories past index k place
+  pub on : called_queue placed.before placed.r.entry.process placed.r.entry.call ≡ Some q
+
+taker-older : (time : ℕ) (histories : Histories) (past : Past) (r : Record) (q prio : ℕ) (message : List ℕ) → HasTaker time histories past q prio message → HasTaker time histories (r ∷ past) q prio message
+taker-older time histories past r q prio message x = record { index = x.index; k = x.k; operation = x.operation; is = x.is; may = x.may; place = x.place; placed = call-older time histories past r x.index x.k x.place x.placed; on = x.on }
+
+-- an older message was sent to its queue before the latest record
+sent-older_part : (past : Past) (r : Record) (q m : ℕ) → m < length past → IsSentTo (r ∷ past) q m → IsSentTo past q m
+sent-older_part past r q m lt x = record {
+  r = x.r;
+  at = sym (record_at-older past r m lt) ∙ x.at;
+  on = ap (λ (b : Past). called_queue b x.r.entry.process x.r.entry.call) (sym (first-older past r m (omega (arith, lt)))) ∙ x.on;
+  send = x.send;
+  reply = x.reply;
+}
+
+-- the queue to which the latest record sent its message
+sent-here : (past : Past) (r : Record) (q : ℕ) → IsSentTo (r ∷ past) q (length past) → called_queue past r.entry.process r.entry.call ≡ Some q
+sent-here past r q x =
+    let same : Some r ≡ Some x.r = rw (eq-eqb (length past) (length past) refl) at x.at in
+    let is : r ≡ x.r = cc in
+    let before : first (length past) (r ∷ past) ≡ past = first-older past r (length past) (omega arith) ∙ first-all past (length past) refl in
+    ap (λ (b : Past). called_queue b r.entry.process r.entry.call) (sym before)
+    ∙ ap (λ (s : Record). called_queue (first (length past) (r ∷ past)) s.entry.process s.entry.call) is ∙ x.on
+
+-- the queue of a waiting receive is that of its call
+pub blocked-called : (past : Past) (q w : ℕ) → is_in (blocked_receives past q) w ≡ true → (before : Past) (r : Record) → Ends (r ∷ before) past → length before ≡ w → called_queue before r.entry.process r.entry.call ≡ Some q
+blocked-called [] q w there before r ends at = absurd (let bad : false ≡ true = there in cc)
+blocked-called (s ∷ past) q w there before r ends at = elim ends [
+  | inl same ↦
+      let tails : before ≡ past = cc in
+      let heads : r ≡ s = cc in
+      let place : w ≡ length past = sym at ∙ ap length tails in
+      let here = newest-receive past s q (subst (λ k. is_in (blocked_receives (s ∷ past) q) k ≡ true) place there) in
+      let on = place-is (called_queue past s.entry.process s.entry.call) q (and_parts (blocks_receive s.entry.call s.entry.reply) (is_on past s.entry q) here).1 in
+      ap (λ (b : Past). called_queue b r.entry.process r.entry.call) tails ∙ ap (λ (x : Record). called_queue past x.entry.process x.entry.call) heads ∙ on
+  | inr older ↦
+      let le = ends-length (r ∷ before) past older in
+      let apart : length past ≡ w → ⊥ = λ e. omega (arith, le, at, e) in
+      blocked-called past q w ((blocked-cases past s Receive q w there).1 apart) before r older at
+]
+
+-- the queue to which a message was sent is that of its call
+pub sent-called : (past : Past) (q m : ℕ) → IsSentTo past q m → (before : Past) (r : Record) → Ends (r ∷ before) past → length before ≡ m → called_queue before r.entry.process r.entry.call ≡ Some q
+sent-called [] q m to before r ends at = absurd (let bad : r ∷ before ≡ [] = ends in cc)
+sent-called (s ∷ past) q m to before r ends at = elim ends [
+  | inl same ↦
+      let tails : before ≡ past = cc in
+      let heads : r ≡ s = cc in
+      let place : m ≡ length past = sym at ∙ ap length tails in
+      let on = sent-here past s q (subst (λ k. IsSentTo (s ∷ past) q k) place to) in
+      ap (λ (b : Past). called_queue b r.entry.process r.entry.call) tails ∙ ap (λ (x : Record). called_queue past x.entry.process x.entry.call) heads ∙ on
+  | inr older ↦
+      let le = ends-length (r ∷ before) past older in
+      sent-called past q m (sent-older_part past s q m (omega (arith, le, at)) to) before r older at
+]
+
+-- a send that hands its message over does so on its queue
+pub handed-on : (past : Past) (p w : ℕ) (call : Call) → Says past p call (reply.Handed w) → (q : ℕ) × (called_queue past p call ≡ Some q) × (least (waiting_receives past q) ≡ Some w)
+handed-on past p w (MqSend d prio len) says = (says.0.queue, rw says.1 refl, says.3)
+handed-on past p w (MqTimedSend d prio len until now) says = (says.0.queue, rw says.1 refl, says.3)
+handed-on past p w (MqOpen flags attr) says = absurd says
+handed-on past p w (MqClose d) says = absurd says.0
+handed-on past p w MqUnlink says = absurd says
+handed-on past p w (MqReceive d room) says = absurd says.3
+handed-on past p w (MqTimedReceive d room until now) says = absurd says.3
+handed-on past p w (MqGetattr d) says = absurd says
+handed-on past p w (MqSetattr d nonblock) says = absurd says
+handed-on past p w (MqNotify d value) says = absurd says
+handed-on past p w NextNotice says = absurd (cc)
+handed-on past p w Collect says = absurd (cc)
+handed-on past p w (Withdraw now) says = absurd (cc)
 
 -- what is_message says of a record that is of a message
 message-is : (past : Past) (m prio p : ℕ) (message bytes : List ℕ) → IsOf past m prio message → is_message past m p bytes ≡ true → (p ≡ prio) × (bytes ≡ message)
@@ -204,12 +279,15 @@ blocked-receive (s ∷ past) q w r there at = split (w == length past)
 
 -- the operations to which a message was handed may have received it
 handed-taker : (time : ℕ) (histories : Histories) (full past : Past) (r : Record) (linear : IsLinearization histories (r ∷ past)) → AreBegun time histories (r ∷ past) linear → IsLinearization histories full → Ends (r ∷ past) full →
-    ((i : ℕ) → is_through (current_of histories full i) ≡ true) → (w prio : ℕ) (message : List ℕ) → r.entry.reply ≡ reply.Handed w → IsOf (r ∷ past) (length past) prio message → HasTaker time histories prio message
-handed-taker time histories full past r linear begun whole ends through w prio message is of =
+    ((i : ℕ) → is_through (current_of histories full i) ≡ true) → (w q prio : ℕ) (message : List ℕ) → r.entry.reply ≡ reply.Handed w → IsOf (r ∷ past) (length past) prio message → IsSentTo (r ∷ past) q (length past) →
+    HasTaker time histories (r ∷ past) q prio message
+handed-taker time histories full past r linear begun whole ends through w q prio message is of to =
     let legal = legal-linear histories past linear.0 in
     let says : Says past r.entry.process r.entry.call (reply.Handed w) = subst (λ (y : Reply). Says past r.entry.process r.entry.call y) is (legal_says past r linear.1) in
-    let x = hands-least past r.entry.process r.entry.call w says in
-    let there = least-in (waiting_receives past x.0) w x.1 in
+    let x = handed-on past r.entry.process w r.entry.call says in
+    let both : Some x.0 ≡ Some q = sym x.1 ∙ sent-here past r q to in
+    let queue : x.0 ≡ q = cc in
+    let there = least-in (waiting_receives past x.0) w x.2 in
     let y = waiter past legal Receive x.0 w there in
     let z = waits-for time histories past linear.0 begun.0 y.0 w y.1 in
     let blocked = (is_in-filter _ (blocked_receives past x.0) w there).0 in
@@ -230,17 +308,26 @@ handed-taker time histories full past r linear begun whole ends through w prio m
     } in
     let may = served-ends time histories full z.index w (length past) prio message z.operation z.begun receive (through z.index)
     (served-later time histories (r ∷ past) full whole ends z.index w (length past) prio message z.operation z.begun receive served) in
-    record { index = z.index; k = completed past (z.index + 1); operation = z.operation; is = z.is; may = may }
+    record {
+      index = z.index;
+      k = completed past (z.index + 1);
+      operation = z.operation;
+      is = z.is;
+      may = may;
+      place = w;
+      placed = call-older time histories past r z.index (completed past (z.index + 1)) w z.placed;
+      on = blocked-called past x.0 w blocked z.placed.before z.placed.r z.placed.ends z.placed.at ∙ ap Some queue;
+    }
   where
     handed-here : hands r.entry.reply ≡ true → is_handed (r ∷ past) (length past) ≡ true
     handed-here e = rw (eq-eqb (length past) (length past) refl) e
 
 -- each message that was taken has an operation that may have received it
 pub taker : (time : ℕ) (histories : Histories) (full past : Past) (linear : IsLinearization histories past) → AreBegun time histories past linear → IsLinearization histories full → Ends past full →
-    ((i : ℕ) → is_through (current_of histories full i) ≡ true) → (m prio : ℕ) (message : List ℕ) → IsOf past m prio message → is_in (taken past) m ≡ true → HasTaker time histories prio message
-taker time histories full [] linear begun whole ends through m prio message of there = absurd (let bad : false ≡ true = there in cc)
-taker time histories full (r ∷ past) linear begun whole ends through m prio message of there =
-    by (λ of_old old. taker time histories full past linear.0 begun.0 whole (ends-older r past full ends) through m prio message of_old old) r.entry.reply refl there
+    ((i : ℕ) → is_through (current_of histories full i) ≡ true) → (m q prio : ℕ) (message : List ℕ) → IsOf past m prio message → IsSentTo past q m → is_in (taken past) m ≡ true → HasTaker time histories past q prio message
+taker time histories full [] linear begun whole ends through m q prio message of to there = absurd (let bad : false ≡ true = there in cc)
+taker time histories full (r ∷ past) linear begun whole ends through m q prio message of to there =
+    by (λ of_old to_old old. taker time histories full past linear.0 begun.0 whole (ends-older r past full ends) through m q prio message of_old to_old old) r.entry.reply refl there
   where
     legal : Legal past
     legal = legal-linear histories past linear.0
@@ -249,20 +336,26 @@ taker time histories full (r ∷ past) linear begun whole ends through m prio me
     from = linear.2
 
     Rest : Type 0
-    Rest = IsOf past m prio message → is_in (taken past) m ≡ true → HasTaker time histories prio message
+    Rest = IsOf past m prio message → IsSentTo past q m → is_in (taken past) m ≡ true → HasTaker time histories past q prio message
 
-    older : Rest → is_in (taken past) m ≡ true → HasTaker time histories prio message
+    Takes : Type 0
+    Takes = HasTaker time histories (r ∷ past) q prio message
+
+    older : Rest → is_in (taken past) m ≡ true → Takes
     older rest old =
         let lt = taken-below past legal m old in
         let of_old : IsOf past m prio message = record { r = of.r; at = sym (record_at-older past r m lt) ∙ of.at; priority = of.priority; bytes = of.bytes } in
-        rest of_old old
+        taker-older time histories past r q prio message (rest of_old (sent-older_part past r q m lt to) old)
 
-    got : (a n : Option ℕ) → r.entry.reply ≡ reply.Got m a n → HasTaker time histories prio message
+    got : (a n : Option ℕ) → r.entry.reply ≡ reply.Got m a n → Takes
     got a n is =
         let says : Says past r.entry.process r.entry.call (reply.Got m a n) = subst (λ (y : Reply). Says past r.entry.process r.entry.call y) is (legal_says past r linear.1) in
         let x = got_says past r.entry.process r.entry.call m a n says in
-        let present_in = given-present past r linear.1 m (ap message_given is) in
-        let lt = present-below past present_in.0 m present_in.1 in
+        let inside = find-in _ (present past x.2.queue) m x.6 in
+        let lt = present-below past x.2.queue m inside.0 in
+        let to_it = admitted-sent past x.2.queue m (present-admitted past x.2.queue m inside.0) in
+        let queue : x.2.queue ≡ q = same-queue past x.2.queue q m to_it (sent-older_part past r q m lt to) in
+        let called : called_queue past r.entry.process r.entry.call ≡ Some x.2.queue = rw (x.3.1, x.4) refl in
         let of_old : IsOf past m prio message = record { r = of.r; at = sym (record_at-older past r m lt) ∙ of.at; priority = of.priority; bytes = of.bytes } in
         let own : ends_wait r.entry.call ≡ false = receive-own r.entry.call x.3.0 in
         let call = own-call histories past r from own in
@@ -274,6 +367,9 @@ taker time histories full (r ∷ past) linear begun whole ends through m prio me
           operation = from.operation;
           is = from.is;
           may = gives-it time from.operation prio message begun.1 receive (got-outcome past m prio message a n from.operation.outcome of_old fit);
+          place = length past;
+          placed = record { before = past; r = r; linear = linear; begun = begun; ends = inl refl; at = refl; of = refl; number = refl; own = own };
+          on = called ∙ ap Some queue;
         }
       where
         receive-own : (call : Call) → is_receive call ≡ true → ends_wait call ≡ false
@@ -281,10 +377,12 @@ taker time histories full (r ∷ past) linear begun whole ends through m prio me
         receive-own (Withdraw now) e = absurd (let bad : false ≡ true = e in cc)
         receive-own _ e = refl
 
-    handed : (w : ℕ) → r.entry.reply ≡ reply.Handed w → length past ≡ m → HasTaker time histories prio message
-    handed w is here = handed-taker time histories full past r linear begun whole ends through w prio message is (subst (λ (k : ℕ). IsOf (r ∷ past) k prio message) (sym here) of)
+    handed : (w : ℕ) → r.entry.reply ≡ reply.Handed w → length past ≡ m → Takes
+    handed w is here = handed-taker time histories full past r linear begun whole ends through w q prio message is
+        (subst (λ (k : ℕ). IsOf (r ∷ past) k prio message) (sym here) of)
+        (subst (λ (k : ℕ). IsSentTo (r ∷ past) q k) (sym here) to)
 
-    by : Rest → (y : Reply) → r.entry.reply ≡ y → is_in (with_place (taken_by (length past) r.entry.reply) (taken past)) m ≡ true → HasTaker time histories prio message
+    by : Rest → (y : Reply) → r.entry.reply ≡ y → is_in (with_place (taken_by (length past) r.entry.reply) (taken past)) m ≡ true → Takes
     by rest (reply.Got k a n) is there =
         let in_it : is_in (k ∷ taken past) m ≡ true = rw is at there in
         split (k == m)

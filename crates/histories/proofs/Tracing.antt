@@ -1,6 +1,6 @@
 -- The operations of the records of a linearization.
 use Rattle.std.proofs.Common.{◌≡◌, ℕ, ◌+◌, ◌≤◌, ◌<◌, ◌==◌, true, false, List, [], ◌∷◌, length, Some, None, inl, inr, refl, sym, ◌∙◌, ap, subst, arith, if◌then◌else◌, eqb-true, eq-eqb}
-use Rattle.std.proofs.lemmas.Bool.{cases_lt}
+use Rattle.std.proofs.lemmas.Bool.{cases_lt, eqb-false}
 use Rattle.mq_model.specs.Record.{Record, Past, Process, record_at}
 use Rattle.mq_model.specs.Waits.{is_wait, open_wait}
 use Rattle.mq_model.specs.Legality.{IsLegalNext, Legal, reply_to}
@@ -16,7 +16,7 @@ use Rattle.histories.specs.Histories.{Histories, completed, current_of, none_end
 use Rattle.histories.specs.Outcomes.{fits}
 use Rattle.histories.specs.Linearizations.{ComesFrom, IsCallOf, IsLinearization}
 use Rattle.histories.specs.RealTime.{operation_at}
-use Rattle.histories.proofs.Completing.{completed-free, free, made-other, made-own, made-same}
+use Rattle.histories.proofs.Completing.{completed-free, completed-other, free, made-other, made-own, made-same}
 use Rattle.histories.proofs.Cutting.{AreBegun, Ends}
 
 pub legal-linear : (histories : Histories) (past : Past) → IsLinearization histories past → Legal past
@@ -37,6 +37,21 @@ own-call histories past r from own = elim from.call [
 pub current-other : (histories : Histories) (past : Past) (r : Record) (i : ℕ) → (r.entry.process == i + 1) ≡ false → current_of histories (r ∷ past) i ≡ current_of histories past i
 current-other histories past r i other = ap (λ (n : ℕ). operation_at histories i n) (rw other refl)
 
+-- the record at this place is of the call of the k-th operation of a process
+pub record IsCallAt (time : ℕ) (histories : Histories) (past : Past) (index k place : ℕ) : Type 0 where
+  pub before : Past
+  pub r : Record
+  pub linear : IsLinearization histories (r ∷ before)
+  pub begun : AreBegun time histories (r ∷ before) linear
+  pub ends : Ends (r ∷ before) past
+  pub at : length before ≡ place
+  pub of : linear.2.index ≡ index
+  pub number : completed before (index + 1) ≡ k
+  pub own : ends_wait r.entry.call ≡ false
+
+abbrev pub call-older : (time : ℕ) (histories : Histories) (past : Past) (r : Record) (index k place : ℕ) → IsCallAt time histories past index k place → IsCallAt time histories (r ∷ past) index k place
+call-older time histories past r index k place x = record { before = x.before; r = x.r; linear = x.linear; begun = x.begun; ends = inr x.ends; at = x.at; of = x.of; number = x.number; own = x.own }
+
 -- the operation in which a process waits, and the record of its call
 pub record IsWaiting (time : ℕ) (histories : Histories) (past : Past) (p w : ℕ) : Type 0 where
   pub index : ℕ
@@ -48,6 +63,7 @@ pub record IsWaiting (time : ℕ) (histories : Histories) (past : Past) (p w : �
   pub at : record_at past w ≡ Some r
   pub call : IsCallOf r operation
   pub waits : is_wait r.entry.reply ≡ true
+  pub placed : IsCallAt time histories past index (completed past (index + 1)) w
 
 pub ending-waits-not : (past : Past) (r : Record) → IsLegalNext past r → is_wait r.entry.reply ≡ true → ends_wait r.entry.call ≡ false
 ending-waits-not past r legal waits = split (ends_wait r.entry.call)
@@ -89,6 +105,17 @@ waits-for time histories (r ∷ past) linear begun p w is = split (r.entry.proce
       at = rw (eq-eqb w (length past) (sym place)) refl;
       call = own-call histories past r from quiet;
       waits = waits;
+      placed = record {
+        before = past;
+        r = r;
+        linear = linear;
+        begun = begun;
+        ends = inl refl;
+        at = place;
+        of = refl;
+        number = sym still;
+        own = quiet;
+      };
     })
     (λ f. let bad : None ≡ Some w = rw f at last in absurd (cc)))
     (λ other.
@@ -105,28 +132,35 @@ waits-for time histories (r ∷ past) linear begun p w is = split (r.entry.proce
       at = record_at-older past r w (record_at-below past w x.r x.at) ∙ x.at;
       call = x.call;
       waits = x.waits;
+      placed = record {
+        before = x.placed.before;
+        r = x.placed.r;
+        linear = x.placed.linear;
+        begun = x.placed.begun;
+        ends = inr x.placed.ends;
+        at = x.placed.at;
+        of = x.placed.of;
+        number = x.placed.number ∙ sym (completed-other past r (x.index + 1) (eqb-false _ _ apart));
+        own = x.placed.own;
+      };
     })
 
 -- the record of the call of an operation, with those before it
-pub record IsMade (time : ℕ) (histories : Histories) (part : Past) (index : ℕ) (operation : Operation) : Type 0 where
-  pub past : Past
-  pub r : Record
-  pub ends : Ends (r ∷ past) part
-  pub linear : IsLinearization histories (r ∷ past)
-  pub begun : AreBegun time histories (r ∷ past) linear
-  pub process : r.entry.process ≡ index + 1
-  pub call : IsCallOf r operation
-  pub fits : fits past r.entry.reply operation.outcome ≡ true
-  pub in_time : none_ended histories past operation.begin (length histories) ≡ true
+pub record IsMade (time : ℕ) (histories : Histories) (part : Past) (index k : ℕ) (operation : Operation) : Type 0 where
+  pub place : ℕ
+  pub placed : IsCallAt time histories part index k place
+  pub call : IsCallOf placed.r operation
+  pub fits : fits placed.before placed.r.entry.reply operation.outcome ≡ true
+  pub in_time : none_ended histories placed.before operation.begin (length histories) ≡ true
 
 -- each operation that a process has begun has such a record
 pub made-record : (time : ℕ) (histories : Histories) (past : Past) (linear : IsLinearization histories past) → AreBegun time histories past linear → (index k : ℕ) (operation : Operation) →
-    operation_at histories index k ≡ Some operation → k < made past (index + 1) → IsMade time histories past index operation
+    operation_at histories index k ≡ Some operation → k < made past (index + 1) → IsMade time histories past index k operation
 made-record time histories [] linear begun index k operation is below = absurd (omega (arith, below))
 made-record time histories (r ∷ past) linear begun index k operation is below = elim (cases_lt k (made past (index + 1))) [
   | inl before ↦
       let x = made-record time histories past linear.0 begun.0 index k operation is before in
-      record { past = x.past; r = x.r; ends = inr x.ends; linear = x.linear; begun = x.begun; process = x.process; call = x.call; fits = x.fits; in_time = x.in_time }
+      record { place = x.place; placed = call-older time histories past r index k x.place x.placed; call = x.call; fits = x.fits; in_time = x.in_time }
   | inr after ↦ split (r.entry.process == index + 1)
       (λ own.
       let mine : r.entry.process ≡ index + 1 = eqb-true _ _ own in
@@ -144,12 +178,8 @@ made-record time histories (r ∷ past) linear begun index k operation is below 
       let both : Some from.operation ≡ Some operation = sym there ∙ here in
       let same : from.operation ≡ operation = cc in
       record {
-        past = past;
-        r = r;
-        ends = inl refl;
-        linear = linear;
-        begun = begun;
-        process = mine;
+        place = length past;
+        placed = record { before = past; r = r; linear = linear; begun = begun; ends = inl refl; at = refl; of = at; number = done; own = quiet };
         call = subst (λ (o : Operation). IsCallOf r o) same (own-call histories past r from quiet);
         fits = subst (λ (o : Operation). fits past r.entry.reply o.outcome ≡ true) same from.fits;
         in_time = subst (λ (o : Operation). none_ended histories past o.begin (length histories) ≡ true) same from.in_time;

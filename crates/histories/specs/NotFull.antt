@@ -11,7 +11,7 @@ use Rattle.mq_model.specs.declared.faults.Fault.{Fault}
 use Rattle.mq_model.specs.declared.faults.Fault.TheVariants.{Again, TimedOut}
 use Rattle.histories.specs.Histories.{Histories}
 use Rattle.histories.specs.Excess.{returned_by}
-use Rattle.histories.specs.Passed.{has_any, has_returned, leaves_queue}
+use Rattle.histories.specs.Named.{calls_on, has_any, has_returned_on, unbinds}
 use Rattle.histories.specs.declared.operation.Operation.{Operation}
 use Rattle.histories.specs.declared.operation.Outcome.{Outcome}
 use Rattle.histories.specs.declared.operation.Outcome.TheVariants.{Pending, Done, Got, Refused}
@@ -53,15 +53,16 @@ is_got _ = false
 abbrev pub takes_out : Operation → Bool
 takes_out o = is_got o.outcome
 
--- how many messages may have entered queues by this time, by all processes
-abbrev pub times_entered : ℕ → Histories → ℕ
-times_entered time histories =
-    sum_by (λ (v : Vec Operation Global). count_by (enters_by time) v.items) histories
+-- how many messages may have entered the queue by this time, by all processes
+abbrev pub times_entered : ℕ → List ℕ → Histories → ℕ
+times_entered time name histories =
+    sum_by (λ (v : Vec Operation Global). count_by (enters_by time) (calls_on name v.items)) histories
 
--- how many messages receives had returned by this time
-abbrev pub times_taken : ℕ → Histories → ℕ
-times_taken time histories =
-    sum_by (λ (v : Vec Operation Global). count_by takes_out (returned_by time v.items)) histories
+-- how many messages receives from the queue had returned by this time
+abbrev pub times_taken : ℕ → List ℕ → Histories → ℕ
+times_taken time name histories =
+    sum_by (λ (v : Vec Operation Global).
+    count_by takes_out (calls_on name (returned_by time v.items))) histories
 
 -- an open that gives the queue room for fewer messages if it creates it
 abbrev pub asks_less : ℕ → Call → Bool
@@ -73,18 +74,20 @@ abbrev pub has_failed : Outcome → Bool
 has_failed (Refused fault) = true
 has_failed _ = false
 
--- such an open that began by this time and did not fail
-abbrev pub creates_less : ℕ → ℕ → Operation → Bool
-creates_less time capacity o =
-    nat_le o.begin time && asks_less capacity o.call && not (has_failed o.outcome)
+-- such an open of this name that began by this time and did not fail
+abbrev pub creates_less : ℕ → List ℕ → ℕ → Operation → Bool
+creates_less time name capacity o =
+    nat_le o.begin time && asks_less capacity o.call && not (has_failed o.outcome) &&
+    bytes_eq o.given.items name
 
--- A send that began after `from`, and had returned by `to`, found its queue full. The counts are
--- right, and by them fewer messages than the capacity were in the queue. Each open that began by
--- `to` gives a new queue that capacity at least, and all names of queues until then are the same.
+-- Of the calls on the queue of the name: a send that began after `from`, and had returned by `to`,
+-- found the queue full. The counts are right, and by them fewer messages than the capacity were in
+-- the queue. Each open of the name that began by `to` gives a new queue that capacity at least.
+-- Nothing unbinds the name until then.
 pub record IsNotFull (histories : Histories) (e : NotFull) : Type 0 where
-  pub full : has_returned e.to (finds_full e.from e.prio e.message.items) histories ≡ true
-  pub sent : e.sent ≡ times_entered e.to histories
-  pub received : e.received ≡ times_taken e.from histories
+  pub full : has_returned_on e.to e.name.items (finds_full e.from e.prio e.message.items) histories ≡ true
+  pub sent : e.sent ≡ times_entered e.to e.name.items histories
+  pub received : e.received ≡ times_taken e.from e.name.items histories
   pub fewer : e.sent < e.capacity + e.received
-  pub capacity : has_any (creates_less e.to e.capacity) histories ≡ false
-  pub one_queue : has_any (leaves_queue e.to e.name.items) histories ≡ false
+  pub capacity : has_any (creates_less e.to e.name.items e.capacity) histories ≡ false
+  pub bound : has_any (unbinds e.to e.name.items) histories ≡ false

@@ -1,18 +1,19 @@
 -- Messages that lay in their queue while a receive passed over them.
-use Rattle.std.specs.Prelude.{◌≡◌, ℕ, Bool, false, true, not, ◌&&◌, ◌||◌, ◌==◌, nat_le, nat_lt, IfSome, List, Option, Some, None, Vec}
-use Rattle.std.specs.List.{list_any}
+use Rattle.std.specs.Prelude.{◌≡◌, ℕ, Bool, false, true, ◌&&◌, ◌||◌, ◌==◌, nat_le, nat_lt, List, Option, Some, None, Vec}
 use Rattle.std.specs.Str.{bytes_eq}
 use Rattle.std.specs.declared.alloc.Global.{Global}
 use Rattle.mq_model.specs.Messages.{is_receive, is_send, priority_given}
-use Rattle.mq_model.specs.Names.{is_open, is_unlink}
 use Rattle.mq_model.specs.declared.faults.Fault.{Fault}
 use Rattle.mq_model.specs.declared.faults.Fault.TheVariants.{Again, TimedOut}
 use Rattle.histories.specs.Histories.{Histories, is_pending}
 use Rattle.histories.specs.declared.operation.Operation.{Operation}
 use Rattle.histories.specs.declared.operation.Outcome.{Outcome}
 use Rattle.histories.specs.declared.operation.Outcome.TheVariants.{Done, Got, Refused}
-use Rattle.histories.specs.Excess.{has_got, returned_by, sends_by}
+use Rattle.histories.specs.Excess.{has_got, sends_by}
+use Rattle.histories.specs.Named.{has_any, has_any_on, has_returned_on, unbinds}
 use Rattle.histories.specs.declared.passed.Passed.{Passed}
+use Rattle.histories.specs.declared.passed.Part.{Part}
+use Rattle.histories.specs.declared.passed.Part.TheVariants.{Sent, PassedOver, SentBefore, Received}
 
 abbrev pub is_done : Outcome → Bool
 is_done Done = true
@@ -51,27 +52,28 @@ abbrev pub may_receive : ℕ → ℕ → List ℕ → Operation → Bool
 may_receive time prio message o =
     nat_le o.begin time && (has_got prio message o.outcome || (is_receive o.call && is_pending o.outcome))
 
--- a call that began by this time, and opens a queue of another name or unlinks one
-abbrev pub leaves_queue : ℕ → List ℕ → Operation → Bool
-leaves_queue time name o =
-    nat_le o.begin time && (is_unlink o.call || (is_open o.call && not (bytes_eq o.given.items name)))
+-- a send of the other message, if there is one, that began by the time `from`
+abbrev pub sends_other_of : ℕ → ℕ → Option (Vec ℕ Global) → Operation → Bool
+sends_other_of from prio None o = false
+sends_other_of from prio (Some other) o = sends_by from prio other.items o
 
--- one of the operations passes the test
-abbrev pub has_any : (Operation → Bool) → Histories → Bool
-has_any test histories = list_any (λ (v : Vec Operation Global). list_any test v.items) histories
+abbrev pub sends_other : Passed → Operation → Bool
+sends_other e o = sends_other_of e.from e.prio e.other o
 
--- one of those that had returned by this time does
-abbrev pub has_returned : ℕ → (Operation → Bool) → Histories → Bool
-has_returned time test histories =
-    list_any (λ (v : Vec Operation Global). list_any test (returned_by time v.items)) histories
+-- what makes up the contradiction
+abbrev pub is_part : Part → Passed → Operation → Bool
+is_part Sent e o = has_sent e.prio e.message.items o
+is_part PassedOver e o = passes_over e.from e.prio e.other o
+is_part SentBefore e o = sends_other e o
+is_part Received e o = may_receive e.to e.prio e.message.items o
 
--- A send of the message had returned by the time `from`. A receive that began later, and had
--- returned by the time `to`, found no message of its priority or a higher one, or got another
--- message of the priority, of which no send had begun by `from`. No call that began by then may
--- have received the message, and all names of queues until then are the same.
+-- Of the calls on the queue of the name: a send of the message had returned by the time `from`. A
+-- receive that began later, and had returned by the time `to`, found no message of its priority or a
+-- higher one, or got another message of the priority, of which no send had begun by `from`. No call
+-- that began by `to` may have received the message. Nothing unbinds the name until then.
 pub record IsPassed (histories : Histories) (e : Passed) : Type 0 where
-  pub sent : has_returned e.from (has_sent e.prio e.message.items) histories ≡ true
-  pub passed : has_returned e.to (passes_over e.from e.prio e.other) histories ≡ true
-  pub later : IfSome e.other (λ (other : Vec ℕ Global). has_any (sends_by e.from e.prio other.items) histories ≡ false)
-  pub stays : has_any (may_receive e.to e.prio e.message.items) histories ≡ false
-  pub one_queue : has_any (leaves_queue e.to e.name.items) histories ≡ false
+  pub sent : has_returned_on e.from e.name.items (is_part Sent e) histories ≡ true
+  pub passed : has_returned_on e.to e.name.items (is_part PassedOver e) histories ≡ true
+  pub later : has_any_on e.name.items (is_part SentBefore e) histories ≡ false
+  pub stays : has_any_on e.name.items (is_part Received e) histories ≡ false
+  pub bound : has_any (unbinds e.to e.name.items) histories ≡ false

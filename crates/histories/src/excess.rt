@@ -42,7 +42,8 @@ pub fn may_have_sent(outcome: &Outcome) -> bool
     }
 }
 
-pub fn sends(prio: u32, message: &[u8], operation: &Operation) -> bool
+// Whether an operation is a send of this message that may have succeeded.
+fn sends(prio: u32, message: &[u8], operation: &Operation) -> bool
     ensures { result ≡ sends prio message.now operation.now }
 {
     operation.call.is_send()
@@ -90,12 +91,19 @@ pub fn returned_by(time: u64, operations: &[Operation]) -> &[Operation]
     }
 }
 
+/// Whether an operation is such a send that began by this time.
+pub fn sends_by(time: u64, prio: u32, message: &[u8], operation: &Operation) -> bool
+    ensures { result ≡ sends_by time prio message.now operation.now }
+{
+    operation.begin <= time && sends(prio, message, operation)
+}
+
 fn sends_in(time: u64, prio: u32, message: &[u8], operations: &[Operation]) -> u64
     ensures count { result ≡ count_by (sends_by time prio message.now) operations.now }
 {
     let mut count: u64 = 0;
     for operation in operations {
-        if operation.begin <= time && sends(prio, message, operation) {
+        if sends_by(time, prio, message, operation) {
             count += 1;
         }
     }

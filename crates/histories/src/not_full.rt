@@ -2,12 +2,13 @@
 ghost use Rattle.std.specs.Prelude.{◌≡◌, IfOk, IfSome, IsSome};
 ghost use Rattle.std.specs.List.{count_by, list_any};
 ghost use Rattle.histories.specs.Excess.{HasNoOrder};
-ghost use Rattle.histories.specs.Passed.{has_any, has_returned};
+ghost use Rattle.histories.specs.Named.{calls_on, has_any, has_returned_on};
 ghost use Rattle.histories.specs.NotFull.{IsNotFull, asks_less, creates_less, enters_by, finds_full, found_full, has_failed, is_got, may_enter, says_full, takes_out, times_entered, times_taken};
 
 use crate::excess::returned_by;
+use crate::named::{Marks, descriptor_of, is_marked, marks_after, was_unbound};
 use crate::operation::{Operation, Outcome};
-use crate::passed::{first_name, leaves_queue, was_left};
+use crate::queues::{Queue, queues_of};
 use mq_model::entries::Call;
 use mq_model::error_order::attributes_given;
 use mq_model::faults::Fault;
@@ -19,7 +20,7 @@ use std::alloc::{AllocError, Global};
 pub struct NotFull {
     pub prio: u32,
     pub message: Vec<u8>,
-    /// The name of the only queue until then.
+    /// The name of the queue.
     pub name: Vec<u8>,
     /// How many messages the queue can hold at least: each open that may have created it asks for
     /// that much.
@@ -28,10 +29,11 @@ pub struct NotFull {
     pub from: u64,
     /// When the send had returned.
     pub to: u64,
-    /// How many receives had returned a message by `from`. A receive after a call of its process
+    /// How many receives from the queue had returned a message by `from`. A receive after a call of its process
     /// that had not returned by then does not count.
     pub received: u128,
-    /// How many sends that began by `to` succeeded, or had not returned when the history ended.
+    /// How many sends to the queue that began by `to` succeeded, or had not returned when the
+    /// history ended.
     pub sent: u128,
 }
 
@@ -112,98 +114,109 @@ pub fn has_failed(outcome: &Outcome) -> bool
     }
 }
 
-// Whether an operation is such an open that began by this time and did not fail.
-fn creates_less(time: u64, capacity: u64, operation: &Operation) -> bool
-    ensures { result ≡ creates_less time capacity operation.now }
+// Whether an operation is such an open of this name that began by this time and did not fail.
+fn creates_less(time: u64, name: &[u8], capacity: u64, operation: &Operation) -> bool
+    ensures { result ≡ creates_less time name.now capacity operation.now }
 {
     operation.begin <= time
         && asks_less(capacity, operation.call)
         && !has_failed(&operation.outcome)
+        && operation.given.as_slice() == name
 }
 
-fn one_full(time: u64, prio: u32, message: &[u8], operations: &[Operation]) -> bool
-    ensures { result ≡ list_any (finds_full time prio message.now) operations.now }
+fn one_full(found: &NotFull, operations: &[Operation]) -> bool
+    ensures { result ≡ list_any
+        (finds_full found.now.from found.now.prio found.now.message.items)
+        (calls_on found.now.name.items operations.now) }
+{
+    let mut full = false;
+    let mut marks: Marks = [false; 16];
+    for operation in operations {
+        let is_on = is_marked(&marks, descriptor_of(operation.call));
+        full = full || (is_on && finds_full(found.from, found.prio, &found.message, operation));
+        marks = marks_after(&found.name, marks, operation);
+    }
+    full
+}
+
+fn one_less(time: u64, name: &[u8], capacity: u64, operations: &[Operation]) -> bool
+    ensures { result ≡ list_any (creates_less time name.now capacity) operations.now }
 {
     let mut found = false;
     for operation in operations {
-        found = found || finds_full(time, prio, message, operation);
+        found = found || creates_less(time, name, capacity, operation);
     }
     found
 }
 
-fn one_less(time: u64, capacity: u64, operations: &[Operation]) -> bool
-    ensures { result ≡ list_any (creates_less time capacity) operations.now }
+// Whether the send found the queue full.
+fn was_full(found: &NotFull, histories: &Vec<Vec<Operation>>) -> bool
+    ensures { result ≡ has_returned_on found.now.to found.now.name.items
+        (finds_full found.now.from found.now.prio found.now.message.items) histories.now.items }
 {
-    let mut found = false;
-    for operation in operations {
-        found = found || creates_less(time, capacity, operation);
+    let mut full = false;
+    for operations in histories {
+        full = full || one_full(found, returned_by(found.to, operations));
     }
-    found
+    full
 }
 
-// Whether a send of this message that began after `from`, and had returned by `to`, found its queue
-// full.
-fn was_full(from: u64, to: u64, prio: u32, message: &[u8], histories: &Vec<Vec<Operation>>) -> bool
-    ensures { result ≡ has_returned to (finds_full from prio message.now) histories.now.items }
+// Whether an open of this name that began by this time may have created the queue with a lower
+// capacity.
+fn was_less(time: u64, name: &[u8], capacity: u64, histories: &Vec<Vec<Operation>>) -> bool
+    ensures { result ≡ has_any (creates_less time name.now capacity) histories.now.items }
 {
     let mut found = false;
     for operations in histories {
-        found = found || one_full(from, prio, message, returned_by(to, operations));
+        found = found || one_less(time, name, capacity, operations);
     }
     found
 }
 
-// Whether an open that began by this time may have created the queue with a lower capacity.
-fn was_less(time: u64, capacity: u64, histories: &Vec<Vec<Operation>>) -> bool
-    ensures { result ≡ has_any (creates_less time capacity) histories.now.items }
-{
-    let mut found = false;
-    for operations in histories {
-        found = found || one_less(time, capacity, operations);
-    }
-    found
-}
-
-fn entering(time: u64, operations: &[Operation]) -> u64
-    ensures count { result ≡ count_by (enters_by time) operations.now }
+fn entering(time: u64, name: &[u8], operations: &[Operation]) -> u64
+    ensures count { result ≡ count_by (enters_by time) (calls_on name.now operations.now) }
 {
     let mut count: u64 = 0;
+    let mut marks: Marks = [false; 16];
     for operation in operations {
-        if enters_by(time, operation) {
+        if is_marked(&marks, descriptor_of(operation.call)) && enters_by(time, operation) {
             count += 1;
         }
+        marks = marks_after(name, marks, operation);
     }
     count
 }
 
-fn taken_out(operations: &[Operation]) -> u64
-    ensures count { result ≡ count_by takes_out operations.now }
+fn taken_out(name: &[u8], operations: &[Operation]) -> u64
+    ensures count { result ≡ count_by takes_out (calls_on name.now operations.now) }
 {
     let mut count: u64 = 0;
+    let mut marks: Marks = [false; 16];
     for operation in operations {
-        if is_got(&operation.outcome) {
+        if is_marked(&marks, descriptor_of(operation.call)) && is_got(&operation.outcome) {
             count += 1;
         }
+        marks = marks_after(name, marks, operation);
     }
     count
 }
 
-fn times_entered(time: u64, histories: &Vec<Vec<Operation>>) -> u128
-    ensures { result ≡ times_entered time histories.now.items }
+fn times_entered(time: u64, name: &[u8], histories: &Vec<Vec<Operation>>) -> u128
+    ensures { result ≡ times_entered time name.now histories.now.items }
 {
     let mut count: u128 = 0;
     for operations in histories {
-        count += u128::from(entering(time, operations));
+        count += u128::from(entering(time, name, operations));
     }
     count
 }
 
-fn times_taken(time: u64, histories: &Vec<Vec<Operation>>) -> u128
-    ensures { result ≡ times_taken time histories.now.items }
+fn times_taken(time: u64, name: &[u8], histories: &Vec<Vec<Operation>>) -> u128
+    ensures { result ≡ times_taken time name.now histories.now.items }
 {
     let mut count: u128 = 0;
     for operations in histories {
-        count += u128::from(taken_out(returned_by(time, operations)));
+        count += u128::from(taken_out(name, returned_by(time, operations)));
     }
     count
 }
@@ -212,14 +225,14 @@ fn times_taken(time: u64, histories: &Vec<Vec<Operation>>) -> u128
 fn checked(found: NotFull, histories: &Vec<Vec<Operation>>) -> Option<NotFull>
     ensures { IfSome result (IsNotFull histories.now.items) }
 {
-    let full = was_full(found.from, found.to, found.prio, &found.message, histories);
-    let sent = times_entered(found.to, histories);
-    let received = times_taken(found.from, histories);
-    let less = was_less(found.to, found.capacity, histories);
-    let left = was_left(found.to, &found.name, histories);
+    let full = was_full(&found, histories);
+    let sent = times_entered(found.to, &found.name, histories);
+    let received = times_taken(found.from, &found.name, histories);
+    let less = was_less(found.to, &found.name, found.capacity, histories);
+    let unbound = was_unbound(found.to, &found.name, histories);
     let is_counted = found.sent == sent && found.received == received;
     let is_fewer = sent < received || sent - received < u128::from(found.capacity);
-    if full && is_counted && is_fewer && !less && !left {
+    if full && is_counted && is_fewer && !less && !unbound {
         Some(found)
     } else {
         None
@@ -237,21 +250,21 @@ struct Uses {
     capacities: Vec<(u64, u64)>,
 }
 
-fn uses_of(alloc: Global, histories: &Vec<Vec<Operation>>) -> Result<Uses, AllocError> {
+fn uses_of(alloc: Global, queue: &Queue) -> Result<Uses, AllocError> {
     let mut begins: Vec<u64> = Vec::new(alloc);
     let mut ends: Vec<u64> = Vec::new(alloc);
     let mut capacities: Vec<(u64, u64)> = Vec::new(alloc);
-    for operations in histories {
-        for operation in operations {
-            if enters_by(u64::MAX, operation) {
-                begins.push(operation.begin)?;
-            }
-            if is_got(&operation.outcome) {
-                ends.push(operation.end)?;
-            }
-            if let Some(capacity) = capacity_of(operation) {
-                capacities.push((operation.begin, capacity))?;
-            }
+    for operation in &queue.operations {
+        if enters_by(u64::MAX, operation) {
+            begins.push(operation.begin)?;
+        }
+        if is_got(&operation.outcome) {
+            ends.push(operation.end)?;
+        }
+    }
+    for operation in &queue.opens {
+        if let Some(capacity) = capacity_of(operation) {
+            capacities.push((operation.begin, capacity))?;
         }
     }
     begins.sort()?;
@@ -293,19 +306,6 @@ fn least_until(capacities: &Vec<(u64, u64)>, time: u64) -> Option<u64> {
     Some(capacities[count - 1].1)
 }
 
-// When the first call began that concerns another queue.
-fn known_until(name: &[u8], histories: &Vec<Vec<Operation>>) -> u64 {
-    let mut until = u64::MAX;
-    for operations in histories {
-        for operation in operations {
-            if leaves_queue(u64::MAX, name, operation) {
-                until = until.min(operation.begin);
-            }
-        }
-    }
-    until
-}
-
 // Whether fewer messages than the queue can hold were in it when this send found it full.
 fn is_suspect(uses: &Uses, until: u64, operation: &Operation) -> bool {
     if !operation.call.is_send() || !found_full(&operation.outcome) || operation.begin == 0 {
@@ -321,39 +321,36 @@ fn is_suspect(uses: &Uses, until: u64, operation: &Operation) -> bool {
     }
 }
 
-// The suspect send that returned first.
-fn first_suspect<'h>(
-    uses: &Uses,
-    until: u64,
-    histories: &'h Vec<Vec<Operation>>,
-) -> Option<&'h Operation> {
+// The suspect send to a queue that returned first.
+fn first_suspect<'h>(uses: &Uses, queue: &Queue<'h>) -> Option<&'h Operation> {
     let mut first: Option<&Operation> = None;
-    for operations in histories {
-        for operation in operations {
-            if is_suspect(uses, until, operation) {
-                first = match first {
-                    Some(other) if other.end <= operation.end => Some(other),
-                    _ => Some(operation),
-                };
-            }
+    for operation in &queue.operations {
+        let operation: &'h Operation = *operation;
+        if is_suspect(uses, queue.until, operation) {
+            first = match first {
+                Some(other) if other.end <= operation.end => Some(other),
+                _ => Some(operation),
+            };
         }
     }
     first
 }
 
-fn suspect(alloc: Global, histories: &Vec<Vec<Operation>>) -> Result<Option<NotFull>, AllocError> {
-    let Some(name) = first_name(histories) else {
-        return Ok(None);
-    };
-    let uses = uses_of(alloc, histories)?;
-    let Some(operation) = first_suspect(&uses, known_until(name, histories), histories) else {
+// What may contradict the others in a queue.
+fn suspect(
+    alloc: Global,
+    queue: &Queue,
+    histories: &Vec<Vec<Operation>>,
+) -> Result<Option<NotFull>, AllocError> {
+    let uses = uses_of(alloc, queue)?;
+    let Some(operation) = first_suspect(&uses, queue) else {
         return Ok(None);
     };
     let Some(capacity) = least_until(&uses.capacities, operation.end) else {
         return Ok(None);
     };
     let message = operation.given.as_slice().to_vec(alloc)?;
-    let name = name.to_vec(alloc)?;
+    let name = queue.name.to_vec(alloc)?;
     let from = operation.begin.saturating_sub(1);
     Ok(Some(NotFull {
         prio: operation.call.priority(),
@@ -362,9 +359,27 @@ fn suspect(alloc: Global, histories: &Vec<Vec<Operation>>) -> Result<Option<NotF
         capacity,
         from,
         to: operation.end,
-        received: times_taken(from, histories),
-        sent: times_entered(operation.end, histories),
+        received: times_taken(from, queue.name, histories),
+        sent: times_entered(operation.end, queue.name, histories),
     }))
+}
+
+// The first of what may contradict the others in the queues.
+fn first_of_queues(
+    alloc: Global,
+    histories: &Vec<Vec<Operation>>,
+) -> Result<Option<NotFull>, AllocError> {
+    let queues = queues_of(alloc, histories)?;
+    let mut first: Option<NotFull> = None;
+    for queue in &queues {
+        if let Some(found) = suspect(alloc, queue, histories)? {
+            first = match first {
+                Some(other) if other.to <= found.to => Some(other),
+                _ => Some(found),
+            };
+        }
+    }
+    Ok(first)
 }
 
 /// A send that found its queue full, although too few messages can have been in it, if one is
@@ -376,7 +391,7 @@ pub fn find_not_full(
     ensures is { IfOk result (λ found. IfSome found (IsNotFull histories.now.items)) }
     ensures none { IfOk result (λ found. IsSome found → HasNoOrder histories.now.items) }
 {
-    match suspect(alloc, histories)? {
+    match first_of_queues(alloc, histories)? {
         None => Ok(None),
         Some(found) => Ok(checked(found, histories)),
     }

@@ -1,13 +1,14 @@
 //! Messages that lay in their queue while a receive passed over them.
-ghost use Rattle.std.specs.Prelude.{◌≡◌, IfOk, IfSome, IsSome, false, true};
+ghost use Rattle.std.specs.Prelude.{◌≡◌, IfOk, IfSome, IsSome};
 ghost use Rattle.std.specs.List.{list_any};
-ghost use Rattle.mq_model.specs.Names.{is_open, is_unlink};
-ghost use Rattle.histories.specs.Excess.{HasNoOrder, returned_by, sends_by};
-ghost use Rattle.histories.specs.Passed.{IsPassed, has_any, got_other, has_returned, has_sent, is_done, leaves_queue, may_receive, passes, passes_over, says_empty};
+ghost use Rattle.histories.specs.Excess.{HasNoOrder};
+ghost use Rattle.histories.specs.Named.{calls_on, has_any_on, has_returned_on};
+ghost use Rattle.histories.specs.Passed.{IsPassed, got_other, has_sent, is_done, is_part, may_receive, passes, passes_over, says_empty, sends_other};
 
-use crate::excess::{has_got, is_pending, may_have_sent, returned_by, sends};
+use crate::excess::{has_got, is_pending, may_have_sent, returned_by, sends_by};
+use crate::named::{Marks, descriptor_of, is_marked, marks_after, was_unbound};
 use crate::operation::{Operation, Outcome};
-use mq_model::entries::Call;
+use crate::queues::{Queue, queues_of};
 use mq_model::faults::Fault;
 use std::alloc::{AllocError, Global};
 
@@ -17,7 +18,7 @@ use std::alloc::{AllocError, Global};
 pub struct Passed {
     pub prio: u32,
     pub message: Vec<u8>,
-    /// The name of the only queue until then.
+    /// The name of the queue.
     pub name: Vec<u8>,
     /// The message that the receive got instead, if it has the same priority. No send of it had
     /// begun by `from`.
@@ -26,18 +27,6 @@ pub struct Passed {
     pub from: u64,
     /// When the receive had returned. No call that began by then may have received the message.
     pub to: u64,
-}
-
-fn is_open(call: Call) -> bool
-    ensures { result ≡ is_open call }
-{
-    matches!(call, Call::MqOpen { .. })
-}
-
-fn is_unlink(call: Call) -> bool
-    ensures { result ≡ is_unlink call }
-{
-    matches!(call, Call::MqUnlink)
 }
 
 fn is_done(outcome: &Outcome) -> bool
@@ -96,38 +85,6 @@ fn passes_over(time: u64, prio: u32, other: &Option<Vec<u8>>, operation: &Operat
         && (passes(prio, &operation.outcome) || got_other(prio, other, &operation.outcome))
 }
 
-// Whether no send of the other message, if there is one, had begun by this time.
-fn is_later(time: u64, prio: u32, other: &Option<Vec<u8>>, histories: &Vec<Vec<Operation>>) -> bool
-    ensures { result ≡ true → IfSome other.now (λ message.
-        has_any (sends_by time prio message.items) histories.now.items ≡ false) }
-{
-    match other {
-        None => true,
-        Some(other) => !was_begun(time, prio, other, histories),
-    }
-}
-
-fn one_begun(time: u64, prio: u32, message: &[u8], operations: &[Operation]) -> bool
-    ensures { result ≡ list_any (sends_by time prio message.now) operations.now }
-{
-    let mut found = false;
-    for operation in operations {
-        found = found || (operation.begin <= time && sends(prio, message, operation));
-    }
-    found
-}
-
-// Whether a send of this message had begun by this time.
-fn was_begun(time: u64, prio: u32, message: &[u8], histories: &Vec<Vec<Operation>>) -> bool
-    ensures { result ≡ has_any (sends_by time prio message.now) histories.now.items }
-{
-    let mut found = false;
-    for operations in histories {
-        found = found || one_begun(time, prio, message, operations);
-    }
-    found
-}
-
 // Whether an operation began by this time and may have received the message.
 fn may_receive(time: u64, prio: u32, message: &[u8], operation: &Operation) -> bool
     ensures { result ≡ may_receive time prio message.now operation.now }
@@ -137,101 +94,71 @@ fn may_receive(time: u64, prio: u32, message: &[u8], operation: &Operation) -> b
             || (operation.call.is_receive() && is_pending(&operation.outcome)))
 }
 
-/// Whether an operation began by this time, and opens a queue of another name or unlinks one.
-pub fn leaves_queue(time: u64, name: &[u8], operation: &Operation) -> bool
-    ensures { result ≡ leaves_queue time name.now operation.now }
-{
-    operation.begin <= time
-        && (is_unlink(operation.call)
-            || (is_open(operation.call) && operation.given.as_slice() != name))
+// The parts of a contradiction: what passes its tests.
+#[derive(Clone, Copy)]
+enum Part {
+    Sent,
+    PassedOver,
+    SentBefore,
+    Received,
 }
 
-fn one_sent(prio: u32, message: &[u8], operations: &[Operation]) -> bool
-    ensures { result ≡ list_any (has_sent prio message.now) operations.now }
+fn sends_other(passed: &Passed, operation: &Operation) -> bool
+    ensures { result ≡ sends_other passed.now operation.now }
+{
+    match &passed.other {
+        None => false,
+        Some(other) => sends_by(passed.from, passed.prio, other, operation),
+    }
+}
+
+// Whether an operation is such a part.
+fn is_part(part: Part, passed: &Passed, operation: &Operation) -> bool
+    ensures { result ≡ is_part part passed.now operation.now }
+{
+    match part {
+        Part::Sent => has_sent(passed.prio, &passed.message, operation),
+        Part::PassedOver => passes_over(passed.from, passed.prio, &passed.other, operation),
+        Part::SentBefore => sends_other(passed, operation),
+        Part::Received => may_receive(passed.to, passed.prio, &passed.message, operation),
+    }
+}
+
+// Whether one of the operations of a process on the queue is such a part.
+fn one_on(part: Part, passed: &Passed, operations: &[Operation]) -> bool
+    ensures { result ≡ list_any (is_part part passed.now)
+        (calls_on passed.now.name.items operations.now) }
 {
     let mut found = false;
+    let mut marks: Marks = [false; 16];
     for operation in operations {
-        found = found || has_sent(prio, message, operation);
+        let is_on = is_marked(&marks, descriptor_of(operation.call));
+        found = found || (is_on && is_part(part, passed, operation));
+        marks = marks_after(&passed.name, marks, operation);
     }
     found
 }
 
-fn one_passes(time: u64, prio: u32, other: &Option<Vec<u8>>, operations: &[Operation]) -> bool
-    ensures { result ≡ list_any (passes_over time prio other.now) operations.now }
-{
-    let mut found = false;
-    for operation in operations {
-        found = found || passes_over(time, prio, other, operation);
-    }
-    found
-}
-
-fn one_receives(time: u64, prio: u32, message: &[u8], operations: &[Operation]) -> bool
-    ensures { result ≡ list_any (may_receive time prio message.now) operations.now }
-{
-    let mut found = false;
-    for operation in operations {
-        found = found || may_receive(time, prio, message, operation);
-    }
-    found
-}
-
-fn one_leaves(time: u64, name: &[u8], operations: &[Operation]) -> bool
-    ensures { result ≡ list_any (leaves_queue time name.now) operations.now }
-{
-    let mut found = false;
-    for operation in operations {
-        found = found || leaves_queue(time, name, operation);
-    }
-    found
-}
-
-// Whether a send of this message had returned by this time.
-fn was_sent(time: u64, prio: u32, message: &[u8], histories: &Vec<Vec<Operation>>) -> bool
-    ensures { result ≡ has_returned time (has_sent prio message.now) histories.now.items }
+// Whether one of the operations on the queue is such a part.
+fn any_on(part: Part, passed: &Passed, histories: &Vec<Vec<Operation>>) -> bool
+    ensures { result ≡ has_any_on passed.now.name.items (is_part part passed.now)
+        histories.now.items }
 {
     let mut found = false;
     for operations in histories {
-        found = found || one_sent(prio, message, returned_by(time, operations));
+        found = found || one_on(part, passed, operations);
     }
     found
 }
 
-// Whether a receive that began after `from`, and had returned by `to`, passes over such messages.
-fn was_passed(
-    from: u64,
-    to: u64,
-    prio: u32,
-    other: &Option<Vec<u8>>,
-    histories: &Vec<Vec<Operation>>,
-) -> bool
-    ensures { result ≡ has_returned to (passes_over from prio other.now) histories.now.items }
+// Whether one of those that had returned by this time is.
+fn any_returned_on(part: Part, time: u64, passed: &Passed, histories: &Vec<Vec<Operation>>) -> bool
+    ensures { result ≡ has_returned_on time passed.now.name.items (is_part part passed.now)
+        histories.now.items }
 {
     let mut found = false;
     for operations in histories {
-        found = found || one_passes(from, prio, other, returned_by(to, operations));
-    }
-    found
-}
-
-// Whether a call that began by this time may have received the message.
-fn was_received(time: u64, prio: u32, message: &[u8], histories: &Vec<Vec<Operation>>) -> bool
-    ensures { result ≡ has_any (may_receive time prio message.now) histories.now.items }
-{
-    let mut found = false;
-    for operations in histories {
-        found = found || one_receives(time, prio, message, operations);
-    }
-    found
-}
-
-/// Whether a call that began by this time opens a queue of another name, or unlinks one.
-pub fn was_left(time: u64, name: &[u8], histories: &Vec<Vec<Operation>>) -> bool
-    ensures { result ≡ has_any (leaves_queue time name.now) histories.now.items }
-{
-    let mut found = false;
-    for operations in histories {
-        found = found || one_leaves(time, name, operations);
+        found = found || one_on(part, passed, returned_by(time, operations));
     }
     found
 }
@@ -240,51 +167,16 @@ pub fn was_left(time: u64, name: &[u8], histories: &Vec<Vec<Operation>>) -> bool
 fn checked(passed: Passed, histories: &Vec<Vec<Operation>>) -> Option<Passed>
     ensures { IfSome result (IsPassed histories.now.items) }
 {
-    let prio = passed.prio;
-    let sent = was_sent(passed.from, prio, &passed.message, histories);
-    let is_passed = was_passed(passed.from, passed.to, prio, &passed.other, histories);
-    let later = is_later(passed.from, prio, &passed.other, histories);
-    let received = was_received(passed.to, prio, &passed.message, histories);
-    let left = was_left(passed.to, &passed.name, histories);
-    if sent && is_passed && later && !received && !left {
+    let sent = any_returned_on(Part::Sent, passed.from, &passed, histories);
+    let is_passed = any_returned_on(Part::PassedOver, passed.to, &passed, histories);
+    let sent_before = any_on(Part::SentBefore, &passed, histories);
+    let received = any_on(Part::Received, &passed, histories);
+    let unbound = was_unbound(passed.to, &passed.name, histories);
+    if sent && is_passed && !sent_before && !received && !unbound {
         Some(passed)
     } else {
         None
     }
-}
-
-/// The name of the queue that was opened first.
-pub fn first_name(histories: &Vec<Vec<Operation>>) -> Option<&[u8]> {
-    let mut first: Option<&Operation> = None;
-    for operations in histories {
-        for operation in operations {
-            if is_open(operation.call) {
-                first = match first {
-                    Some(other) if other.begin <= operation.begin => Some(other),
-                    _ => Some(operation),
-                };
-            }
-        }
-    }
-    match first {
-        Some(operation) => Some(operation.given.as_slice()),
-        None => None,
-    }
-}
-
-// When the first call began after which nothing is known: it concerns another queue, or is a
-// receive that had not returned.
-fn known_until(name: &[u8], histories: &Vec<Vec<Operation>>) -> u64 {
-    let mut until = u64::MAX;
-    for operations in histories {
-        for operation in operations {
-            let is_open_receive = operation.call.is_receive() && is_pending(&operation.outcome);
-            if is_open_receive || leaves_queue(u64::MAX, name, operation) {
-                until = until.min(operation.begin);
-            }
-        }
-    }
-    until
 }
 
 // A message that lay in the queue: from the first return of a send of it until the first receive
@@ -313,17 +205,16 @@ struct Miss<'h> {
 type Use<'h> = (u32, &'h [u8], bool, u64);
 
 // The sends and the receives, sorted by message, with the sends of each message first.
-fn uses_of(alloc: Global, histories: &Vec<Vec<Operation>>) -> Result<Vec<Use>, AllocError> {
+fn uses_of<'h>(alloc: Global, operations: &Vec<&'h Operation>) -> Result<Vec<Use<'h>>, AllocError> {
     let mut uses: Vec<Use> = Vec::new(alloc);
-    for operations in histories {
-        for operation in operations {
-            if operation.call.is_send() && is_done(&operation.outcome) {
-                let prio = operation.call.priority();
-                uses.push((prio, operation.given.as_slice(), false, operation.end))?;
-            }
-            if let Outcome::Got { prio, message } = &operation.outcome {
-                uses.push((*prio, message.as_slice(), true, operation.begin))?;
-            }
+    for operation in operations {
+        let operation: &'h Operation = *operation;
+        if operation.call.is_send() && is_done(&operation.outcome) {
+            let prio = operation.call.priority();
+            uses.push((prio, operation.given.as_slice(), false, operation.end))?;
+        }
+        if let Outcome::Got { prio, message } = &operation.outcome {
+            uses.push((*prio, message.as_slice(), true, operation.begin))?;
         }
     }
     uses.sort()?;
@@ -362,14 +253,16 @@ fn stays_of<'h>(
 type Begin<'h> = (u32, &'h [u8], u64);
 
 // The begins of the sends that may have succeeded, sorted by message.
-fn begins_of(alloc: Global, histories: &Vec<Vec<Operation>>) -> Result<Vec<Begin>, AllocError> {
+fn begins_of<'h>(
+    alloc: Global,
+    operations: &Vec<&'h Operation>,
+) -> Result<Vec<Begin<'h>>, AllocError> {
     let mut begins: Vec<Begin> = Vec::new(alloc);
-    for operations in histories {
-        for operation in operations {
-            if operation.call.is_send() && may_have_sent(&operation.outcome) {
-                let prio = operation.call.priority();
-                begins.push((prio, operation.given.as_slice(), operation.begin))?;
-            }
+    for operation in operations {
+        let operation: &'h Operation = *operation;
+        if operation.call.is_send() && may_have_sent(&operation.outcome) {
+            let prio = operation.call.priority();
+            begins.push((prio, operation.given.as_slice(), operation.begin))?;
         }
     }
     begins.sort()?;
@@ -422,17 +315,19 @@ fn missed_before<'h>(begins: &Vec<Begin>, operation: &'h Operation) -> Option<Mi
     }
 }
 
-fn misses_of(alloc: Global, histories: &Vec<Vec<Operation>>) -> Result<Vec<Miss>, AllocError> {
-    let begins = begins_of(alloc, histories)?;
+fn misses_of<'h>(
+    alloc: Global,
+    operations: &Vec<&'h Operation>,
+) -> Result<Vec<Miss<'h>>, AllocError> {
+    let begins = begins_of(alloc, operations)?;
     let mut misses: Vec<Miss> = Vec::new(alloc);
-    for operations in histories {
-        for operation in operations {
-            if let Some(miss) = miss_of(operation) {
-                misses.push(miss)?;
-            }
-            if let Some(miss) = missed_before(&begins, operation) {
-                misses.push(miss)?;
-            }
+    for operation in operations {
+        let operation: &'h Operation = *operation;
+        if let Some(miss) = miss_of(operation) {
+            misses.push(miss)?;
+        }
+        if let Some(miss) = missed_before(&begins, operation) {
+            misses.push(miss)?;
         }
     }
     Ok(misses)
@@ -545,13 +440,23 @@ fn contradiction(
     Ok(None)
 }
 
-fn suspect(alloc: Global, histories: &Vec<Vec<Operation>>) -> Result<Option<Passed>, AllocError> {
-    let Some(name) = first_name(histories) else {
-        return Ok(None);
-    };
-    let uses = uses_of(alloc, histories)?;
-    let stays = stays_of(alloc, &uses, known_until(name, histories))?;
-    let misses = misses_of(alloc, histories)?;
+// When the first call began after which nothing is known of the queue: it unbinds the name, or is a
+// receive that had not returned.
+fn known_until(queue: &Queue) -> u64 {
+    let mut until = queue.until;
+    for operation in &queue.operations {
+        if operation.call.is_receive() && is_pending(&operation.outcome) {
+            until = until.min(operation.begin);
+        }
+    }
+    until
+}
+
+// What may have been passed over in a queue.
+fn suspect(alloc: Global, queue: &Queue) -> Result<Option<Passed>, AllocError> {
+    let uses = uses_of(alloc, &queue.operations)?;
+    let stays = stays_of(alloc, &uses, known_until(queue))?;
+    let misses = misses_of(alloc, &queue.operations)?;
     let Some((stay, miss)) = contradiction(alloc, &stays, &misses)? else {
         return Ok(None);
     };
@@ -559,7 +464,7 @@ fn suspect(alloc: Global, histories: &Vec<Vec<Operation>>) -> Result<Option<Pass
         return Ok(None);
     }
     let message = stays[stay].message.to_vec(alloc)?;
-    let name = name.to_vec(alloc)?;
+    let name = queue.name.to_vec(alloc)?;
     let other = match misses[miss].other {
         None => None,
         Some(other) => {
@@ -577,6 +482,24 @@ fn suspect(alloc: Global, histories: &Vec<Vec<Operation>>) -> Result<Option<Pass
     }))
 }
 
+// The first of what may have been passed over in the queues.
+fn first_suspect(
+    alloc: Global,
+    histories: &Vec<Vec<Operation>>,
+) -> Result<Option<Passed>, AllocError> {
+    let queues = queues_of(alloc, histories)?;
+    let mut first: Option<Passed> = None;
+    for queue in &queues {
+        if let Some(found) = suspect(alloc, queue)? {
+            first = match first {
+                Some(other) if other.to <= found.to => Some(other),
+                _ => Some(found),
+            };
+        }
+    }
+    Ok(first)
+}
+
 /// A message that lay in its queue while a receive passed over it, if one is found. Such a history
 /// has no linearization.
 pub fn find_passed(
@@ -586,7 +509,7 @@ pub fn find_passed(
     ensures is { IfOk result (λ found. IfSome found (IsPassed histories.now.items)) }
     ensures none { IfOk result (λ found. IsSome found → HasNoOrder histories.now.items) }
 {
-    match suspect(alloc, histories)? {
+    match first_suspect(alloc, histories)? {
         None => Ok(None),
         Some(passed) => Ok(checked(passed, histories)),
     }

@@ -1,8 +1,12 @@
 use Rattle.std.proofs.Common.{◌≡◌, ◌≤◌, take}
-use Rattle.std.specs.List.{count_by}
+use Rattle.histories.specs.Named.{marks_of, no_marks}
 use Rattle.histories.specs.NotFull.{takes_out}
+use Rattle.histories.proofs.Marking.{tally}
 use Rattle.histories.proofs.not_full.taken_out.Given as goal
 
 abbrev pub invariant-loop-operation : goal.invariant-loop-operation
-invariant-loop-operation l =
-    (l.count ≡ count_by takes_out (take l.operation-index l.operations)) × (l.count ≤ l.operation-index)
+invariant-loop-operation l = record {
+  count : l.count ≡ tally takes_out l.name l.operations l.operation-index;
+  few : l.count ≤ l.operation-index;
+  marks : l.marks ≡ marks_of l.name no_marks (take l.operation-index l.operations);
+}

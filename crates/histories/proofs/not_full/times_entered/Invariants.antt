@@ -2,10 +2,11 @@ use Rattle.std.proofs.Common.{◌≡◌, ◌≤◌, ◌*◌, take, Vec}
 use Rattle.std.specs.List.{count_by, sum_by}
 use Rattle.std.specs.declared.alloc.Global.{Global}
 use Rattle.histories.specs.declared.operation.Operation.{Operation}
+use Rattle.histories.specs.Named.{calls_on}
 use Rattle.histories.specs.NotFull.{enters_by}
 use Rattle.histories.proofs.not_full.times_entered.Given as goal
 
 abbrev pub invariant-loop-operations : goal.invariant-loop-operations
 invariant-loop-operations l =
-    (l.count ≡ sum_by (λ (v : Vec Operation Global). count_by (enters_by l.time) v.items) (take l.operations-index l.histories.items))
+    (l.count ≡ sum_by (λ (v : Vec Operation Global). count_by (enters_by l.time) (calls_on l.name v.items)) (take l.operations-index l.histories.items))
     × (l.count ≤ l.operations-index * 18446744073709551616)

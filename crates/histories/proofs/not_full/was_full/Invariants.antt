@@ -1,11 +1,8 @@
-use Rattle.std.proofs.Common.{◌≡◌, take, Vec}
-use Rattle.std.specs.List.{list_any}
-use Rattle.std.specs.declared.alloc.Global.{Global}
-use Rattle.histories.specs.declared.operation.Operation.{Operation}
-use Rattle.histories.specs.Excess.{returned_by}
+use Rattle.std.proofs.Common.{◌≡◌, take}
+use Rattle.histories.specs.Named.{has_returned_on}
 use Rattle.histories.specs.NotFull.{finds_full}
 use Rattle.histories.proofs.not_full.was_full.Given as goal
 
 abbrev pub invariant-loop-operations : goal.invariant-loop-operations
 invariant-loop-operations l =
-    l.found ≡ list_any (λ (v : Vec Operation Global). list_any (finds_full l.from l.prio l.message) (returned_by l.to v.items)) (take l.operations-index l.histories.items)
+    l.full ≡ has_returned_on l.found.to l.found.name.items (finds_full l.found.from l.found.prio l.found.message.items) (take l.operations-index l.histories.items)

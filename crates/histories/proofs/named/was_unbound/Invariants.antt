@@ -2,9 +2,9 @@ use Rattle.std.proofs.Common.{◌≡◌, take, Vec}
 use Rattle.std.specs.List.{list_any}
 use Rattle.std.specs.declared.alloc.Global.{Global}
 use Rattle.histories.specs.declared.operation.Operation.{Operation}
-use Rattle.histories.specs.Passed.{may_receive}
-use Rattle.histories.proofs.passed.was_received.Given as goal
+use Rattle.histories.specs.Named.{unbinds}
+use Rattle.histories.proofs.named.was_unbound.Given as goal
 
 abbrev pub invariant-loop-operations : goal.invariant-loop-operations
 invariant-loop-operations l =
-    l.found ≡ list_any (λ (v : Vec Operation Global). list_any (may_receive l.time l.prio l.message) (v.items)) (take l.operations-index l.histories.items)
+    l.found ≡ list_any (λ (v : Vec Operation Global). list_any (unbinds l.time l.name) v.items) (take l.operations-index l.histories.items)

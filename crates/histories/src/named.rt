@@ -1,0 +1,106 @@
+//! Which operations of a process are on the queue of a name.
+ghost use Rattle.std.specs.Prelude.{◌≡◌};
+ghost use Rattle.std.specs.List.{list_any};
+ghost use Rattle.mq_model.specs.Descriptors.{descriptor_of};
+ghost use Rattle.mq_model.specs.Names.{is_open, is_unlink};
+ghost use Rattle.histories.specs.Named.{has_any, is_marked, marks_after, marks_opened, unbinds};
+
+use crate::excess::is_pending;
+use crate::operation::{Operation, Outcome};
+use mq_model::entries::Call;
+
+/// For each of the 16 descriptors of a process, whether it is of the queue: the latest open that
+/// returned it gave the queue's name.
+pub type Marks = [bool; 16];
+
+/// The descriptor that a call names.
+pub fn descriptor_of(call: Call) -> Option<u32>
+    ensures { result ≡ descriptor_of call }
+{
+    match call {
+        Call::MqClose { d } => Some(d),
+        Call::MqSend { d, .. } => Some(d),
+        Call::MqReceive { d, .. } => Some(d),
+        Call::MqTimedSend { d, .. } => Some(d),
+        Call::MqTimedReceive { d, .. } => Some(d),
+        Call::MqGetattr { d } => Some(d),
+        Call::MqSetattr { d, .. } => Some(d),
+        Call::MqNotify { d, .. } => Some(d),
+        _ => None,
+    }
+}
+
+pub fn is_open(call: Call) -> bool
+    ensures { result ≡ is_open call }
+{
+    matches!(call, Call::MqOpen { .. })
+}
+
+pub fn is_unlink(call: Call) -> bool
+    ensures { result ≡ is_unlink call }
+{
+    matches!(call, Call::MqUnlink)
+}
+
+/// Whether a descriptor is marked.
+pub fn is_marked(marks: &Marks, d: Option<u32>) -> bool
+    ensures { result ≡ is_marked marks.now d }
+{
+    match d {
+        None => false,
+        Some(d) => d < 16 && marks[d as usize],
+    }
+}
+
+fn marks_opened(name: &[u8], mut marks: Marks, given: &[u8], outcome: &Outcome) -> Marks
+    ensures { result ≡ marks_opened name.now marks given.now outcome.now }
+{
+    match outcome {
+        Outcome::Opened(d) => {
+            if *d < 16 {
+                marks[*d as usize] = given == name;
+            }
+            marks
+        }
+        _ => marks,
+    }
+}
+
+/// The marks after an operation: an open marks the descriptor that it returned if it gave the name.
+pub fn marks_after(name: &[u8], marks: Marks, operation: &Operation) -> Marks
+    ensures { result ≡ marks_after name.now marks operation.now }
+{
+    marks_opened(name, marks, &operation.given, &operation.outcome)
+}
+
+/// Whether an operation began by this time, and unlinks the name or is an open that had not
+/// returned.
+pub fn unbinds(time: u64, name: &[u8], operation: &Operation) -> bool
+    ensures { result ≡ unbinds time name.now operation.now }
+{
+    operation.begin <= time
+        && (is_unlink(operation.call) && operation.given.as_slice() == name
+            || is_open(operation.call) && is_pending(&operation.outcome))
+}
+
+fn one_unbinds(time: u64, name: &[u8], operations: &[Operation]) -> bool
+    ensures { result ≡ list_any (unbinds time name.now) operations.now }
+{
+    let mut found = false;
+    for operation in operations {
+        found = found || unbinds(time, name, operation);
+    }
+    found
+}
+
+/// Whether an operation that began by this time unlinks the name, or is an open that had not
+/// returned.
+pub fn was_unbound(time: u64, name: &[u8], histories: &Vec<Vec<Operation>>) -> bool
+    ensures { result ≡ has_any (unbinds time name.now) histories.now.items }
+{
+    let mut found = false;
+    for operations in histories {
+        found = found || one_unbinds(time, name, operations);
+    }
+    found
+}
