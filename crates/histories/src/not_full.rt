@@ -29,8 +29,8 @@ pub struct NotFull {
     pub from: u64,
     /// When the send had returned.
     pub to: u64,
-    /// How many receives from the queue had returned a message by `from`. A receive after a call of its process
-    /// that had not returned by then does not count.
+    /// How many receives from the queue had returned a message by `from`. A receive after a call of
+    /// its process that had not returned by then does not count.
     pub received: u128,
     /// How many sends to the queue that began by `to` succeeded, or had not returned when the
     /// history ended.
