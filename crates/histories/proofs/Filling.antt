@@ -39,10 +39,10 @@ use Rattle.histories.specs.declared.operation.Outcome.{Outcome}
 use Rattle.histories.specs.declared.operation.Outcome.TheVariants.{Pending, Done, Opened, Got, Attributes, Notice, Refused}
 use Rattle.histories.specs.Histories.{Histories, completed, current_of, is_complete}
 use Rattle.histories.specs.Linearizations.{ComesFrom, IsCallOf, IsLinearization}
-use Rattle.histories.specs.Outcomes.{fits}
+use Rattle.histories.specs.Outcomes.{fits, has_failed}
 use Rattle.histories.specs.Excess.{HasNoOrder, returned_by}
 use Rattle.histories.specs.Named.{calls_on, has_any, marks_of, no_marks}
-use Rattle.histories.specs.NotFull.{IsNotFull, asks_less, creates_less, enters_by, finds_full, found_full, has_failed, says_full, takes_out}
+use Rattle.histories.specs.NotFull.{IsNotFull, asks_less, creates_less, enters_by, finds_full, found_full, says_full, takes_out}
 use Rattle.histories.specs.declared.not_full.NotFull.{NotFull}
 use Rattle.histories.proofs.Balance.{HasName, balance}
 use Rattle.histories.proofs.Completing.{one_if}

@@ -33,9 +33,9 @@ use Rattle.histories.specs.declared.operation.Outcome.{Outcome}
 use Rattle.histories.specs.declared.operation.Outcome.TheVariants.{Pending, Done, Opened, Got, Attributes, Notice, Refused}
 use Rattle.histories.specs.Histories.{Histories, completed, current_of, is_pending}
 use Rattle.histories.specs.Linearizations.{ComesFrom, IsLinearization}
-use Rattle.histories.specs.Outcomes.{fits}
+use Rattle.histories.specs.Outcomes.{fits, has_failed}
 use Rattle.histories.specs.RealTime.{operation_at}
-use Rattle.histories.specs.Named.{has_any, is_marked, marks_opened, unbinds}
+use Rattle.histories.specs.Named.{has_any, has_unlinked, is_marked, marks_opened, unbinds}
 use Rattle.histories.proofs.Completing.{added, completed-free, completed-other, completed-own, free, made-own}
 use Rattle.histories.proofs.Cutting.{AreBegun, Ends, ends-older}
 use Rattle.histories.proofs.Marking.{marks_at, marks_at-length, marks_at-next, none-has}
@@ -76,16 +76,16 @@ creates-unbound past r legal is = by r.entry.call r.entry.reply refl legal.reply
 
 -- an operation that does not unbind the name
 record Keeps (name : List ℕ) (o : Operation) : Type 0 where
-  pub unlinks : (is_unlink o.call && bytes_eq o.given.items name) ≡ false
+  pub unlinks : has_unlinked name o ≡ false
   pub opens : is_open o.call ≡ true → is_pending o.outcome ≡ false
 
 keeps : (time : ℕ) (name : List ℕ) (o : Operation) → o.begin ≤ time → unbinds time name o ≡ false → Keeps name o
 keeps time name o begun stays =
-    let here : (is_unlink o.call && bytes_eq o.given.items name || is_open o.call && is_pending o.outcome) ≡ false = rw (le-leb o.begin time begun) at stays in
-    split (is_unlink o.call && bytes_eq o.given.items name)
-    (λ t. let bad : true ≡ false = rw t at here in absurd (cc))
+    let here : (has_unlinked name o || is_open o.call && is_pending o.outcome) ≡ false = rw (le-leb o.begin time begun) at stays in
+    split (has_unlinked name o)
+    (λ t. let bad : true ≡ false = ap (λ (b : Bool). b || (is_open o.call && is_pending o.outcome)) (sym t) ∙ here in absurd (cc))
     (λ f.
-    let rest : (is_open o.call && is_pending o.outcome) ≡ false = rw f at here in
+    let rest : (is_open o.call && is_pending o.outcome) ≡ false = ap (λ (b : Bool). b || (is_open o.call && is_pending o.outcome)) (sym f) ∙ here in
     record {
       unlinks = f;
       opens = λ opens. split (is_pending o.outcome)
@@ -322,10 +322,19 @@ call-marked time name histories past r linear begun stays own q on =
 
 -- the name has one queue -------------------------------------------------------------------------------------------------
 
-unlinks-own : (call : Call) (y : Reply) → unlinks call y ≡ true → (ends_wait call ≡ false) × (is_unlink call ≡ true)
-unlinks-own MqUnlink reply.Done e = (refl, refl)
+unlinks-own : (call : Call) (y : Reply) → unlinks call y ≡ true → (ends_wait call ≡ false) × (is_unlink call ≡ true) × (y ≡ reply.Done)
+unlinks-own MqUnlink reply.Done e = (refl, refl, refl)
 unlinks-own call reply.Done e = absurd (let bad : false ≡ true = e in cc)
 unlinks-own call y e = absurd (let bad : false ≡ true = e in cc)
+
+done-went : (past : Past) (x : Outcome) → fits past reply.Done x ≡ true → has_failed x ≡ false
+done-went past (Refused f) fit = absurd (let bad : false ≡ true = fit in cc)
+done-went past Pending fit = refl
+done-went past Done fit = refl
+done-went past (Opened d) fit = refl
+done-went past (Got p m) fit = refl
+done-went past (Attributes s) fit = refl
+done-went past (Notice v) fit = refl
 
 -- a queue of the name that was created is bound to it
 is-bound : (time : ℕ) (name : List ℕ) (histories : Histories) (past : Past) (linear : IsLinearization histories past) → AreBegun time histories past linear → has_any (unbinds time name) histories ≡ false →
@@ -350,7 +359,9 @@ is-bound time name histories (r ∷ past) linear begun stays q made named = crea
     let call = own-call histories past r linear.2 says.0 in
     let unlink : is_unlink linear.2.operation.call ≡ true = ap is_unlink (sym call.call) ∙ says.1 in
     let payload : r.payload ≡ linear.2.operation.given.items = call.payload ∙ unlink-payload linear.2.operation.call r.entry.reply linear.2.operation.given.items unlink in
-    let no : bytes_eq linear.2.operation.given.items name ≡ false = rw unlink at keeps.unlinks in
+    let fit : fits past reply.Done linear.2.operation.outcome ≡ true = subst (λ (y : Reply). fits past y linear.2.operation.outcome ≡ true) says.2 linear.2.fits in
+    let went = done-went past linear.2.operation.outcome fit in
+    let no : bytes_eq linear.2.operation.given.items name ≡ false = rw (unlink, went) at keeps.unlinks in
     rw t (ap (λ (b : List ℕ). bytes_eq b name) payload ∙ no))
     (λ f. rw f refl) in
     rw (creates_not, unlinks_not) before)

@@ -1,6 +1,6 @@
 -- Which operations of a process are on the queue of a name: those through a descriptor that the
 -- latest open which returned it opened under this name.
-use Rattle.std.specs.Prelude.{ℕ, Bool, false, nat_lt, ◌&&◌, ◌||◌, nat_le, List, [], ◌∷◌, Option, None, Some, replicate, slice_set, slice_index_or, if◌then◌else◌, Vec}
+use Rattle.std.specs.Prelude.{ℕ, Bool, false, not, nat_lt, ◌&&◌, ◌||◌, nat_le, List, [], ◌∷◌, Option, None, Some, replicate, slice_set, slice_index_or, if◌then◌else◌, Vec}
 use Rattle.std.specs.List.{list_any}
 use Rattle.std.specs.Str.{bytes_eq}
 use Rattle.std.specs.declared.alloc.Global.{Global}
@@ -11,6 +11,7 @@ use Rattle.histories.specs.declared.operation.Operation.{Operation}
 use Rattle.histories.specs.declared.operation.Outcome.{Outcome}
 use Rattle.histories.specs.declared.operation.Outcome.TheVariants.{Opened}
 use Rattle.histories.specs.Excess.{returned_by}
+use Rattle.histories.specs.Outcomes.{has_failed}
 
 -- for each of the 16 descriptors of a process, whether it is of the queue
 abbrev pub Marks : Type 0
@@ -60,9 +61,12 @@ abbrev pub has_returned_on : ℕ → List ℕ → (Operation → Bool) → Histo
 has_returned_on time name test histories =
     list_any (λ (v : Vec Operation Global). list_any test (calls_on name (returned_by time v.items))) histories
 
--- A call that began by this time, and unlinks the name or is an open that had not returned. Without
+-- an unlink of the name that did not fail
+abbrev pub has_unlinked : List ℕ → Operation → Bool
+has_unlinked name o = is_unlink o.call && not (has_failed o.outcome) && bytes_eq o.given.items name
+
+-- A call that began by this time, and is such an unlink or an open that had not returned. Without
 -- one, the name has one queue until then, and each open shows its descriptor.
 abbrev pub unbinds : ℕ → List ℕ → Operation → Bool
 unbinds time name o =
-    nat_le o.begin time &&
-    (is_unlink o.call && bytes_eq o.given.items name || is_open o.call && is_pending o.outcome)
+    nat_le o.begin time && (has_unlinked name o || is_open o.call && is_pending o.outcome)

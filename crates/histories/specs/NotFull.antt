@@ -11,6 +11,7 @@ use Rattle.mq_model.specs.declared.faults.Fault.{Fault}
 use Rattle.mq_model.specs.declared.faults.Fault.TheVariants.{Again, TimedOut}
 use Rattle.histories.specs.Histories.{Histories}
 use Rattle.histories.specs.Excess.{returned_by}
+use Rattle.histories.specs.Outcomes.{has_failed}
 use Rattle.histories.specs.Named.{calls_on, has_any, has_returned_on, unbinds}
 use Rattle.histories.specs.declared.operation.Operation.{Operation}
 use Rattle.histories.specs.declared.operation.Outcome.{Outcome}
@@ -69,10 +70,6 @@ abbrev pub asks_less : ℕ → Call → Bool
 asks_less capacity (MqOpen flags attr) =
     flags.create && int_lt (attributes_given (MqOpen flags attr)).maxmsg (pos capacity)
 asks_less capacity _ = false
-
-abbrev pub has_failed : Outcome → Bool
-has_failed (Refused fault) = true
-has_failed _ = false
 
 -- such an open of this name that began by this time and did not fail
 abbrev pub creates_less : ℕ → List ℕ → ℕ → Operation → Bool

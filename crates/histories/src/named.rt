@@ -3,10 +3,10 @@ ghost use Rattle.std.specs.Prelude.{◌≡◌};
 ghost use Rattle.std.specs.List.{list_any};
 ghost use Rattle.mq_model.specs.Descriptors.{descriptor_of};
 ghost use Rattle.mq_model.specs.Names.{is_open, is_unlink};
-ghost use Rattle.histories.specs.Named.{has_any, is_marked, marks_after, marks_opened, unbinds};
+ghost use Rattle.histories.specs.Named.{has_any, has_unlinked, is_marked, marks_after, marks_opened, unbinds};
 
 use crate::excess::is_pending;
-use crate::operation::{Operation, Outcome};
+use crate::operation::{Operation, Outcome, has_failed};
 use mq_model::entries::Call;
 
 /// For each of the 16 descriptors of a process, whether it is of the queue: the latest open that
@@ -36,7 +36,7 @@ pub fn is_open(call: Call) -> bool
     matches!(call, Call::MqOpen { .. })
 }
 
-pub fn is_unlink(call: Call) -> bool
+fn is_unlink(call: Call) -> bool
     ensures { result ≡ is_unlink call }
 {
     matches!(call, Call::MqUnlink)
@@ -73,13 +73,21 @@ pub fn marks_after(name: &[u8], marks: Marks, operation: &Operation) -> Marks
     marks_opened(name, marks, &operation.given, &operation.outcome)
 }
 
-/// Whether an operation began by this time, and unlinks the name or is an open that had not
-/// returned.
-pub fn unbinds(time: u64, name: &[u8], operation: &Operation) -> bool
+/// Whether an operation is an unlink of the name that did not fail.
+pub fn has_unlinked(name: &[u8], operation: &Operation) -> bool
+    ensures { result ≡ has_unlinked name.now operation.now }
+{
+    is_unlink(operation.call)
+        && !has_failed(&operation.outcome)
+        && operation.given.as_slice() == name
+}
+
+// Whether an operation began by this time, and is such an unlink or an open that had not returned.
+fn unbinds(time: u64, name: &[u8], operation: &Operation) -> bool
     ensures { result ≡ unbinds time name.now operation.now }
 {
     operation.begin <= time
-        && (is_unlink(operation.call) && operation.given.as_slice() == name
+        && (has_unlinked(name, operation)
             || is_open(operation.call) && is_pending(&operation.outcome))
 }
 
@@ -93,8 +101,8 @@ fn one_unbinds(time: u64, name: &[u8], operations: &[Operation]) -> bool
     found
 }
 
-/// Whether an operation that began by this time unlinks the name, or is an open that had not
-/// returned.
+/// Whether an operation that began by this time is an unlink of the name that did not fail, or an
+/// open that had not returned.
 pub fn was_unbound(time: u64, name: &[u8], histories: &Vec<Vec<Operation>>) -> bool
     ensures { result ≡ has_any (unbinds time name.now) histories.now.items }
 {

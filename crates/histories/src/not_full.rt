@@ -3,11 +3,11 @@ ghost use Rattle.std.specs.Prelude.{◌≡◌, IfOk, IfSome, IsSome};
 ghost use Rattle.std.specs.List.{count_by, list_any};
 ghost use Rattle.histories.specs.Excess.{HasNoOrder};
 ghost use Rattle.histories.specs.Named.{calls_on, has_any, has_returned_on};
-ghost use Rattle.histories.specs.NotFull.{IsNotFull, asks_less, creates_less, enters_by, finds_full, found_full, has_failed, is_got, may_enter, says_full, takes_out, times_entered, times_taken};
+ghost use Rattle.histories.specs.NotFull.{IsNotFull, asks_less, creates_less, enters_by, finds_full, found_full, is_got, may_enter, says_full, takes_out, times_entered, times_taken};
 
 use crate::excess::returned_by;
 use crate::named::{Marks, descriptor_of, is_marked, marks_after, was_unbound};
-use crate::operation::{Operation, Outcome};
+use crate::operation::{Operation, Outcome, has_failed};
 use crate::queues::{Queue, queues_of};
 use mq_model::entries::Call;
 use mq_model::error_order::attributes_given;
@@ -100,16 +100,6 @@ fn asks_less(capacity: u64, call: Call) -> bool
         Call::MqOpen { flags, attr: _ } => {
             flags.create && i128::from(attributes_given(call).maxmsg) < i128::from(capacity)
         }
-        _ => false,
-    }
-}
-
-/// Whether a call failed.
-pub fn has_failed(outcome: &Outcome) -> bool
-    ensures { result ≡ has_failed outcome.now }
-{
-    match outcome {
-        Outcome::Refused(_) => true,
         _ => false,
     }
 }

@@ -1,6 +1,6 @@
 //! The calls of a history by the queues on which they were made, for guesses that are checked.
 use crate::excess::is_pending;
-use crate::named::{descriptor_of, is_open, is_unlink};
+use crate::named::{descriptor_of, has_unlinked, is_open};
 use crate::operation::{Operation, Outcome};
 use std::alloc::{AllocError, Global};
 
@@ -11,7 +11,7 @@ pub struct Queue<'h> {
     /// The opens that give the name.
     pub opens: Vec<&'h Operation>,
     pub operations: Vec<&'h Operation>,
-    /// When the first call began that unlinks the name, or is an open that had not returned.
+    /// When the first call began that unlinked the name, or is an open that had not returned.
     pub until: u64,
 }
 
@@ -73,9 +73,9 @@ pub fn queues_of(alloc: Global, histories: &Vec<Vec<Operation>>) -> Result<Vec<Q
             {
                 queues[queue].opens.push(operation)?;
             }
-            if is_unlink(operation.call)
-                && let Ok(queue) = names.binary_search(&operation.given.as_slice())
+            if let Ok(queue) = names.binary_search(&operation.given.as_slice())
                 && queue < queues.len()
+                && has_unlinked(queues[queue].name, operation)
             {
                 queues[queue].until = queues[queue].until.min(operation.begin);
             }

@@ -1,5 +1,5 @@
 -- What it means that a history is linearizable, and what the result of a check says.
-use Rattle.std.specs.Prelude.{◌≡◌, ℕ, ◌+◌, ◌-◌, ◌/◌, ◌<◌, Bool, true, false, is_none, map, min, List, length, IfSome, Option, Some, Vec, slice_get}
+use Rattle.std.specs.Prelude.{◌≡◌, ℕ, ◌+◌, ◌-◌, ◌*◌, ◌/◌, ◌<◌, Bool, true, false, is_none, map, min, List, length, IfSome, Option, Some, Vec, slice_get}
 use Rattle.std.specs.List.{list_all}
 use Rattle.std.specs.declared.alloc.Global.{Global}
 use Rattle.mq_model.specs.Record.{Past}
@@ -70,10 +70,11 @@ pub record HasContradiction (calls : List Called) (reason : Contradiction) : Typ
   pub are : AreHistoriesOf calls histories
   pub contradiction : IsContradiction histories reason
 
--- The budget for each prefix of this number of calls. The result is known by then, so the longer the
--- history, the less each prefix is worth.
+-- The budget for each prefix of this number of calls: enough for an order that is found at once, and
+-- a part of the whole. The result is known by then, so the longer the history, the less each prefix
+-- is worth; and a step back costs as much as the history is long.
 abbrev pub front_budget : ℕ → ℕ → ℕ
-front_budget budget count = budget / (1 + count / 50)
+front_budget budget count = min (2 * count + budget / (1 + count / 50) / (1 + count / 50)) budget
 
 -- The front is a prefix that is not linearizable, with this contradiction if one is given. It ends
 -- with the return of the call; the whole history ends with the last return. If it is the shortest,

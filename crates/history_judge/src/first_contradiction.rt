@@ -1,8 +1,8 @@
 //! The first prefix in which calls may contradict each other.
 use crate::line::Called;
 use histories::excess::may_have_sent;
-use histories::not_full::{NotFull, has_failed};
-use histories::operation::Outcome;
+use histories::not_full::NotFull;
+use histories::operation::{Outcome, has_failed};
 use mq_model::entries::Call;
 use std::alloc::{AllocError, Global};
 

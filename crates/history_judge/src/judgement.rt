@@ -94,9 +94,9 @@ pub enum Judgement {
 }
 
 /// Checks a history of processes from 1 to 32 within `budget` steps. If it is not linearizable, a
-/// shorter prefix that is not is looked for, within a part of `budget` for each prefix: all of it for
-/// fewer than 50 calls, half for fewer than 100, a third for fewer than 150. Fails if memory was
-/// refused.
+/// shorter prefix that is not is looked for. For each prefix that search has two steps for each call,
+/// and a part of `budget`: all of it for fewer than 50 calls, a quarter for fewer than 100, a ninth
+/// for fewer than 150, but no more than `budget`. Fails if memory was refused.
 pub fn judge_calls(alloc: Global, calls: &[Called], budget: u64) -> Result<Judgement, AllocError>
     requires { AreOfProcesses calls.now }
     ensures { IfOk result (IsJudgement budget calls.now) }
@@ -114,7 +114,9 @@ pub fn judge_calls(alloc: Global, calls: &[Called], budget: u64) -> Result<Judge
 fn front_budget(budget: u64, count: usize) -> u64
     ensures { result ≡ front_budget budget count }
 {
-    budget / (1 + count as u64 / 50)
+    let parts = 1 + count as u64 / 50;
+    let steps = 2 * count as u128 + u128::from(budget / parts / parts);
+    steps.min(u128::from(budget)) as u64
 }
 
 // The shortest prefix that is not linearizable, of a history that is not.
