@@ -7,6 +7,7 @@ from importlib.util import module_from_spec, spec_from_loader
 TOP = os.path.dirname(os.path.dirname(os.path.abspath(__file__)))
 MQRUN = f"{TOP}/crates/mqrun/out/mqrun"
 MQLOG = f"{TOP}/crates/mqlog/out/mqlog"
+PROGRAMS = {"mqrun": MQRUN, "mqlog": MQLOG}
 
 
 def tool(path):
