@@ -148,17 +148,24 @@ def all_cases():
         yield from cases_of(file)
 
 
+def is_wrong(lines, sign, text):
+    """Whether lines do not have a line once or lack it, or do not have some that begin with it."""
+    if isinstance(sign, int):
+        return sum(it.startswith(text) for it in lines) != sign
+    return lines.count(text) != (sign == "+")
+
+
 def wrong_output(case, out):
     """What is wrong with an output, or None."""
     if case.parts:
-        found = out.decode(errors="replace").splitlines()
-        wrong = [text for sign, text in case.parts if found.count(text) != (sign == "+")]
-        return f"{wrong} in {out!r}" if wrong else None
-    wanted = "".join(f"{it}\n" for it in case.out)
-    if wanted.endswith("...\n"):
-        wanted = wanted.removesuffix("...\n").encode()
+        lines = out.decode(errors="replace").splitlines()
+        parts = [it for it in case.parts if is_wrong(lines, *it)]
+        return f"{parts} of {out!r}" if parts else None
+    wanted = "".join(f"{it}\n" for it in case.out).encode(errors="surrogateescape")
+    if wanted.endswith(b"...\n"):
+        wanted = wanted.removesuffix(b"...\n")
         return None if out.startswith(wanted) else f"{out!r}, not first {wanted!r}"
-    return None if out == wanted.encode() else f"{out!r}, not {wanted!r}"
+    return None if out == wanted else f"{out!r}, not {wanted!r}"
 
 
 def wrong(case, run):

@@ -33,6 +33,11 @@ def scripts():
     yield case("a malformed name leaves no entry", "mqlog run", names, out=journal)
     zero = "processes 1\n1 open /q\0 bc\n"
     yield case("a byte 0 in a name", "mqrun", zero, out=("1 EINVAL", "history ok"))
+    letters = bytes(it for it in range(256) if it not in b" \n")
+    script = b"processes 1\n1 open /q bc 1 300\n1 send 0 0 " + letters + b"\n1 recv 0 300\n"
+    got = f"1 got 0 254 {letters.decode(errors='surrogateescape')}"
+    replies = ("1 fd 0", "1 ok", got, "history ok")
+    yield case("any byte in a message", "mqrun", script, out=replies)
     head = "processes 1\n"
     full = head + (MOST_BYTES - len(head)) * "#"
     yield case("a script of 1,048,576 bytes", "mqrun", full, out=("history ok",))
@@ -83,6 +88,18 @@ def has(*found):
     return {"parts": tuple(("+", it) for it in found)}
 
 
+# Parts of a journal of twenty entries, and how many each shows.
+MOST = 2**64 - 1
+WINDOWS = (
+    ("--from 3 --to 5", 3),
+    ("--from 19 --to 19", 1),
+    ("--from 20 --to 30", 0),
+    ("--from 5 --to 4", 0),
+    (f"--from 15 --to {MOST}", 5),
+    (f"--from {MOST} --to {MOST}", 0),
+)
+
+
 def pictures():
     """Pictures of long journals and of many processes."""
     lane = '<text class="lane" x="{}" y="{}">{}</text>'
@@ -94,6 +111,11 @@ def pictures():
     found = has(*(lane.format(60, y, 1) for y in (48, 864, 1680)))
     long = refused(101, lambda place: 1)
     yield case("numbers stand again before each fiftieth entry", "mqlog draw", long, **found)
+    longest = refused(2_100, lambda place: 33)
+    yield case("at most 2,000 entries", "mqlog draw", longest, parts=((2_000, "<g "),))
+    for window, count in WINDOWS:
+        twenty = refused(20, lambda place: place % 3)
+        yield case(f"a part {window}", f"mqlog draw {window}", twenty, parts=((count, "<g "),))
 
 
 # Messages for two processes that each receive some times, and the outcomes and deadlocks. If there

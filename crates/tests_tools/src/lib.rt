@@ -1,23 +1,16 @@
 //! Tests of what the programs rest on: the bytes, words and numbers that `text_io` reads and
-//! writes, the runs of scripts, every interleaving of a script's calls, the exploration of small
-//! programs, compared with all their interleavings, and the tasks of `mqlog`. They are in a crate
-//! of their own, so that none of those crates is proved again for them.
+//! writes, scripts over readers, writers and gates of the tests, and the exploration of small
+//! programs, compared with all their interleavings. They are in a crate of their own, so that none
+//! of those crates is proved again for them. `checks/command_line` gives the programs themselves
+//! scripts, journals and histories.
 #![tactic(auto)]
 
 #[cfg(test)]
 mod comparing;
 #[cfg(test)]
-mod counts;
-#[cfg(test)]
 mod generated;
 #[cfg(test)]
 mod interleavings;
-#[cfg(test)]
-mod logs;
-#[cfg(test)]
-mod malformed;
-#[cfg(test)]
-mod orders;
 #[cfg(test)]
 mod program;
 #[cfg(test)]

@@ -1,4 +1,4 @@
-// Readers and writers that fail.
+//! Readers and writers that fail.
 use crate::same::same;
 use std::alloc::Global;
 use std::io;
@@ -6,21 +6,22 @@ use std::io::{Error, ErrorKind, Read, Write};
 use std::test::Fail;
 use text_io::input::{ReadFault, read_all};
 use text_io::output::{WriteFailed, write_all};
-use text_io::sources::{Memory, Watched};
+use text_io::sources::Watched;
 
-// Gives its bytes one at a time, and fails at one read.
+/// A reader that returns its bytes one by one, and fails at the read `fails_at`, counted from 1.
 #[derive(Drop)]
-struct OneByOne {
-    rest: &'static [u8],
-    reads: usize,
-    fails_at: usize,
+pub struct OneByOne {
+    pub rest: &'static [u8],
+    pub reads: usize,
+    pub fails_at: usize,
+    pub kind: ErrorKind,
 }
 
 impl Read for OneByOne {
     fn read(&mut self, buf: &mut [u8]) -> io::Result<usize> {
         self.reads = self.reads.saturating_add(1);
         if self.reads == self.fails_at {
-            return Err(Error::from(ErrorKind::Interrupted));
+            return Err(Error::from(self.kind));
         }
         match (self.rest, buf) {
             ([first, others @ ..], [place, ..]) => {
@@ -33,14 +34,20 @@ impl Read for OneByOne {
     }
 }
 
-// The bytes from a reader that fails at this read. Whether a read failed is noted.
+/// A reader of these bytes.
+pub fn one_by_one(rest: &'static [u8], fails_at: usize, kind: ErrorKind) -> OneByOne {
+    OneByOne {
+        rest,
+        reads: 0,
+        fails_at,
+        kind,
+    }
+}
+
+// The bytes from a reader that fails at this read, and whether a read failed.
 fn bytes_until(alloc: Global, fails_at: usize, most: usize) -> (Result<Vec<u8>, ReadFault>, bool) {
     let mut input = Watched {
-        reader: OneByOne {
-            rest: b"abc",
-            reads: 0,
-            fails_at,
-        },
+        reader: one_by_one(b"abc", fails_at, ErrorKind::Interrupted),
         failed: false,
     };
     let read = read_all(alloc, &mut input, most);
@@ -51,12 +58,7 @@ fn bytes_until(alloc: Global, fails_at: usize, most: usize) -> (Result<Vec<u8>, 
 fn all_is_read_unless_a_read_fails(rt: HostRuntime) -> Result<(), Fail> {
     for fails_at in 1..=4 {
         let (read, failed) = bytes_until(rt.alloc(), fails_at, 256);
-        same(
-            &rt,
-            read.err(),
-            Some(ReadFault::Failed),
-            "a read that fails",
-        );
+        same(&rt, read.err(), Some(ReadFault::Failed), "a read fails");
         assert!(rt; failed, "{fails_at}");
     }
     for most in [3, 4, 256, usize::MAX] {
@@ -67,53 +69,28 @@ fn all_is_read_unless_a_read_fails(rt: HostRuntime) -> Result<(), Fail> {
     Ok(())
 }
 
-#[test]
-fn reading_stops_with_the_first_byte_that_is_one_too_many(rt: HostRuntime) -> Result<(), Fail> {
-    let mut input = OneByOne {
-        rest: b"abc",
-        reads: 0,
-        fails_at: 0,
-    };
-    let front = read_all(rt.alloc(), &mut input, 1)?;
-    assert!(rt; front.as_slice() == b"ab".as_slice());
-    same(&rt, input.reads, 2, "the reads");
-    let rest = read_all(rt.alloc(), &mut input, 1)?;
-    assert!(rt; rest.as_slice() == b"c".as_slice());
-    Ok(())
-}
-
-#[test]
-fn pieces_of_an_input_are_put_together(rt: HostRuntime) -> Result<(), Fail> {
-    let mut whole = Vec::new(rt.alloc());
-    for k in 0..10_000u32 {
-        whole.push((k % 251) as u8)?;
-    }
-    let mut input = Memory {
-        rest: whole.as_slice(),
-    };
-    let all = read_all(rt.alloc(), &mut input, 1_048_576)?;
-    assert!(rt; all.as_slice() == whole.as_slice());
-    Ok(())
-}
-
-// Takes one byte per write. If there is no room left, it takes nothing or fails.
+/// A writer that takes `width` bytes per write, `writes` times, and then takes nothing, or fails.
 #[derive(Drop)]
-struct Narrow {
-    taken: Vec<u8>,
-    room: usize,
-    fails: bool,
+pub struct Narrow {
+    pub taken: Vec<u8>,
+    pub width: usize,
+    pub writes: usize,
+    pub fails: bool,
 }
 
 impl Write for Narrow {
     fn write(&mut self, buf: &[u8]) -> io::Result<usize> {
-        match buf.first() {
-            Some(first) if self.taken.len() < self.room => {
-                self.taken.push(*first)?;
-                Ok(1)
-            }
-            _ if self.fails => Err(Error::from(ErrorKind::Interrupted)),
-            _ => Ok(0),
+        if self.writes == 0 {
+            return if self.fails {
+                Err(Error::from(ErrorKind::Interrupted))
+            } else {
+                Ok(0)
+            };
         }
+        self.writes -= 1;
+        let count = buf.len().min(self.width);
+        self.taken.extend_from_slice(&buf[..count])?;
+        Ok(count)
     }
 
     fn flush(&mut self) -> io::Result<()> {
@@ -125,16 +102,17 @@ impl Write for Narrow {
 fn all_is_written_unless_a_write_fails(rt: HostRuntime) {
     let bytes = b"abc".as_slice();
     for fails in [false, true] {
-        for room in 0..=3 {
+        for writes in 0..=3 {
             let mut output = Narrow {
                 taken: Vec::new(rt.alloc()),
-                room,
+                width: 1,
+                writes,
                 fails,
             };
             let outcome = write_all(&mut output, bytes);
-            let wanted = if room < 3 { Err(WriteFailed) } else { Ok(()) };
+            let wanted = if writes < 3 { Err(WriteFailed) } else { Ok(()) };
             same(&rt, outcome, wanted, "a narrow output");
-            assert!(rt; output.taken.as_slice() == &bytes[..room], "at {room}");
+            assert!(rt; output.taken.as_slice() == &bytes[..writes], "at {writes}");
         }
     }
 }
@@ -143,11 +121,7 @@ fn all_is_written_unless_a_write_fails(rt: HostRuntime) {
 fn faults_have_their_texts(rt: HostRuntime) -> Result<(), Fail> {
     let (failed, no_memory) = (ReadFault::Failed, ReadFault::NoMemory);
     let texts = format!(in rt.alloc(); "{failed}, {no_memory}, {WriteFailed}")?;
-    same(
-        &rt,
-        texts.as_str(),
-        "a read failed, no memory, a write failed",
-        "the texts",
-    );
+    let wanted = "a read failed, no memory, a write failed";
+    same(&rt, texts.as_str(), wanted, "the texts");
     Ok(())
 }
