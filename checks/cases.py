@@ -4,6 +4,7 @@ A case is a group of lines:
   # what it shows
   $ mqlog state --at 3    the command line
   > text                  a line of the standard input
+  ~ text                  a line in place of that of the input with the same first word
   NAME> text              a line of the file NAME, in the folder where the program runs
   < text                  a line of the output; if the last one ends in `...`, more may follow
   + text                  in place of `<`: a line that the output has once; `-`: one that it lacks
@@ -14,7 +15,7 @@ A case is a group of lines:
   % prefixes              further cases: each prefix of the input is a whole run, or its last line
                           is malformed
 A line of input that ends in a backslash has no line feed. Without a command line, an input or a
-file, a case has that of the case before it.
+file, a case has that of the case before it, where no line is replaced.
 """
 import json
 import os
@@ -61,6 +62,13 @@ def fed(line):
     return line[:-1].encode() if line.endswith("\\") else f"{line}\n".encode()
 
 
+def replaced(given, lines):
+    """An input with lines in place of those with the same first word, or after them all."""
+    found = {it.split()[0]: it for it in given.splitlines()} if lines else {}
+    found |= {it.split()[0]: it for it in map(str.encode, lines)}
+    return b"".join(it + b"\n" for it in found.values()) if lines else given
+
+
 def parsed(group):
     """The lines of a case, by their kind."""
     lines = Lines()
@@ -74,7 +82,7 @@ def parsed(group):
             lines.files[kind[:-1]] = lines.files.get(kind[:-1], b"") + fed(text)
         elif kind in ("?", "%"):
             lines.more.append((kind, text))
-        elif kind in ("#", "<", "!", "=", "*", "+", "-"):
+        elif kind in ("#", "<", "!", "=", "*", "+", "-", "~"):
             lines.rest.setdefault(kind, []).append(text)
         else:
             raise ValueError(f"a line begins with {kind}")
@@ -129,6 +137,7 @@ def cases_of(file):
         )
         case = replace(
             bare,
+            given=replaced(bare.given, rest.get("~", ())),
             status=int(rest.get("=", ["0"])[0]),
             out=tuple(rest.get("<", ())),
             parts=tuple((sign, text) for sign in "+-" for text in rest.get(sign, ())),

@@ -1,17 +1,15 @@
 //! Tests of the library, through the public items of its crates: Lamport's machine and the locks,
-//! the definitions, the laws and the checker of journals, the messages of a queue, the queues of
-//! one thread, and the processes. They are in a crate of their own, so that none of those crates
-//! is proved again for them.
+//! the laws of journals, the messages of a queue, the queues of one thread, and the processes. They
+//! are in a crate of their own, so that none of those crates is proved again for them.
+//! `checks/cases/legality` has worked journals.
 #![tactic(auto)]
 
 #[cfg(test)]
 mod books;
 #[cfg(test)]
-mod calls;
-#[cfg(test)]
 mod fingerprint;
 #[cfg(test)]
-mod histories;
+mod laws;
 #[cfg(test)]
 mod locks;
 #[cfg(test)]
@@ -19,20 +17,10 @@ mod machine;
 #[cfg(test)]
 mod making;
 #[cfg(test)]
-mod process_rows;
-#[cfg(test)]
 mod processes;
 #[cfg(test)]
 mod refusals;
 #[cfg(test)]
-mod round_robins;
-#[cfg(test)]
-mod rows;
-#[cfg(test)]
 mod same;
 #[cfg(test)]
 mod slots;
-#[cfg(test)]
-mod ways;
-#[cfg(test)]
-mod worlds;

@@ -1,104 +1,126 @@
-//! Worked schedules, with everything that a world shows after them.
-ghost use Rattle.std.specs.Prelude.{◌≡◌, ◌≤◌, IfOk, length};
+//! Worked schedules of Lamport's machine, with everything that a world shows after them, and steps
+//! into the critical section.
+ghost use Rattle.std.specs.Prelude.{◌≡◌, ◌≤◌, IfOk};
 ghost use Rattle.lamport_core.specs.Machine.{count};
 
 use crate::refusals::{refuse_all, say_refused};
+use crate::same::same;
 use lamport_core::{At, World};
+use lamport_progress::way_inside;
 use std::alloc::{AllocError, Global};
 use std::io::Print;
 use std::process::Abort;
 use std::test::Fail;
 
-// The start. One allocation may be made to fail from outside, and after the start every one.
+// The start. One allocation may be made to fail from outside.
 fn start<R: Print>(rt: &R, alloc: Global, n: u32) -> Result<World, AllocError>
     requires { 1 ≤ n }
     ensures { IfOk result (λ world. count world ≡ n) }
 {
-    let world = match World::new(alloc, n) {
-        Ok(world) => world,
+    match World::new(alloc, n) {
+        Ok(world) => Ok(world),
         Err(_) => {
             say_refused(rt, "the making");
-            World::new(alloc, n)?
+            World::new(alloc, n)
         }
-    };
-    refuse_all(rt, alloc);
-    Ok(world)
+    }
 }
 
 // The point, the flag and the steps of a process.
 type Seen = (At, bool, u64);
 
-// These are the points, flags and steps of the n processes, the words x and y, and the process in
-// its critical section.
-fn expect_world<A: Abort>(
+// A schedule, what each process shows after it, the words x and y, and the process in its critical
+// section.
+type Row = (&'static [u32], &'static [Seen], (u32, u32, Option<u32>));
+
+// In the last row process 2 sets y to 0 while process 1 is at its test of x.
+static ROWS: [Row; 6] = [
+    (
+        &[],
+        &[(At::Rest, false, 0), (At::Rest, false, 0)],
+        (0, 0, None),
+    ),
+    (
+        &[1, 1, 1, 1, 1, 1, 1],
+        &[(At::Rest, false, 7)],
+        (1, 0, None),
+    ),
+    (
+        &[2, 2],
+        &[(At::Rest, false, 0), (At::TestY, true, 2)],
+        (2, 0, None),
+    ),
+    (
+        &[1, 1, 1, 2, 2, 1, 1, 2, 2, 1, 1, 1, 1],
+        &[(At::Slow, false, 9), (At::AwaitY, false, 4)],
+        (2, 1, Some(1)),
+    ),
+    (
+        &[1, 1, 1, 2, 2, 2, 1, 1, 2, 2, 1, 1, 1],
+        &[(At::Scan(2), false, 8), (At::Fast, true, 5)],
+        (2, 2, Some(2)),
+    ),
+    (
+        &[1, 1, 1, 2, 2, 2, 2, 2, 1, 2, 3, 3, 3, 3, 3, 1, 1, 1, 1],
+        &[
+            (At::Scan(2), false, 8),
+            (At::Leaving, true, 6),
+            (At::Fast, true, 5),
+        ],
+        (3, 3, Some(3)),
+    ),
+];
+
+// Takes the steps of a row. After the start every allocation may be made to fail from outside, if
+// the row is the last one.
+fn expect_row<A: Abort + Print>(
     rt: &A,
-    world: &World,
-    n: u32,
-    processes: &[Seen],
-    words: (u32, u32, Option<u32>),
-)
-    requires count { count world.now ≡ n }
-    requires each { length processes.now ≡ n }
-{
+    alloc: Global,
+    row: Row,
+    is_last: bool,
+) -> Result<(), AllocError> {
+    let (schedule, wanted, words) = row;
+    let n = (wanted.len() as u32).clamp(1, 3);
+    let mut world = start(rt, alloc, n)?;
+    if is_last {
+        refuse_all(rt, alloc);
+    }
+    for i in schedule {
+        world.step((*i).clamp(1, n));
+    }
     for i in 1..=n {
         let found = (world.at(i), world.b(i), world.steps(i));
-        assert_eq!(rt; found, processes[(i - 1) as usize], "process {i}");
+        assert_eq!(rt; Some(&found), wanted.get((i - 1) as usize), "process {i}");
     }
     assert_eq!(rt; (world.x(), world.y(), world.inside()), words);
-}
-
-#[test]
-fn slow_process_goes_in_while_another_awaits(rt: HostRuntime) -> Result<(), Fail> {
-    let mut world = start(&rt, rt.alloc(), 2)?;
-    world.run(&[1, 1, 1, 2, 2, 1, 1, 2, 2, 1, 1, 1, 1]);
-    let processes = [(At::Slow, false, 9), (At::AwaitY, false, 4)];
-    expect_world(&rt, &world, 2, &processes, (2, 1, Some(1)));
     Ok(())
 }
 
 #[test]
-fn one_process_goes_in_by_five_steps_and_out_by_two(rt: HostRuntime) -> Result<(), Fail> {
+fn worked_schedules_lead_where_the_algorithm_says(rt: HostRuntime) -> Result<(), Fail> {
     let mut world = start(&rt, rt.alloc(), 1)?;
-    expect_world(&rt, &world, 1, &[(At::Rest, false, 0)], (0, 0, None));
     world.run(&[1, 1, 1, 1, 1]);
-    expect_world(&rt, &world, 1, &[(At::Fast, true, 5)], (1, 1, Some(1)));
-    world.run(&[1, 1]);
-    expect_world(&rt, &world, 1, &[(At::Rest, false, 7)], (1, 0, None));
+    same(&rt, world.inside(), Some(1), "the process inside");
+    for (k, row) in ROWS.iter().enumerate() {
+        expect_row(&rt, rt.alloc(), *row, k == 5)?;
+    }
     Ok(())
 }
 
-#[test]
-fn scan_stops_at_the_flag_of_the_process_inside(rt: HostRuntime) -> Result<(), Fail> {
-    let mut world = start(&rt, rt.alloc(), 2)?;
-    world.run(&[1, 1, 1, 2, 2, 2, 1, 1, 2, 2, 1, 1, 1]);
-    let processes = [(At::Scan(2), false, 8), (At::Fast, true, 5)];
-    expect_world(&rt, &world, 2, &processes, (2, 2, Some(2)));
-    Ok(())
+fn expect_way<A: Abort>(rt: &A, steps: &Vec<u32>, wanted: &[u32]) {
+    assert_eq!(rt; steps.as_slice(), wanted);
 }
 
-// Process 2 sets y to 0 while process 1 is at its test of x.
+// One process is alone; y names the process that is about to scan; the process in its scan waits
+// for the flag of one that has not yet seen that y is not 0; a process is inside.
 #[test]
-fn third_process_goes_in_while_the_second_leaves(rt: HostRuntime) -> Result<(), Fail> {
-    let mut world = start(&rt, rt.alloc(), 3)?;
-    world.run(&[1, 1, 1, 2, 2, 2, 2, 2, 1, 2, 3, 3, 3, 3, 3, 1, 1, 1, 1]);
-    let processes = [
-        (At::Scan(2), false, 8),
-        (At::Leaving, true, 6),
-        (At::Fast, true, 5),
-    ];
-    expect_world(&rt, &world, 3, &processes, (3, 3, Some(3)));
-    Ok(())
-}
-
-#[test]
-fn one_step_at_a_time_and_no_step(rt: HostRuntime) -> Result<(), Fail> {
-    let mut world = start(&rt, rt.alloc(), 2)?;
-    world.run(&[]);
-    let processes = [(At::Rest, false, 0), (At::Rest, false, 0)];
-    expect_world(&rt, &world, 2, &processes, (0, 0, None));
-    world.step(2);
-    world.step(2);
-    let processes = [(At::Rest, false, 0), (At::TestY, true, 2)];
-    expect_world(&rt, &world, 2, &processes, (2, 0, None));
+fn ways_lead_inside(rt: HostRuntime) -> Result<(), Fail> {
+    let alloc = rt.alloc();
+    expect_way(&rt, &way_inside(alloc, 3, &[])?, &[1, 1, 1, 1, 1]);
+    let scans = [1, 1, 1, 2, 2, 1, 1, 2, 2];
+    expect_way(&rt, &way_inside(alloc, 2, &scans)?, &[1, 1, 1, 1]);
+    let waits = [1, 1, 1, 2, 2, 1, 1, 1, 1];
+    expect_way(&rt, &way_inside(alloc, 2, &waits)?, &[2, 2, 1, 1]);
+    expect_way(&rt, &way_inside(alloc, 2, &[2, 2, 2, 2, 2, 1])?, &[]);
     Ok(())
 }

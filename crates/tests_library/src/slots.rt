@@ -28,33 +28,17 @@ fn make<R: Print>(rt: &R, alloc: Global, cap: u32) -> Result<Slots, AllocError>
 
 #[test]
 fn messages_leave_by_priority_and_then_by_place(rt: HostRuntime) -> Result<(), Fail> {
-    let mut slots = make(&rt, rt.alloc(), 3)?;
-    same(&rt, slots.is_empty(), true, "whether it is empty");
-    slots.push(5, 1);
-    slots.push(9, 2);
-    slots.push(5, 4);
-    same(&rt, slots.is_full(), true, "whether it is full");
-    same(&rt, slots.best(), Some((9, 2)), "the best");
-    same(&rt, slots.pop(), Some((9, 2)), "the first");
-    same(&rt, slots.pop(), Some((5, 1)), "the second");
-    same(&rt, slots.pop(), Some((5, 4)), "the third");
-    same(&rt, slots.pop(), None, "no further one");
-    same(&rt, slots.is_empty(), true, "whether it is empty again");
-    Ok(())
-}
-
-#[test]
-fn a_slot_is_used_again(rt: HostRuntime) -> Result<(), Fail> {
     let mut slots = make(&rt, rt.alloc(), 2)?;
-    slots.push(0, 0);
-    slots.push(32_767, 1);
-    same(&rt, slots.pop(), Some((32_767, 1)), "the first");
-    same(&rt, slots.is_full(), false, "whether it is full");
+    slots.push(0, 1);
+    slots.push(32_767, 2);
+    same(&rt, slots.is_full(), true, "whether it is full");
+    same(&rt, slots.best(), Some((32_767, 2)), "the best");
+    same(&rt, slots.pop(), Some((32_767, 2)), "the first");
     slots.push(0, 5);
-    same(&rt, slots.is_full(), true, "whether it is full again");
-    same(&rt, slots.len(), 2, "the length");
-    same(&rt, slots.pop(), Some((0, 0)), "the second");
+    same(&rt, slots.len(), 2, "the length, with a slot used again");
+    same(&rt, slots.pop(), Some((0, 1)), "the second");
     same(&rt, slots.pop(), Some((0, 5)), "the third");
     same(&rt, slots.pop(), None, "no further one");
+    same(&rt, slots.is_empty(), true, "whether it is empty");
     Ok(())
 }
