@@ -13,7 +13,7 @@ use mq_model::faults::Fault;
 use mq_model::names::Name;
 use mq_state::books::Books;
 use mq_state::collected::Collected;
-use std::alloc::Global;
+use std::alloc::{AllocError, Global};
 use std::io::Print;
 use std::marker::Model;
 use std::process::Abort;
@@ -97,15 +97,38 @@ impl Model for Trial {
     ghost invariant = { λ t. t.books.n ≡ 5 };
 }
 
-fn make_trial<A: Abort + Print>(rt: &A, alloc: Global) -> Trial {
-    let books = match Books::new(alloc, 5) {
-        Ok(books) => books,
+// How they keep their journal.
+#[derive(Clone, Copy)]
+enum Kind {
+    Stored,
+    Bounded(u64, u64),
+    Unstored,
+    Prepaid,
+}
+
+fn make(alloc: Global, kind: Kind) -> Result<Trial, AllocError> {
+    let books = match kind {
+        Kind::Stored => Books::new(alloc, 5)?,
+        Kind::Bounded(entries, bytes) => Books::bounded(alloc, 5, entries, bytes)?,
+        Kind::Unstored => Books::unstored(alloc, 5)?,
+        Kind::Prepaid => Books::prepaid(alloc, 5)?,
+    };
+    Ok(Trial { books })
+}
+
+// One allocation may be made to fail from outside.
+fn make_kind<A: Abort + Print>(rt: &A, alloc: Global, kind: Kind) -> Trial {
+    match make(alloc, kind) {
+        Ok(trial) => trial,
         Err(_) => {
             say_refused(rt, "the making");
-            Books::new(alloc, 5).expect(rt, "memory")
+            make(alloc, kind).expect(rt, "memory")
         }
-    };
-    Trial { books }
+    }
+}
+
+fn make_trial<A: Abort + Print>(rt: &A, alloc: Global) -> Trial {
+    make_kind(rt, alloc, Kind::Stored)
 }
 
 // Process p may call: it is one of the five, and has no open wait.
@@ -211,6 +234,46 @@ fn expect<A: Abort + Print>(rt: &A, alloc: Global, steps: &[Step]) {
     expect_steps(rt, &mut make_trial(rt, alloc), steps);
 }
 
+fn unplaced(place: Option<u64>) -> Option<u64> {
+    match place {
+        None => None,
+        Some(_) => Some(0),
+    }
+}
+
+// An outcome without its sequence numbers.
+fn outline(outcome: Outcome) -> Outcome {
+    let Replied(reply) = outcome else {
+        return outcome;
+    };
+    Replied(match reply {
+        Reply::Queued { notified } => Reply::Queued {
+            notified: unplaced(notified),
+        },
+        Reply::Handed { .. } => Reply::Handed { wait: 0 },
+        Reply::Got {
+            place: _,
+            admitted,
+            notified,
+        } => Reply::Got {
+            place: 0,
+            admitted: unplaced(admitted),
+            notified: unplaced(notified),
+        },
+        _ => reply,
+    })
+}
+
+// Takes the steps in order. Outcomes are compared without their sequence numbers.
+fn expect_outlines<A: Abort + Print>(rt: &A, trial: &mut Trial, steps: &[Step]) {
+    let mut buf = [0; 8];
+    for (number, step) in steps.iter().enumerate() {
+        let (p, ask, wanted) = *step;
+        let found = outline(asked(rt, trial, p, ask, &mut buf));
+        assert_eq!(rt; found, wanted, "step {number}");
+    }
+}
+
 const CREATE: OpenFlags = OpenFlags {
     access: Access::Both,
     create: true,
@@ -255,6 +318,13 @@ const OPENED: Outcome = Replied(Reply::Opened {
 });
 
 const QUEUED: Outcome = Replied(Reply::Queued { notified: None });
+
+// A receive that neither admits a waiting send nor gives a notice, without the place of its message.
+const GOT: Outcome = Replied(Reply::Got {
+    place: 0,
+    admitted: None,
+    notified: None,
+});
 
 const WAITS: Outcome = Replied(Reply::Waits);
 

@@ -6,36 +6,25 @@ use super::Ask::{
 };
 use super::Outcome::{Came, Count, Is, Replied};
 use super::{
-    CREATE, CREATED, DONE, ONE, OPEN, OPENED, Outcome, QUEUED, Step, TWO, Trial, WAITS,
-    expect_steps,
+    CREATE, CREATED, DONE, Kind, ONE, OPEN, OPENED, Outcome, QUEUED, Step, TWO, WAITS,
+    expect_steps, make_kind,
 };
-use crate::refusals::{refuse_all, say_refused};
+use crate::refusals::refuse_all;
 use crate::same::same;
 use mq_model::entries::{Attr, Deadline, Received, Reply, Status};
 use mq_model::faults::Fault;
-use mq_state::books::Books;
 use mq_state::collected::Collected;
 use mq_state::memory::memory_of;
 use std::alloc::Global;
 use std::io::Print;
 use std::process::Abort;
 
-// The queues of five processes with these bounds. One allocation may be made to fail from outside,
+// Takes the steps over queues with these bounds. One allocation may be made to fail from outside,
 // and once they are made, every allocation.
-fn make_bounded<A: Abort + Print>(rt: &A, alloc: Global, entries: u64, bytes: u64) -> Trial {
-    let books = match Books::bounded(alloc, 5, entries, bytes) {
-        Ok(books) => books,
-        Err(_) => {
-            say_refused(rt, "the making");
-            Books::bounded(alloc, 5, entries, bytes).expect(rt, "memory")
-        }
-    };
-    refuse_all(rt, alloc);
-    Trial { books }
-}
-
 fn expect<A: Abort + Print>(rt: &A, alloc: Global, entries: u64, bytes: u64, steps: &[Step]) {
-    expect_steps(rt, &mut make_bounded(rt, alloc, entries, bytes), steps);
+    let mut trial = make_kind(rt, alloc, Kind::Bounded(entries, bytes));
+    refuse_all(rt, alloc);
+    expect_steps(rt, &mut trial, steps);
 }
 
 const FULL: Outcome = Replied(Reply::Refused(Fault::JournalFull));
@@ -158,27 +147,26 @@ const LARGEST: Option<Attr> = Some(Attr {
     msgsize: 65_536,
 });
 
-static COMES_AND_GOES: [Step; 6] = [
+static COMES_AND_GOES: [Step; 7] = [
     (1, Open(b"/q", CREATE, LARGEST), CREATED),
     (1, Notify(0, Some(7)), DONE),
     (1, Unlink(b"/q"), DONE),
     (2, Open(b"/q", CREATE, LARGEST), CREATED),
     (2, Unlink(b"/q"), DONE),
     (2, Close(0), DONE),
+    (1, Close(0), DONE),
 ];
+
+static HAS_GONE: [Step; 2] = [(1, NextNotice, FULL), (1, Entries, Count(700))];
 
 #[test]
 fn orders_of_queues_that_are_gone_serve_queues_to_come(rt: HostRuntime) {
-    let mut trial = make_bounded(&rt, rt.alloc(), 700, 1_000);
+    let mut trial = make_kind(&rt, rt.alloc(), Kind::Bounded(700, 1_000));
+    refuse_all(&rt, rt.alloc());
     for _ in 0..100 {
         expect_steps(&rt, &mut trial, &COMES_AND_GOES);
-        expect_steps(&rt, &mut trial, &[(1, Close(0), DONE)]);
     }
-    expect_steps(
-        &rt,
-        &mut trial,
-        &[(1, NextNotice, FULL), (1, Entries, Count(700))],
-    );
+    expect_steps(&rt, &mut trial, &HAS_GONE);
 }
 
 #[test]

@@ -6,10 +6,10 @@ use super::Ask::{
     Answered, Close, Collect, Getattr, LowestOpen, NextNotice, Notify, Open, Receive, Send,
     Setattr, TimedReceive, TimedSend, Unlink, Waiting, Withdraw,
 };
-use super::Outcome::{Is, Replied};
+use super::Outcome::Is;
 use super::resumed::resume;
-use super::{Ask, CREATE, ONE, OPEN, Outcome, READ, TWO, Trial, WRITE, make_trial, outcome_of};
-use mq_model::entries::{Deadline, OpenFlags, Reply, Status};
+use super::{Ask, CREATE, ONE, OPEN, READ, TWO, Trial, WRITE, make_trial, outcome_of, outline};
+use mq_model::entries::{Deadline, OpenFlags, Status};
 use std::alloc::Global;
 use std::io::Print;
 use std::process::Abort;
@@ -101,36 +101,6 @@ fn flagged(nonblock: bool) -> Status {
         msgsize: 0,
         curmsgs: 0,
     }
-}
-
-fn unplaced(place: Option<u64>) -> Option<u64> {
-    match place {
-        None => None,
-        Some(_) => Some(0),
-    }
-}
-
-// An outcome without its sequence numbers.
-fn outline(outcome: Outcome) -> Outcome {
-    let Replied(reply) = outcome else {
-        return outcome;
-    };
-    Replied(match reply {
-        Reply::Queued { notified } => Reply::Queued {
-            notified: unplaced(notified),
-        },
-        Reply::Handed { .. } => Reply::Handed { wait: 0 },
-        Reply::Got {
-            place: _,
-            admitted,
-            notified,
-        } => Reply::Got {
-            place: 0,
-            admitted: unplaced(admitted),
-            notified: unplaced(notified),
-        },
-        _ => reply,
-    })
 }
 
 // Collects the waits that are answered.
