@@ -1,12 +1,12 @@
 //! Processes over a lock, by functions that are generic over it. What calls in one thread return is
 //! a table of steps.
-ghost use Rattle.std.specs.Prelude.{◌≡◌, length, []};
+ghost use Rattle.std.specs.Prelude.{◌≡◌, [], IfOk};
 ghost use Rattle.mq.specs.Calls.{IsFree};
 ghost use Rattle.fast_mutex.specs.Items.{tickets_from};
 
-use crate::refusals::say_refused;
+use crate::refusals::{refuse_all, say_refused};
 use fast_mutex::{FastMutex, Look};
-use mq::{Guarded, Mq, Process, verdict};
+use mq::{Guarded, Mq, Process};
 use mq_checker::checker::check_history;
 use mq_model::entries::{Received, Reply};
 use mq_model::faults::Fault;
@@ -22,7 +22,7 @@ use steps::{Ask, CREATE, Expected, OPEN, Step, expect_steps};
 mod blocked;
 mod bounded;
 mod calls;
-pub mod deadlines;
+mod deadlines;
 mod ends;
 mod exits;
 mod memory;
@@ -38,25 +38,30 @@ struct Pair<L: Look<Guarded>> {
     two: Process<L>,
 }
 
-// A system of two processes, which are in a vector. One allocation may be made to fail from
-// outside.
-fn make_two<L: Look<Guarded>, R: Abort + Print>(rt: &R, alloc: Global) -> (Mq<L>, Vec<Process<L>>)
-    ensures { result.1.items ≡ tickets_from result.0 1 2 }
+/// The numbers of entries and of bytes of a journal, if it has bounds.
+type Bounds = Option<(u64, u64)>;
+
+fn make<L: Look<Guarded>>(alloc: Global, bounds: Bounds) -> Result<(Mq<L>, Vec<Process<L>>), Fault>
+    ensures { IfOk result (λ made. made.1.items ≡ tickets_from made.0 1 2) }
 {
-    match Mq::<L>::new(alloc, 2) {
-        Ok(made) => made,
-        Err(_) => {
-            say_refused(rt, "the making");
-            Mq::<L>::new(alloc, 2).ok().expect(rt, "memory")
-        }
+    match bounds {
+        None => Mq::<L>::new(alloc, 2),
+        Some((entries, bytes)) => Mq::<L>::bounded(alloc, 2, entries, bytes),
     }
 }
 
-fn make_pair<L: Look<Guarded>, R: Abort + Print>(rt: &R, alloc: Global) -> Pair<L>
+// A system of two processes. One allocation may be made to fail from outside.
+fn make_pair<L: Look<Guarded>, R: Abort + Print>(rt: &R, alloc: Global, bounds: Bounds) -> Pair<L>
     ensures one { (result.one.lock ≡ result.mq) × IsFree result.one }
     ensures two { (result.two.lock ≡ result.mq) × IsFree result.two }
 {
-    let (mq, mut processes) = make_two::<L, R>(rt, alloc);
+    let (mq, mut processes) = match make::<L>(alloc, bounds) {
+        Ok(made) => made,
+        Err(_) => {
+            say_refused(rt, "the making");
+            make::<L>(alloc, bounds).ok().expect(rt, "memory")
+        }
+    };
     let two = processes.pop().unwrap();
     let one = processes.pop().unwrap();
     Pair { mq, one, two }
@@ -93,32 +98,40 @@ fn finish<L: Look<Guarded>, A: Abort>(
     mq.finish(processes).ok().expect(rt, "both processes")
 }
 
-/// The journal after the steps of two processes in one thread.
+// The journal after the steps of two processes in one thread. After the first steps every
+// allocation may be made to fail from outside.
 fn after<L: Look<Guarded>, R: Wait + Clock + Abort + Print>(
     rt: &R,
     alloc: Global,
-    steps: &[Step],
+    bounds: Bounds,
+    (steps, marked): (&[Step], &[Step]),
 ) -> Journal {
+    let processes = room(rt, alloc);
     let Pair {
         mq,
         mut one,
         mut two,
-    } = make_pair::<L, R>(rt, alloc);
+    } = make_pair::<L, R>(rt, alloc, bounds);
     expect_steps(rt, &mq, &mut one, &mut two, steps);
-    finish(rt, room(rt, alloc), mq, one, two)
+    refuse_all(rt, alloc);
+    expect_steps(rt, &mq, &mut one, &mut two, marked);
+    finish(rt, processes, mq, one, two)
 }
 
-/// The journal after the steps of two processes in one thread, over Lamport's lock.
-fn journal_after<R: Wait + Clock + Abort + Print>(
+// Over Lamport's lock, the journal after the steps has these processes and replies.
+fn expect<R: Wait + Clock + Abort + Print>(
     rt: &R,
     alloc: Global,
-    steps: &[Step],
-) -> Journal {
-    after::<FastMutex<Guarded>, R>(rt, alloc, steps)
+    bounds: Bounds,
+    steps: (&[Step], &[Step]),
+    wanted: &[(u32, Reply)],
+) {
+    let journal = after::<FastMutex<Guarded>, R>(rt, alloc, bounds, steps);
+    expect_journal(rt, &journal, wanted);
 }
 
-/// The journal is legal, and has exactly these processes and replies.
-pub fn expect_journal<R: Abort>(rt: &R, journal: &Journal, wanted: &[(u32, Reply)]) {
+// The journal is legal, and has exactly these processes and replies.
+fn expect_journal<R: Abort>(rt: &R, journal: &Journal, wanted: &[(u32, Reply)]) {
     assert_eq!(rt; journal.len(), wanted.len() as u64);
     for (place, wanted) in (0..).zip(wanted) {
         let entry = journal.entry(place).expect(rt, "an entry");
@@ -216,7 +229,7 @@ static REPLIES: [(u32, Reply); 9] = [
 
 #[test]
 fn two_processes_in_one_thread_wait_for_each_other(rt: HostRuntime) {
-    expect_journal(&rt, &journal_after(&rt, rt.alloc(), &BOTH_WAIT), &REPLIES);
+    expect(&rt, rt.alloc(), None, (&BOTH_WAIT, &[]), &REPLIES);
 }
 
 static REPLIES_IN_ORDER: [(u32, Reply); 5] = [
@@ -241,61 +254,7 @@ static REPLIES_IN_ORDER: [(u32, Reply); 5] = [
     ),
 ];
 
-// The journal with two entries exchanged.
-fn exchanged<R: Print>(rt: &R, alloc: Global, journal: &Journal) -> Option<Journal>
-    requires { length journal.now.records ≡ 5 }
-{
-    let mut other = Journal::new(alloc);
-    for place in [0, 1, 2, 4, 3] {
-        let (entry, payload) = journal.record(place);
-        if other.reserve(1, payload.len()).is_err() {
-            say_refused(rt, "room in a journal");
-            other.reserve(1, payload.len()).ok()?;
-        }
-        other.push(entry, payload);
-    }
-    Some(other)
-}
-
-// A journal with two receives exchanged is not legal.
-fn expect_order<R: Abort + Print>(rt: &R, alloc: Global, journal: &Journal) {
-    expect_journal(rt, journal, &REPLIES_IN_ORDER);
-    assert_eq!(rt; journal.len(), 5);
-    let other = exchanged(rt, alloc, journal).expect(rt, "memory");
-    assert_eq!(rt; check_history(&other), Err(3));
-}
-
 #[test]
 fn messages_of_one_priority_leave_in_sending_order(rt: HostRuntime) {
-    let alloc = rt.alloc();
-    expect_order(&rt, alloc, &journal_after(&rt, alloc, &IN_ORDER));
-}
-
-// The verdicts on the journal, and on the one with two receives exchanged.
-fn expect_verdicts<R: Abort + Print>(rt: &R, alloc: Global, journal: &Journal) {
-    assert_eq!(rt; journal.len(), 5);
-    let other = exchanged(rt, alloc, journal).expect(rt, "memory");
-    assert_eq!(rt;
-        (verdict(alloc, journal), verdict(alloc, &other)),
-        (Ok(()), Err(3))
-    );
-}
-
-#[test]
-fn a_verdict_is_that_of_the_rules_with_memory_or_without(rt: HostRuntime) {
-    let alloc = rt.alloc();
-    expect_verdicts(&rt, alloc, &journal_after(&rt, alloc, &IN_ORDER));
-}
-
-// The error of making a system of n processes, if there is one.
-fn refusal<L: Look<Guarded>>(alloc: Global, n: u32) -> Option<Fault> {
-    Mq::<L>::new(alloc, n).err()
-}
-
-#[test]
-fn a_system_has_1_to_32_processes(rt: HostRuntime) {
-    for n in [0, 33] {
-        let refused = refusal::<FastMutex<Guarded>>(rt.alloc(), n);
-        assert!(rt; refused == Some(Fault::Invalid), "{n}");
-    }
+    expect(&rt, rt.alloc(), None, (&IN_ORDER, &[]), &REPLIES_IN_ORDER);
 }

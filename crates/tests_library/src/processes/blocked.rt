@@ -1,8 +1,9 @@
 //! Waits with a deadline that are started and not waited for, and which processes are blocked
 //! meanwhile.
-use super::journal_after;
+use super::after;
 use super::steps::{Ask, CREATE, Expected, OPEN, Step};
-use mq::{Collected, Received};
+use fast_mutex::FastMutex;
+use mq::{Collected, Guarded, Received, verdict};
 
 const RECEIVED: Received = Received { len: 1, prio: 0 };
 
@@ -35,5 +36,8 @@ static STEPS: [Step; 18] = [
 
 #[test]
 fn a_process_is_blocked_until_an_entry_names_its_wait(rt: HostRuntime) {
-    assert_eq!(&rt; journal_after(&rt, rt.alloc(), &STEPS).len(), 9);
+    let alloc = rt.alloc();
+    let journal = after::<FastMutex<Guarded>, _>(&rt, alloc, None, (&STEPS, &[]));
+    assert_eq!(&rt; journal.len(), 9);
+    assert_eq!(&rt; verdict(alloc, &journal), Ok(()));
 }

@@ -1,113 +1,10 @@
-//! Processes of a system whose journal has bounds.
-ghost use Rattle.std.specs.Prelude.{◌≡◌, []};
-ghost use Rattle.fast_mutex.specs.Items.{tickets_from};
-
-use super::steps::{Ask, CREATE, Expected, Step, asked_once};
-use crate::refusals::{refuse_all, say_refused};
-use fast_mutex::{FastMutex, Look};
-use mq::{Guarded, Mq, Process};
-use mq_model::entries::{Received, Status};
+//! Processes of a system whose journal has bounds. All memory is taken when it is made.
+use super::steps::{Ask, CREATE, Expected, Step};
+use super::{CREATED, QUEUED, expect, make};
+use fast_mutex::FastMutex;
+use mq::Guarded;
+use mq_model::entries::{Received, Reply, Status};
 use mq_model::faults::Fault;
-use std::alloc::Global;
-use std::io::Print;
-use std::process::Abort;
-use std::sync::Wait;
-use std::time::Clock;
-
-// A system of one process with these bounds, and that process in a vector. One allocation may be
-// made to fail from outside.
-fn make_one<L: Look<Guarded>, R: Abort + Print>(
-    rt: &R,
-    alloc: Global,
-    entries: u64,
-    bytes: u64,
-) -> (Mq<L>, Vec<Process<L>>)
-    ensures { result.1.items ≡ tickets_from result.0 1 1 }
-{
-    match Mq::<L>::bounded(alloc, 1, entries, bytes) {
-        Ok(made) => made,
-        Err(_) => {
-            say_refused(rt, "the making");
-            Mq::<L>::bounded(alloc, 1, entries, bytes)
-                .ok()
-                .expect(rt, "memory")
-        }
-    }
-}
-
-// Room for a process. One allocation may be made to fail from outside.
-fn room_for_one<L: Look<Guarded>, R: Abort + Print>(rt: &R, alloc: Global) -> Vec<Process<L>>
-    ensures { result.items ≡ [] }
-{
-    match Vec::with_capacity(alloc, 1) {
-        Ok(room) => room,
-        Err(_) => {
-            say_refused(rt, "the room");
-            Vec::with_capacity(alloc, 1).ok().expect(rt, "memory")
-        }
-    }
-}
-
-// The end with the one process. Returns the number of entries of the journal.
-fn finish_alone<L: Look<Guarded>, A: Abort>(
-    rt: &A,
-    mq: Mq<L>,
-    process: Process<L>,
-    mut room: Vec<Process<L>>,
-) -> u64
-    requires made { process.lock ≡ mq }
-    requires empty { room.items ≡ [] }
-{
-    room.push(process).ok().expect(rt, "memory");
-    assert!(rt; mq.is_stored(), "the journal is stored");
-    mq.finish(room).ok().expect(rt, "the one process").len()
-}
-
-// The one process takes the steps.
-fn expect_alone<L: Look<Guarded>, R: Wait + Clock + Abort + Print>(
-    rt: &R,
-    mq: &Mq<L>,
-    process: &mut Process<L>,
-    steps: &[Step],
-)
-    requires { process.old.lock ≡ mq.now }
-    ensures { process.new.lock ≡ mq.now }
-{
-    let mut buf = [0; 8];
-    'steps: for (number, step) in steps.iter().enumerate() {
-        let (_, ask, wanted) = *step;
-        let found = asked_once(rt, mq, process, ask, &mut buf);
-        assert!(rt; found == wanted, "step {number}");
-    }
-}
-
-// A system with these bounds, whose one process takes the steps while every allocation may be made
-// to fail from outside. Returns the number of entries of the journal at the end.
-fn after<L: Look<Guarded>, R: Wait + Clock + Abort + Print>(
-    rt: &R,
-    alloc: Global,
-    entries: u64,
-    bytes: u64,
-    steps: &[Step],
-) -> u64 {
-    let (mq, mut processes) = make_one::<L, R>(rt, alloc, entries, bytes);
-    let room = room_for_one::<L, R>(rt, alloc);
-    let mut process = processes.pop().unwrap();
-    refuse_all(rt, alloc);
-    expect_alone(rt, &mq, &mut process, steps);
-    finish_alone(rt, mq, process, room)
-}
-
-// The same over Lamport's lock.
-fn alone<R: Wait + Clock + Abort + Print>(
-    rt: &R,
-    alloc: Global,
-    entries: u64,
-    bytes: u64,
-    steps: &[Step],
-) -> u64 {
-    after::<FastMutex<Guarded>, R>(rt, alloc, entries, bytes, steps)
-}
 
 const FULL: Expected = Expected::Refused(Fault::JournalFull);
 
@@ -142,9 +39,29 @@ static FOUR_OF_EACH: [Step; 12] = [
     (1, Ask::Waiting, Expected::Room(None)),
 ];
 
+static REPLIES_OF_FOUR: [(u32, Reply); 4] = [
+    (1, CREATED),
+    (1, QUEUED),
+    (
+        1,
+        Reply::Got {
+            place: 1,
+            admitted: None,
+            notified: None,
+        },
+    ),
+    (1, Reply::Attrs(EMPTY)),
+];
+
 #[test]
 fn calls_find_the_journal_full_where_the_bounds_say(rt: HostRuntime) {
-    assert_eq!(rt; alone(&rt, rt.alloc(), 4, 4, &FOUR_OF_EACH), 4);
+    expect(
+        &rt,
+        rt.alloc(),
+        Some((4, 4)),
+        (&[], &FOUR_OF_EACH),
+        &REPLIES_OF_FOUR,
+    );
 }
 
 static NOTHING_FITS: [Step; 14] = [
@@ -166,36 +83,14 @@ static NOTHING_FITS: [Step; 14] = [
 
 #[test]
 fn without_an_entry_each_call_that_has_one_is_refused(rt: HostRuntime) {
-    assert_eq!(rt; alone(&rt, rt.alloc(), 0, 100, &NOTHING_FITS), 0);
-}
-
-// The error of making a system of n processes with these bounds, if there is one.
-fn refusal_of<L: Look<Guarded>>(alloc: Global, n: u32, entries: u64, bytes: u64) -> Option<Fault> {
-    Mq::<L>::bounded(alloc, n, entries, bytes).err()
-}
-
-// The same over Lamport's lock.
-fn refusal(alloc: Global, n: u32, entries: u64, bytes: u64) -> Option<Fault> {
-    refusal_of::<FastMutex<Guarded>>(alloc, n, entries, bytes)
-}
-
-#[test]
-fn a_bounded_system_has_1_to_32_processes(rt: HostRuntime) {
-    for n in [0, 33] {
-        let refused = refusal(rt.alloc(), n, 4, 4);
-        assert!(rt; refused == Some(Fault::Invalid), "{n}");
-    }
-    for n in [1, 32] {
-        let refused = refusal(rt.alloc(), n, 4, 4);
-        assert!(rt; matches!(refused, None | Some(Fault::NoMemory)), "{n}");
-    }
+    expect(&rt, rt.alloc(), Some((0, 100)), (&[], &NOTHING_FITS), &[]);
 }
 
 #[test]
 fn bounds_beyond_all_memory_are_refused_at_the_making(rt: HostRuntime) {
-    for (entries, bytes) in [(u64::MAX, 0), (0, u64::MAX), (u64::MAX, u64::MAX)] {
-        let refused = refusal(rt.alloc(), 1, entries, bytes);
-        assert!(rt; refused == Some(Fault::NoMemory), "{entries} {bytes}");
+    for bounds in [(u64::MAX, 0), (0, u64::MAX), (u64::MAX, u64::MAX)] {
+        let refused = make::<FastMutex<Guarded>>(rt.alloc(), Some(bounds)).err();
+        assert!(rt; refused == Some(Fault::NoMemory), "{bounds:?}");
     }
 }
 
@@ -210,6 +105,12 @@ static NO_OPEN: [Step; 1] = [(1, Ask::Open(CREATE, 2), FULL)];
 
 #[test]
 fn a_bound_of_one_entry_has_room_for_an_open(rt: HostRuntime) {
-    assert_eq!(rt; alone(&rt, rt.alloc(), 1, 2, &ONE_ENTRY), 1);
-    assert_eq!(rt; alone(&rt, rt.alloc(), 1, 1, &NO_OPEN), 0);
+    expect(
+        &rt,
+        rt.alloc(),
+        Some((1, 2)),
+        (&ONE_ENTRY, &[]),
+        &[(1, CREATED)],
+    );
+    expect(&rt, rt.alloc(), Some((1, 1)), (&NO_OPEN, &[]), &[]);
 }

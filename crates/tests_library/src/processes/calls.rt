@@ -1,6 +1,6 @@
 //! The calls of a process that never wait.
+use super::expect;
 use super::steps::{Ask, CREATE, Expected, OPEN, Step};
-use super::{expect_journal, journal_after};
 use mq_model::entries::{Received, Reply, Status};
 use mq_model::faults::Fault;
 
@@ -84,5 +84,5 @@ static REPLIES: [(u32, Reply); 17] = [
 
 #[test]
 fn each_call_that_never_waits_replies(rt: HostRuntime) {
-    expect_journal(&rt, &journal_after(&rt, rt.alloc(), &EACH_CALL), &REPLIES);
+    expect(&rt, rt.alloc(), None, (&EACH_CALL, &[]), &REPLIES);
 }

@@ -1,18 +1,12 @@
 //! Receives with a deadline that passes, by a clock of the test and by the real one.
-use super::steps::{Ask, CREATE, Expected, OPEN, Step, expect_steps};
-use super::{Pair, finish, make_pair, room};
-use fast_mutex::{FastMutex, Look};
-use mq::{Guarded, Monotonic};
+use super::steps::{Ask, CREATE, Expected, OPEN, Step};
+use super::{CREATED, OPENED, expect};
+use mq::Monotonic;
 use mq_model::clock::Clock as Moments;
 use mq_model::entries::{Deadline, Reply};
 use mq_model::faults::Fault;
-use mq_model::journals::Journal;
-use std::alloc::Global;
-use std::io::Print;
 use std::process::Abort;
-use std::sync::Wait;
 use std::sync::atomic::{AtomicBool, Ordering};
-use std::time::Clock;
 
 /// The first time of the clock of the test.
 pub const START: Deadline = Deadline { sec: 0, nsec: 0 };
@@ -69,34 +63,20 @@ static STEPS: [Step; 7] = [
     (1, Ask::Waiting, Expected::Room(None)),
 ];
 
-// The journal of these steps, and how long they took.
-fn steps_with_deadlines<L: Look<Guarded>, R: Wait + Clock + Abort + Print>(
-    rt: &R,
-    alloc: Global,
-) -> (Journal, Deadline) {
-    let Pair {
-        mq,
-        mut one,
-        mut two,
-    } = make_pair::<L, R>(rt, alloc);
-    let clock = Monotonic::start(rt).ok().expect(rt, "a clock");
-    expect_steps(rt, &mq, &mut one, &mut two, &STEPS);
-    let took = clock.now();
-    (finish(rt, room(rt, alloc), mq, one, two), took)
-}
+static REPLIES: [(u32, Reply); 7] = [
+    (1, CREATED),
+    (2, OPENED),
+    (1, Reply::Waits),
+    (1, Reply::Withdrawn { wait: 2 }),
+    (1, Reply::Queued { notified: None }),
+    (2, Reply::Waits),
+    (2, Reply::Withdrawn { wait: 5 }),
+];
 
 #[test]
 fn a_wait_is_withdrawn_at_its_deadline_and_not_before(rt: HostRuntime) {
-    let (journal, took) = steps_with_deadlines::<FastMutex<Guarded>, _>(&rt, rt.alloc());
+    let clock = Monotonic::start(&rt).ok().expect(&rt, "a clock");
+    expect(&rt, rt.alloc(), None, (&STEPS, &[]), &REPLIES);
+    let took = clock.now();
     assert!(&rt; took.sec > 0 || took.nsec >= 20_000_000);
-    let replies = [
-        (2, Reply::Waits),
-        (3, Reply::Withdrawn { wait: 2 }),
-        (5, Reply::Waits),
-        (6, Reply::Withdrawn { wait: 5 }),
-    ];
-    for (place, wanted) in replies {
-        let found = journal.entry(place).map(|entry| entry.reply);
-        assert_eq!(&rt; found, Some(wanted));
-    }
 }

@@ -1,10 +1,8 @@
-//! The end of a system: with no process, with one process of two, and while one waits.
+//! The end of a system: with one process of two, and while one waits.
 ghost use Rattle.std.specs.Prelude.{◌≡◌, []};
 
 use super::steps::{Ask, CREATE, Expected, Step, expect_steps};
-use super::{
-    CREATED, Pair, QUEUED, RECEIVED, expect_journal, finish, journal_after, make_pair, room,
-};
+use super::{CREATED, Pair, QUEUED, RECEIVED, expect, expect_journal, finish, make_pair, room};
 use fast_mutex::{FastMutex, Look, Missing};
 use mq::{Guarded, Mq, Process};
 use mq_model::entries::Reply;
@@ -14,18 +12,6 @@ use std::io::Print;
 use std::process::Abort;
 use std::sync::Wait;
 use std::time::Clock;
-
-// The end without a process: the system comes back.
-fn finish_empty<L: Look<Guarded>, A: Abort>(rt: &A, alloc: Global, mq: Mq<L>) -> Mq<L>
-    ensures { result ≡ mq }
-{
-    assert!(rt; mq.is_stored(), "the journal is stored");
-    let Err(Missing { whole, parts }) = mq.finish(Vec::new(alloc)) else {
-        panic!(rt; "all handed back")
-    };
-    assert!(rt; parts.is_empty(), "all handed back");
-    whole
-}
 
 // The end with process 1 only: the system and the process come back, with the room for both.
 fn finish_early<L: Look<Guarded>, A: Abort>(
@@ -47,11 +33,12 @@ fn finish_early<L: Look<Guarded>, A: Abort>(
     (whole, one, parts)
 }
 
-static FIRST: [Step; 1] = [(1, Ask::Open(CREATE, 2), Expected::Opened(0))];
+static BEFORE: [Step; 2] = [
+    (1, Ask::Open(CREATE, 2), Expected::Opened(0)),
+    (1, Ask::Send(0, b"a", 1), Expected::Done),
+];
 
-static SECOND: [Step; 1] = [(1, Ask::Send(0, b"a", 1), Expected::Done)];
-
-static THIRD: [Step; 1] = [(1, Ask::Receive(0), RECEIVED)];
+static BEHIND: [Step; 1] = [(1, Ask::Receive(0), RECEIVED)];
 
 static THREE_CALLS: [(u32, Reply); 3] = [
     (1, CREATED),
@@ -66,8 +53,8 @@ static THREE_CALLS: [(u32, Reply); 3] = [
     ),
 ];
 
-// A call, an end without a process, a call, an end without process 2, a call, and the end.
-fn with_early_ends<L: Look<Guarded>, R: Wait + Clock + Abort + Print>(
+// Two calls, an end without process 2, a call, and the end.
+fn with_early_end<L: Look<Guarded>, R: Wait + Clock + Abort + Print>(
     rt: &R,
     alloc: Global,
 ) -> Journal {
@@ -76,18 +63,16 @@ fn with_early_ends<L: Look<Guarded>, R: Wait + Clock + Abort + Print>(
         mq,
         mut one,
         mut two,
-    } = make_pair::<L, R>(rt, alloc);
-    expect_steps(rt, &mq, &mut one, &mut two, &FIRST);
-    let mq = finish_empty(rt, alloc, mq);
-    expect_steps(rt, &mq, &mut one, &mut two, &SECOND);
+    } = make_pair::<L, R>(rt, alloc, None);
+    expect_steps(rt, &mq, &mut one, &mut two, &BEFORE);
     let (mq, mut one, processes) = finish_early(rt, processes, mq, one);
-    expect_steps(rt, &mq, &mut one, &mut two, &THIRD);
+    expect_steps(rt, &mq, &mut one, &mut two, &BEHIND);
     finish(rt, processes, mq, one, two)
 }
 
 #[test]
 fn what_an_early_end_hands_back_is_used_again(rt: HostRuntime) {
-    let journal = with_early_ends::<FastMutex<Guarded>, _>(&rt, rt.alloc());
+    let journal = with_early_end::<FastMutex<Guarded>, _>(&rt, rt.alloc());
     expect_journal(&rt, &journal, &THREE_CALLS);
 }
 
@@ -99,5 +84,5 @@ static STILL_WAITS: [Step; 2] = [
 #[test]
 fn queues_may_end_while_a_process_waits(rt: HostRuntime) {
     let replies = [(1, CREATED), (1, Reply::Waits)];
-    expect_journal(&rt, &journal_after(&rt, rt.alloc(), &STILL_WAITS), &replies);
+    expect(&rt, rt.alloc(), None, (&STILL_WAITS, &[]), &replies);
 }

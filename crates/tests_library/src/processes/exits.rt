@@ -91,7 +91,7 @@ fn opened_and_exited<L: Look<Guarded>, R: Wait + Clock + Abort + Print>(
     alloc: Global,
     count: u32,
 ) -> Journal {
-    let Pair { mq, mut one, two } = make_pair::<L, R>(rt, alloc);
+    let Pair { mq, mut one, two } = make_pair::<L, R>(rt, alloc, None);
     expect_opens(rt, &mq, &mut one, count);
     expect_exit(rt, &mq, &mut one, count);
     finish(rt, room(rt, alloc), mq, one, two)

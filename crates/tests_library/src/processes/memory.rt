@@ -1,17 +1,8 @@
 //! Calls of processes that take no memory, while every allocation may be made to fail from outside.
-use super::steps::{Ask, CREATE, Expected, OPEN, Step, expect_steps};
-use super::{CREATED, OPENED, Pair, expect_journal, finish, make_pair, room};
-use crate::refusals::refuse_all;
-use fast_mutex::{FastMutex, Look};
-use mq::Guarded;
+use super::steps::{Ask, CREATE, Expected, OPEN, Step};
+use super::{CREATED, OPENED, expect};
 use mq_model::entries::{Received, Reply};
-use mq_model::journals::Journal;
 use mq_state::collected::Collected;
-use std::alloc::Global;
-use std::io::Print;
-use std::process::Abort;
-use std::sync::Wait;
-use std::time::Clock;
 
 // Process 1 has a wait that is answered, process 2 one that is not.
 static WAITING: [Step; 5] = [
@@ -54,24 +45,7 @@ static REPLIES: [(u32, Reply); 6] = [
     (1, Reply::Collected { by: 3 }),
 ];
 
-fn journal_of_waits<L: Look<Guarded>, R: Wait + Clock + Abort + Print>(
-    rt: &R,
-    alloc: Global,
-) -> Journal {
-    let processes = room(rt, alloc);
-    let Pair {
-        mq,
-        mut one,
-        mut two,
-    } = make_pair::<L, R>(rt, alloc);
-    expect_steps(rt, &mq, &mut one, &mut two, &WAITING);
-    refuse_all(rt, alloc);
-    expect_steps(rt, &mq, &mut one, &mut two, &WITHOUT_MEMORY);
-    finish(rt, processes, mq, one, two)
-}
-
 #[test]
 fn processes_collect_and_queues_end_without_memory(rt: HostRuntime) {
-    let journal = journal_of_waits::<FastMutex<Guarded>, _>(&rt, rt.alloc());
-    expect_journal(&rt, &journal, &REPLIES);
+    expect(&rt, rt.alloc(), None, (&WAITING, &WITHOUT_MEMORY), &REPLIES);
 }

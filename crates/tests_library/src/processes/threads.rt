@@ -109,7 +109,7 @@ where
         mq,
         mut one,
         mut two,
-    } = make_pair::<L, R>(rt, alloc);
+    } = make_pair::<L, R>(rt, alloc, None);
     expect_steps(rt, &mq, &mut one, &mut two, &OPENS);
     let (one, two) = pass_all(rt, &mq, one, two);
     finish(rt, room(rt, alloc), mq, one, two)

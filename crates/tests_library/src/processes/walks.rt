@@ -94,7 +94,7 @@ fn in_and_out<L: Look<Guarded>, A: Abort>(rt: &A, mq: &Mq<L>, process: Acquisiti
 // Process 1 acquires the lock by its fifth step and not before, and opens a queue. Meanwhile
 // process 2 does not acquire it; later it acquires it and releases it without a call.
 fn journal_of_walks<L: Look<Guarded>, R: Abort + Print>(rt: &R, alloc: Global) -> Journal {
-    let Pair { mq, one, two } = make_pair::<L, R>(rt, alloc);
+    let Pair { mq, one, two } = make_pair::<L, R>(rt, alloc, None);
     let one = in_by_the_fifth(rt, &mq, one);
     let two = kept_out(rt, &mq, two);
     let one = opened(rt, &mq, one);
@@ -119,7 +119,7 @@ fn read<L: Look<Guarded>, A: Abort>(
 // What the process that made the only call finds in its critical section: the verdict on the
 // journal, its first entry, and that there is no second.
 fn readings<L: Look<Guarded>, R: Abort + Print>(rt: &R, alloc: Global) -> Readings {
-    let Pair { mq, one, two: _ } = make_pair::<L, R>(rt, alloc);
+    let Pair { mq, one, two: _ } = make_pair::<L, R>(rt, alloc, None);
     let one = opened(rt, &mq, inside(rt, &mq, one));
     assert!(rt; mq.is_stored(), "the journal is stored");
     let (one, checked) = inside(rt, &mq, one).check(alloc, &mq);
@@ -172,7 +172,7 @@ fn both_opened<L: Look<Guarded>, R: Abort + Print>(rt: &R, alloc: Global) -> Pai
     ensures one { (result.one.lock ≡ result.mq) × IsFree result.one }
     ensures two { (result.two.lock ≡ result.mq) × IsFree result.two }
 {
-    let Pair { mq, one, two } = make_pair::<L, R>(rt, alloc);
+    let Pair { mq, one, two } = make_pair::<L, R>(rt, alloc, None);
     let one = opened(rt, &mq, inside(rt, &mq, one));
     let two = opened(rt, &mq, inside(rt, &mq, two));
     Pair { mq, one, two }
