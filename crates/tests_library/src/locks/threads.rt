@@ -72,37 +72,29 @@ fn over_fast_mutex<R: Wait + Threads + Print + Abort + Sync>(
 fn expect_all<A: Abort>(rt: &A, notes: &Notes, threads: u32)
     requires { threads ≤ 32 }
 {
-    assert_eq!(rt; notes.items.len(), threads as usize * STAYS as usize);
+    let mut next = [0u32; 33];
+    for (process, value) in &notes.items {
+        let place = (*process).min(32) as usize;
+        assert_eq!(rt; *value, next[place], "of process {process}");
+        next[place] = next[place].saturating_add(1);
+    }
     for process in 1..=threads {
-        let values = notes
-            .items
-            .iter()
-            .filter(|note| note.0 == process)
-            .map(|note| note.1);
-        assert!(rt; values.eq(0..STAYS), "of process {process}");
+        assert_eq!(rt; next[process as usize], STAYS, "of process {process}");
     }
 }
 
 #[test]
-fn two_threads_lose_no_note_of_a_word_lock(rt: HostRuntime) {
-    let notes = over_word_lock(&rt, rt.alloc(), 2);
-    expect_all(&rt, &notes, 2);
+fn threads_lose_no_note_of_a_word_lock(rt: HostRuntime) {
+    for threads in [2, 8] {
+        let notes = over_word_lock(&rt, rt.alloc(), threads);
+        expect_all(&rt, &notes, threads);
+    }
 }
 
 #[test]
-fn eight_threads_lose_no_note_of_a_word_lock(rt: HostRuntime) {
-    let notes = over_word_lock(&rt, rt.alloc(), 8);
-    expect_all(&rt, &notes, 8);
-}
-
-#[test]
-fn two_threads_lose_no_note_of_lamports_lock(rt: HostRuntime) {
-    let notes = over_fast_mutex(&rt, rt.alloc(), 2);
-    expect_all(&rt, &notes, 2);
-}
-
-#[test]
-fn eight_threads_lose_no_note_of_lamports_lock(rt: HostRuntime) {
-    let notes = over_fast_mutex(&rt, rt.alloc(), 8);
-    expect_all(&rt, &notes, 8);
+fn threads_lose_no_note_of_lamports_lock(rt: HostRuntime) {
+    for threads in [2, 8] {
+        let notes = over_fast_mutex(&rt, rt.alloc(), threads);
+        expect_all(&rt, &notes, threads);
+    }
 }

@@ -102,33 +102,17 @@ fn journal_of_walks<L: Look<Guarded>, R: Abort + Print>(rt: &R, alloc: Global) -
     finish(rt, room(rt, alloc), mq, one, two)
 }
 
-// The process after it read the entry at a place in its critical section.
-fn read<L: Look<Guarded>, A: Abort>(
-    rt: &A,
-    mq: &Mq<L>,
-    process: Process<L>,
-    place: u64,
-) -> (Process<L>, Option<Entry>)
-    requires { process.lock ≡ mq.now }
-    ensures { result.0.lock ≡ mq.now }
-{
-    assert!(rt; mq.is_stored(), "the journal is stored");
-    inside(rt, mq, process).entry(mq, place)
-}
-
-// What the process that made the only call finds in its critical section: the verdict on the
-// journal, its first entry, and that there is no second.
-fn readings<L: Look<Guarded>, R: Abort + Print>(rt: &R, alloc: Global) -> Readings {
+// The process that made the only call finds in its critical section that the journal is legal, and
+// its first entry, and no second.
+fn expect_readings<L: Look<Guarded>, R: Abort + Print>(rt: &R, alloc: Global, wanted: &Entry) {
     let Pair { mq, one, two: _ } = make_pair::<L, R>(rt, alloc, None);
     let one = opened(rt, &mq, inside(rt, &mq, one));
     assert!(rt; mq.is_stored(), "the journal is stored");
     let (one, checked) = inside(rt, &mq, one).check(alloc, &mq);
-    let (one, first) = read(rt, &mq, one, 0);
-    let (_, second) = read(rt, &mq, one, 1);
-    (checked, first, second)
+    let (one, first) = inside(rt, &mq, one).entry(&mq, 0);
+    let (_, second) = inside(rt, &mq, one).entry(&mq, 1);
+    assert_eq!(rt; (checked, first, second), (Ok(()), Some(*wanted), None));
 }
-
-type Readings = (Result<(), u64>, Option<Entry>, Option<Entry>);
 
 // The process in its critical section, if no other process holds the lock.
 fn inside<L: Look<Guarded>, A: Abort>(rt: &A, mq: &Mq<L>, process: Process<L>) -> Guard<L>
@@ -261,15 +245,15 @@ fn a_wait_is_ended_at_its_deadline_from_inside(rt: HostRuntime) {
     expect_journal(&rt, &journal, &REPLIES);
 }
 
+const FIRST: Entry = Entry {
+    process: 1,
+    call: OPEN,
+    reply: CREATED,
+};
+
 #[test]
 fn the_journal_is_read_from_inside(rt: HostRuntime) {
-    let (checked, first, second) = readings::<FastMutex<Guarded>, _>(&rt, rt.alloc());
-    assert_eq!(&rt; checked, Ok(()));
-    let replies = (
-        first.map(|entry| entry.reply),
-        second.map(|entry| entry.reply),
-    );
-    assert_eq!(&rt; replies, (Some(CREATED), None));
+    expect_readings::<FastMutex<Guarded>, _>(&rt, rt.alloc(), &FIRST);
 }
 
 #[test]
