@@ -46,7 +46,8 @@ static int told(void)
     FILE *from = fopen(path, "r");
     WANT(from != 0);
     while (fgets(line, sizeof line, from) != 0)
-        count += strstr(line, "the journal was not written to /dev/full") != 0;
+        count +=
+            strstr(line, "the journal was not written to /dev/full: No space left on device") != 0;
     fclose(from);
     return count;
 }
