@@ -199,6 +199,7 @@ typedef struct exploration {
     struct timespec began;
     char *done; /* what the engine says of the end, or null */
     bool is_late;
+    bool is_cut; /* a run had more steps than it may have */
 } exploration;
 
 static double seconds_since(const struct timespec *from)
@@ -239,6 +240,7 @@ static bool make_run(exploration *it, run *result, bool *fails)
 {
     program_run(&it->program, result);
     ++it->runs;
+    it->is_cut |= result->end == YAK_END_STEPS;
     *fails = outcomes_keep(&it->outcomes, it->program.shared, result, it->runs);
     free(result->printed);
     show_progress(it, false);
@@ -282,6 +284,15 @@ static bool search(exploration *it)
     return !begins_again;
 }
 
+static bool say_every_order(const exploration *it)
+{
+    printf("every order that can matter was tried");
+    if (it->is_cut)
+        printf(", up to step %lu", it->options->steps);
+    puts("");
+    return true;
+}
+
 /* Says how far the search came: whether every order was tried. */
 static bool say_how_far(const exploration *it)
 {
@@ -291,14 +302,10 @@ static bool say_how_far(const exploration *it)
         puts("the program ended before its first thread, in one order");
         return true;
     }
-    if (strcmp(done, "all") == 0) {
-        puts("every order that can matter was tried");
-        return true;
-    }
-    if (sscanf(done, "unseen %lu %lu", &unseen, &of) == 2 && unseen == 0) {
-        puts("every order that can matter was tried");
-        return true;
-    }
+    if (strcmp(done, "all") == 0)
+        return say_every_order(it);
+    if (sscanf(done, "unseen %lu %lu", &unseen, &of) == 2 && unseen == 0)
+        return say_every_order(it);
     if (of != 0)
         printf("not every order was tried: %lu of %lu random runs had one that the search had not "
                "seen, so the program shares what is not seen\n",
