@@ -36,7 +36,7 @@ pub fn is_open(call: Call) -> bool
     matches!(call, Call::MqOpen { .. })
 }
 
-fn is_unlink(call: Call) -> bool
+pub fn is_unlink(call: Call) -> bool
     ensures { result ≡ is_unlink call }
 {
     matches!(call, Call::MqUnlink)

@@ -1,4 +1,5 @@
 //! Numbers for the queues of a history, as far as its calls distinguish them.
+use histories::named::{descriptor_of, is_open, is_unlink};
 use histories::operation::{Operation, Outcome};
 use mq_model::entries::Call;
 use mq_model::limits::DESCRIPTORS;
@@ -85,11 +86,11 @@ fn place_of(names: &[&[u8]], name: &[u8]) -> usize {
 }
 
 fn is_named(call: Call) -> bool {
-    matches!(call, Call::MqOpen { .. } | Call::MqUnlink)
+    is_open(call) || is_unlink(call)
 }
 
 fn is_unlink_done(operation: &Operation) -> bool {
-    matches!(operation.call, Call::MqUnlink) && matches!(operation.outcome, Outcome::Done)
+    is_unlink(operation.call) && matches!(operation.outcome, Outcome::Done)
 }
 
 // The queue that a process holds under a descriptor.
@@ -97,18 +98,5 @@ fn held_at(held: &[usize; 16], d: Option<u32>, none: usize) -> usize {
     match d {
         Some(d) if d < DESCRIPTORS as u32 => held[d as usize],
         _ => none,
-    }
-}
-
-// The descriptor that a call uses.
-fn descriptor_of(call: Call) -> Option<u32> {
-    match call {
-        Call::MqSend { d, .. }
-        | Call::MqReceive { d, .. }
-        | Call::MqTimedSend { d, .. }
-        | Call::MqTimedReceive { d, .. }
-        | Call::MqGetattr { d }
-        | Call::MqSetattr { d, .. } => Some(d),
-        _ => None,
     }
 }
