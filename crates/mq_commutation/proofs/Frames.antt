@@ -51,10 +51,6 @@ is_on_queue _ = false
 -- the replies to calls on a queue -------------------------------------------------------------------------------------------
 
 never-withdrawn : (past : Past) (p : ℕ) (call : Call) (w : ℕ) → is_covered call ≡ true → Says past p call (Withdrawn w) → ⊥
-never-withdrawn past p (MqSend d prio len) w on says = says.3
-never-withdrawn past p (MqReceive d room) w on says = says.3
-never-withdrawn past p (MqTimedSend d prio len until now) w on says = says.3
-never-withdrawn past p (MqTimedReceive d room until now) w on says = says.3
 never-withdrawn past p (MqGetattr d) w on says = says
 never-withdrawn past p (MqSetattr d nonblock) w on says = says
 never-withdrawn past p (MqNotify d value) w on says = says
@@ -64,6 +60,7 @@ never-withdrawn past p (MqOpen flags attr) w on says = let bad : false ≡ true 
 never-withdrawn past p (MqClose c) w on says = says.0
 never-withdrawn past p MqUnlink w on says = let bad : false ≡ true = on in absurd (cc)
 never-withdrawn past p (Withdraw now) w on says = let bad : false ≡ true = on in absurd (cc)
+never-withdrawn past p _ w on says = says.3
 
 never-notice : (past : Past) (p : ℕ) (call : Call) (v : Option ℕ) → is_on_queue call ≡ true → Says past p call (Notice v) → ⊥
 never-notice past p (MqSend d prio len) v on says = says.3
@@ -73,12 +70,7 @@ never-notice past p (MqTimedReceive d room until now) v on says = says.3
 never-notice past p (MqGetattr d) v on says = says
 never-notice past p (MqSetattr d nonblock) v on says = says
 never-notice past p (MqNotify d value) v on says = says
-never-notice past p NextNotice v on says = let bad : false ≡ true = on in absurd (cc)
-never-notice past p Collect v on says = let bad : false ≡ true = on in absurd (cc)
-never-notice past p (MqOpen flags attr) v on says = let bad : false ≡ true = on in absurd (cc)
-never-notice past p (MqClose c) v on says = let bad : false ≡ true = on in absurd (cc)
-never-notice past p MqUnlink v on says = let bad : false ≡ true = on in absurd (cc)
-never-notice past p (Withdraw now) v on says = let bad : false ≡ true = on in absurd (cc)
+never-notice past p _ v on says = let bad : false ≡ true = on in absurd (cc)
 
 never-collected : (past : Past) (p : ℕ) (call : Call) (b : ℕ) → is_on_queue call ≡ true → Says past p call (Collected b) → ⊥
 never-collected past p (MqSend d prio len) b on says = says.3
@@ -88,57 +80,26 @@ never-collected past p (MqTimedReceive d room until now) b on says = says.3
 never-collected past p (MqGetattr d) b on says = says
 never-collected past p (MqSetattr d nonblock) b on says = says
 never-collected past p (MqNotify d value) b on says = says
-never-collected past p NextNotice b on says = let bad : false ≡ true = on in absurd (cc)
-never-collected past p Collect b on says = let bad : false ≡ true = on in absurd (cc)
-never-collected past p (MqOpen flags attr) b on says = let bad : false ≡ true = on in absurd (cc)
-never-collected past p (MqClose c) b on says = let bad : false ≡ true = on in absurd (cc)
-never-collected past p MqUnlink b on says = let bad : false ≡ true = on in absurd (cc)
-never-collected past p (Withdraw now) b on says = let bad : false ≡ true = on in absurd (cc)
+never-collected past p _ b on says = let bad : false ≡ true = on in absurd (cc)
 
 pub not-withdrawn : (past : Past) (p : ℕ) (call : Call) (reply : Reply) → is_covered call ≡ true → Says past p call reply → is_withdrawn reply ≡ false
-not-withdrawn past p call (Opened e new) on says = refl
-not-withdrawn past p call (Queued n) on says = refl
-not-withdrawn past p call (Handed w) on says = refl
-not-withdrawn past p call Waits on says = refl
-not-withdrawn past p call (Got m a n) on says = refl
-not-withdrawn past p call (Collected b) on says = refl
 not-withdrawn past p call (Withdrawn w) on says = absurd (never-withdrawn past p call w on says)
-not-withdrawn past p call (Attrs s) on says = refl
-not-withdrawn past p call (Notice v) on says = refl
-not-withdrawn past p call Done on says = refl
-not-withdrawn past p call (Refused f) on says = refl
+not-withdrawn past p call _ on says = refl
 
 gives-none : (past : Past) (p : ℕ) (call : Call) (reply : Reply) → is_on_queue call ≡ true → Says past p call reply → gives_notice reply ≡ false
-gives-none past p call (Opened e new) on says = refl
-gives-none past p call (Queued n) on says = refl
-gives-none past p call (Handed w) on says = refl
-gives-none past p call Waits on says = refl
-gives-none past p call (Got m a n) on says = refl
-gives-none past p call (Collected b) on says = refl
-gives-none past p call (Withdrawn w) on says = refl
-gives-none past p call (Attrs s) on says = refl
 gives-none past p call (Notice v) on says = absurd (never-notice past p call v on says)
-gives-none past p call Done on says = refl
-gives-none past p call (Refused f) on says = refl
+gives-none past p call _ on says = refl
 
 none-of : {X : Type 0} (o : Option X) → is_none o ≡ true → o ≡ None
 none-of None e = refl
 none-of (Some w) e = absurd (cc)
 
 pub no-wait : (past : Past) (p : ℕ) (call : Call) (reply : Reply) → is_covered call ≡ true → Says past p call reply → may_call past p call ≡ true → is_collected reply ≡ false → open_wait past p ≡ None
-no-wait past p (MqSend d prio len) reply on says turn not = none-of (open_wait past p) turn
-no-wait past p (MqReceive d room) reply on says turn not = none-of (open_wait past p) turn
-no-wait past p (MqTimedSend d prio len until now) reply on says turn not = none-of (open_wait past p) turn
-no-wait past p (MqTimedReceive d room until now) reply on says turn not = none-of (open_wait past p) turn
-no-wait past p (MqGetattr d) reply on says turn not = none-of (open_wait past p) turn
-no-wait past p (MqSetattr d nonblock) reply on says turn not = none-of (open_wait past p) turn
-no-wait past p (MqNotify d value) reply on says turn not = none-of (open_wait past p) turn
-no-wait past p NextNotice reply on says turn not = none-of (open_wait past p) turn
 no-wait past p Collect reply on says turn not = let is : is_collected reply ≡ true = ap is_collected says in let bad : true ≡ false = sym is ∙ not in absurd (cc)
 no-wait past p (MqOpen flags attr) reply on says turn not = let bad : false ≡ true = on in absurd (cc)
-no-wait past p (MqClose c) reply on says turn not = none-of (open_wait past p) turn
 no-wait past p MqUnlink reply on says turn not = let bad : false ≡ true = on in absurd (cc)
 no-wait past p (Withdraw now) reply on says turn not = let bad : false ≡ true = on in absurd (cc)
+no-wait past p _ reply on says turn not = none-of (open_wait past p) turn
 
 -- another queue ---------------------------------------------------------------------------------------------------------------
 
@@ -160,30 +121,12 @@ and-off true u v = refl
 and-off false u v = refl
 
 senders-off : (p : ℕ) (call : Call) (payload : List ℕ) (reply : Reply) (ss : List (Option Sender)) → after_senders p call payload false reply ss ≡ ss
-senders-off p call payload (Opened e new) ss = refl
-senders-off p call payload (Queued n) ss = refl
-senders-off p call payload (Handed w) ss = refl
 senders-off p call payload Waits ss = and-off (is_send call) _ ss
-senders-off p call payload (Got m a n) ss = refl
-senders-off p call payload (Collected b) ss = refl
-senders-off p call payload (Withdrawn w) ss = refl
-senders-off p call payload (Attrs s) ss = refl
-senders-off p call payload (Notice v) ss = refl
-senders-off p call payload Done ss = refl
-senders-off p call payload (Refused f) ss = refl
+senders-off p call payload _ ss = refl
 
 receivers-off : (p : ℕ) (call : Call) (reply : Reply) (rs : List (Option ℕ)) → after_receivers p call false reply rs ≡ rs
-receivers-off p call (Opened e new) rs = refl
-receivers-off p call (Queued n) rs = refl
-receivers-off p call (Handed w) rs = refl
 receivers-off p call Waits rs = and-off (is_receive call) _ rs
-receivers-off p call (Got m a n) rs = refl
-receivers-off p call (Collected b) rs = refl
-receivers-off p call (Withdrawn w) rs = refl
-receivers-off p call (Attrs s) rs = refl
-receivers-off p call (Notice v) rs = refl
-receivers-off p call Done rs = refl
-receivers-off p call (Refused f) rs = refl
+receivers-off p call _ rs = refl
 
 registered-off : (p : ℕ) (call : Call) (reply : Reply) (before : Option Registered) → is_covered call ≡ true → ((c : ℕ) → call ≡ MqClose c → (x : Registered) → before ≡ Some x → (c == x.d && p == x.process) ≡ false) → after_registered false p call reply before ≡ before
 registered-off p call (Opened e new) None on safe = refl
@@ -288,17 +231,9 @@ acted-shape call payload Done = refl
 acted-shape call payload (Refused f) = refl
 
 idle-answers : (past : Past) (p : ℕ) (call : Call) (reply : Reply) (ss : List (Option Sender)) (rs : List (Option ℕ)) → Says past p call reply → called_queue past p call ≡ None → answers reply ss rs ≡ None
-idle-answers past p call (Opened e new) ss rs says none = refl
-idle-answers past p call (Queued n) ss rs says none = refl
 idle-answers past p call (Handed w) ss rs says none = let hands = handed-all past p call w says in let bad : None ≡ Some hands.queue = sym none ∙ hands.on in absurd (cc)
-idle-answers past p call Waits ss rs says none = refl
 idle-answers past p call (Got m a n) ss rs says none = let got = got-all past p call m a n says in let bad : None ≡ Some got.queue = sym none ∙ got.on in absurd (cc)
-idle-answers past p call (Collected b) ss rs says none = refl
-idle-answers past p call (Withdrawn w) ss rs says none = refl
-idle-answers past p call (Attrs s) ss rs says none = refl
-idle-answers past p call (Notice v) ss rs says none = refl
-idle-answers past p call Done ss rs says none = refl
-idle-answers past p call (Refused f) ss rs says none = refl
+idle-answers past p call _ ss rs says none = refl
 
 answers-shape : (reply : Reply) (ss : List (Option Sender)) (rs : List (Option ℕ)) → answers (shape reply) ss rs ≡ answers reply ss rs
 answers-shape (Opened e new) ss rs = refl
@@ -378,15 +313,7 @@ answers-on past legal p call (Got m (Some w) n) k says e =
     let all : answered_at past p call (Got m (Some w) n) ≡ Some waits.0 = ap (λ (o : Option ℕ). option_and_then (λ q. answers (Got m (Some w) n) (senders past q) (receivers past q)) o) got.on ∙ last in
     let place : (waits.0 == k) ≡ true = sym (ap (is_place k) all) ∙ e in
     record { queue = got.queue; kind = Send; wait = w; on = got.on; opens = subst (λ (j : ℕ). open_wait past j ≡ Some w) (eqb-true waits.0 k place) waits.1; free = subst (λ (j : ℕ). answered_by past j ≡ None) (eqb-true waits.0 k place) waits.2; blocks = (is_in-filter _ (blocked past Send got.queue) w inside).0 }
-answers-on past legal p call (Opened o new) k says e = absurd (none-then k (called_queue past p call) e)
-answers-on past legal p call (Queued n) k says e = absurd (none-then k (called_queue past p call) e)
-answers-on past legal p call Waits k says e = absurd (none-then k (called_queue past p call) e)
-answers-on past legal p call (Collected b) k says e = absurd (none-then k (called_queue past p call) e)
-answers-on past legal p call (Withdrawn w) k says e = absurd (none-then k (called_queue past p call) e)
-answers-on past legal p call (Attrs s) k says e = absurd (none-then k (called_queue past p call) e)
-answers-on past legal p call (Notice v) k says e = absurd (none-then k (called_queue past p call) e)
-answers-on past legal p call Done k says e = absurd (none-then k (called_queue past p call) e)
-answers-on past legal p call (Refused f) k says e = absurd (none-then k (called_queue past p call) e)
+answers-on past legal p call _ k says e = absurd (none-then k (called_queue past p call) e)
 
 -- a call changes the answer of a process that waits without an answer on its queue, or collects its
 -- own
@@ -441,15 +368,7 @@ same-refused f false p call (Some x) = refl
 looks-attrs : (reply : Reply) → AttrsReply reply → Looks reply
 looks-attrs (Attrs s) says = record { contents = λ call payload on ss cs. refl; senders = λ p call payload on ss. refl; receivers = λ p call on rs. refl; registered = λ p call on before. same-attrs s on p call before; answers = λ past p call k. none-at k (called_queue past p call) }
 looks-attrs (Refused f) says = record { contents = λ call payload on ss cs. refl; senders = λ p call payload on ss. refl; receivers = λ p call on rs. refl; registered = λ p call on before. same-refused f on p call before; answers = λ past p call k. none-at k (called_queue past p call) }
-looks-attrs (Opened e new) says = absurd says
-looks-attrs (Queued n) says = absurd says
-looks-attrs (Handed w) says = absurd says
-looks-attrs Waits says = absurd says
-looks-attrs (Got m a n) says = absurd says
-looks-attrs (Collected b) says = absurd says
-looks-attrs (Withdrawn w) says = absurd says
-looks-attrs (Notice v) says = absurd says
-looks-attrs Done says = absurd says
+looks-attrs _ says = absurd says
 
 pub looks : (past : Past) (p : ℕ) (call : Call) (reply : Reply) → only_reads call ≡ true → Says past p call reply → Looks reply
 looks past p (MqGetattr d) reply look says = looks-attrs reply says
@@ -466,17 +385,9 @@ off-queue past p call reply k values on says off =
     (λ i. if quiet i && p == k then drop 1 (gain (notified_registration past p call reply) k values) else gain (notified_registration past p call reply) k values) ∙ gain-off (notified_registration past p call reply) k values off
 
 closed-off : (past : Past) (p c : ℕ) (reply : Reply) (k : ℕ) (values : List ℕ) → Says past p (MqClose c) reply → after_notices p (gives_notice reply) (notified_registration past p (MqClose c) reply) k values ≡ values
-closed-off past p c (Opened o new) k values says = absurd says.0
-closed-off past p c (Queued n) k values says = absurd says.0
-closed-off past p c (Handed w) k values says = absurd says.0
-closed-off past p c Waits k values says = absurd says.0
-closed-off past p c (Got m a n) k values says = absurd says.0
-closed-off past p c (Collected b) k values says = absurd says.0
-closed-off past p c (Withdrawn w) k values says = absurd says.0
-closed-off past p c (Attrs s) k values says = absurd says.0
-closed-off past p c (Notice v) k values says = absurd says.0
 closed-off past p c Done k values says = refl
 closed-off past p c (Refused f) k values says = refl
+closed-off past p c _ k values says = absurd says.0
 
 pub notices-off : (past : Past) (p : ℕ) (call : Call) (reply : Reply) (k : ℕ) (values : List ℕ) → is_covered call ≡ true → Says past p call reply → is_place k (whose_notices_by past p call reply) ≡ false → after_notices p (gives_notice reply) (notified_registration past p call reply) k values ≡ values
 notices-off past p (MqSend d prio len) reply k values on says off = off-queue past p (MqSend d prio len) reply k values refl says off
@@ -490,10 +401,8 @@ notices-off past p NextNotice reply k values on says off =
     subst (λ (r : Reply). after_notices p (gives_notice r) (notified_registration past p NextNotice r) k values ≡ values) (sym says)
     ((λ i. if gives_notice (Notice (slice_get (notices past p) 0)) && off i then drop 1 values else values) ∙ and-off (gives_notice (Notice (slice_get (notices past p) 0))) (drop 1 values) values)
 notices-off past p Collect reply k values on says off = subst (λ (r : Reply). after_notices p (gives_notice r) (notified_registration past p Collect r) k values ≡ values) (sym says) refl
-notices-off past p (MqOpen flags attr) reply k values on says off = let bad : false ≡ true = on in absurd (cc)
 notices-off past p (MqClose c) reply k values on says off = closed-off past p c reply k values says
-notices-off past p MqUnlink reply k values on says off = let bad : false ≡ true = on in absurd (cc)
-notices-off past p (Withdraw now) reply k values on says off = let bad : false ≡ true = on in absurd (cc)
+notices-off past p _ reply k values on says off = let bad : false ≡ true = on in absurd (cc)
 
 module _ (past : Past) (legal : Legal past) (p : ℕ) (call : Call) (reply : Reply) (payload : List ℕ) (next : IsLegalNext past (rec p call reply payload)) (on : is_covered call ≡ true) where
   abbrev r : Record

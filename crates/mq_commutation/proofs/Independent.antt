@@ -22,36 +22,12 @@ record PassesBy (past : Past) (prio : ℕ) (a b : Reply) : Type 0 where
   low : nat_le prio (priority past message) ≡ true
 
 passes-got : (past : Past) (prio : ℕ) (b : Reply) → passes_by past prio (Queued None) b ≡ true → PassesBy past prio (Queued None) b
-passes-got past prio (Opened o new) e = absurd (let bad : false ≡ true = e in cc)
-passes-got past prio (Queued None) e = absurd (let bad : false ≡ true = e in cc)
-passes-got past prio (Queued (Some x)) e = absurd (let bad : false ≡ true = e in cc)
-passes-got past prio (Handed w) e = absurd (let bad : false ≡ true = e in cc)
-passes-got past prio Waits e = absurd (let bad : false ≡ true = e in cc)
 passes-got past prio (Got m None None) e = record { message = m; queued = refl; gets = refl; low = e }
-passes-got past prio (Got m (Some x) n) e = absurd (let bad : false ≡ true = e in cc)
-passes-got past prio (Got m None (Some x)) e = absurd (let bad : false ≡ true = e in cc)
-passes-got past prio (Collected c) e = absurd (let bad : false ≡ true = e in cc)
-passes-got past prio (Withdrawn w) e = absurd (let bad : false ≡ true = e in cc)
-passes-got past prio (Attrs s) e = absurd (let bad : false ≡ true = e in cc)
-passes-got past prio (Notice v) e = absurd (let bad : false ≡ true = e in cc)
-passes-got past prio Done e = absurd (let bad : false ≡ true = e in cc)
-passes-got past prio (Refused f) e = absurd (let bad : false ≡ true = e in cc)
+passes-got past prio _ e = absurd (let bad : false ≡ true = e in cc)
 
 passes-by : (past : Past) (prio : ℕ) (a b : Reply) → passes_by past prio a b ≡ true → PassesBy past prio a b
-passes-by past prio (Opened o new) b e = absurd (let bad : false ≡ true = e in cc)
 passes-by past prio (Queued None) b e = passes-got past prio b e
-passes-by past prio (Queued (Some x)) b e = absurd (let bad : false ≡ true = e in cc)
-passes-by past prio (Handed w) b e = absurd (let bad : false ≡ true = e in cc)
-passes-by past prio Waits b e = absurd (let bad : false ≡ true = e in cc)
-passes-by past prio (Got m None None) b e = absurd (let bad : false ≡ true = e in cc)
-passes-by past prio (Got m (Some x) n) b e = absurd (let bad : false ≡ true = e in cc)
-passes-by past prio (Got m None (Some x)) b e = absurd (let bad : false ≡ true = e in cc)
-passes-by past prio (Collected c) b e = absurd (let bad : false ≡ true = e in cc)
-passes-by past prio (Withdrawn w) b e = absurd (let bad : false ≡ true = e in cc)
-passes-by past prio (Attrs s) b e = absurd (let bad : false ≡ true = e in cc)
-passes-by past prio (Notice v) b e = absurd (let bad : false ≡ true = e in cc)
-passes-by past prio Done b e = absurd (let bad : false ≡ true = e in cc)
-passes-by past prio (Refused f) b e = absurd (let bad : false ≡ true = e in cc)
+passes-by past prio _ b e = absurd (let bad : false ≡ true = e in cc)
 
 record OneQueue (o u : Option ℕ) : Type 0 where
   queue : ℕ

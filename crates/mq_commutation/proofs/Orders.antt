@@ -42,19 +42,10 @@ use Rattle.mq_commutation.proofs.Steps.{both-give, both-wait, shapes}
 -- facts of the calls on queues -------------------------------------------------------------------------------------------------
 
 pub touched-is : (past : Past) (p : ℕ) (call : Call) → is_covered call ≡ true → queue_touched_by past p call ≡ called_queue past p call
-touched-is past p (MqSend d prio len) on = refl
-touched-is past p (MqReceive d room) on = refl
-touched-is past p (MqTimedSend d prio len until now) on = refl
-touched-is past p (MqTimedReceive d room until now) on = refl
-touched-is past p (MqGetattr d) on = refl
-touched-is past p (MqSetattr d nonblock) on = refl
-touched-is past p (MqNotify d value) on = refl
 touched-is past p (MqOpen flags attr) on = let bad : false ≡ true = on in absurd (cc)
-touched-is past p (MqClose c) on = refl
 touched-is past p MqUnlink on = let bad : false ≡ true = on in absurd (cc)
-touched-is past p NextNotice on = refl
-touched-is past p Collect on = refl
 touched-is past p (Withdraw now) on = let bad : false ≡ true = on in absurd (cc)
+touched-is past p _ on = refl
 
 pub stays-answered : (past : Past) (r : Record) (p : ℕ) → (r.entry.process ≡ p → ⊥) → is_some (answered_by past p) ≡ true → is_some (answered_by (r ∷ past) p) ≡ true
 stays-answered past r p ne e = split (names_wait r.entry.reply (open_wait past p))
@@ -63,34 +54,17 @@ stays-answered past r p ne e = split (names_wait r.entry.reply (open_wait past p
 
 -- a call of another process may still be made
 turn-other : (past : Past) (r : Record) (p : ℕ) (call : Call) → (r.entry.process ≡ p → ⊥) → is_covered call ≡ true → may_call past p call ≡ true → may_call (r ∷ past) p call ≡ true
-turn-other past r p (MqSend d prio len) ne on e = rw (ne_eqb r.entry.process p ne) e
-turn-other past r p (MqReceive d room) ne on e = rw (ne_eqb r.entry.process p ne) e
-turn-other past r p (MqTimedSend d prio len until now) ne on e = rw (ne_eqb r.entry.process p ne) e
-turn-other past r p (MqTimedReceive d room until now) ne on e = rw (ne_eqb r.entry.process p ne) e
-turn-other past r p (MqGetattr d) ne on e = rw (ne_eqb r.entry.process p ne) e
-turn-other past r p (MqSetattr d nonblock) ne on e = rw (ne_eqb r.entry.process p ne) e
-turn-other past r p (MqNotify d value) ne on e = rw (ne_eqb r.entry.process p ne) e
-turn-other past r p NextNotice ne on e = rw (ne_eqb r.entry.process p ne) e
 turn-other past r p Collect ne on e = stays-answered past r p ne e
 turn-other past r p (MqOpen flags attr) ne on e = let bad : false ≡ true = on in absurd (cc)
-turn-other past r p (MqClose c) ne on e = rw (ne_eqb r.entry.process p ne) e
 turn-other past r p MqUnlink ne on e = let bad : false ≡ true = on in absurd (cc)
 turn-other past r p (Withdraw now) ne on e = let bad : false ≡ true = on in absurd (cc)
+turn-other past r p _ ne on e = rw (ne_eqb r.entry.process p ne) e
 
 same-reply : (past : Past) (p : ℕ) (call : Call) (given : List ℕ) → is_covered call ≡ true → reply_to past p call given ≡ reply_to past p call (payload_of call (reply_to past p call given) given)
-same-reply past p (MqSend d prio len) given on = refl
-same-reply past p (MqReceive d room) given on = refl
-same-reply past p (MqTimedSend d prio len until now) given on = refl
-same-reply past p (MqTimedReceive d room until now) given on = refl
-same-reply past p (MqGetattr d) given on = refl
-same-reply past p (MqSetattr d nonblock) given on = refl
-same-reply past p (MqNotify d value) given on = refl
 same-reply past p (MqOpen flags attr) given on = let bad : false ≡ true = on in absurd (cc)
-same-reply past p (MqClose c) given on = refl
 same-reply past p MqUnlink given on = let bad : false ≡ true = on in absurd (cc)
-same-reply past p NextNotice given on = refl
-same-reply past p Collect given on = refl
 same-reply past p (Withdraw now) given on = let bad : false ≡ true = on in absurd (cc)
+same-reply past p _ given on = refl
 
 held-step : (past : Past) (p : ℕ) (call : Call) (reply : Reply) (payload : List ℕ) → is_covered call ≡ true → (k d : ℕ) → held (rec p call reply payload ∷ past) k d ≡ (if p == k then flagged call reply d (held past k d) else held past k d)
 held-step past p call reply payload on k d = ap (λ (v : Option Description). if p == k then v else held past k d) (held-by past call payload reply d (held past k d) on)

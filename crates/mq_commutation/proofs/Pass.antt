@@ -93,36 +93,12 @@ calm-got : (m : ℕ) → Calm (Got m None None)
 calm-got m = record { senders = λ p call payload on ss. left-got m p call payload on ss; receivers = λ p call on rs. refl; registered = λ p call on before. still-got m on p call before; answers = λ past p call. none-at (called_queue past p call); notified_registration = λ past p call. refl; acts = λ p w k. refl; gives = refl }
 
 queued-of : (r : Reply) → outline r ≡ Queued None → r ≡ Queued None
-queued-of (Opened o new) e = absurd (cc)
 queued-of (Queued None) e = refl
-queued-of (Queued (Some x)) e = absurd (cc)
-queued-of (Handed w) e = absurd (cc)
-queued-of Waits e = absurd (cc)
-queued-of (Got m None None) e = absurd (cc)
-queued-of (Got m (Some x) n) e = absurd (cc)
-queued-of (Got m None (Some x)) e = absurd (cc)
-queued-of (Collected b) e = absurd (cc)
-queued-of (Withdrawn w) e = absurd (cc)
-queued-of (Attrs s) e = absurd (cc)
-queued-of (Notice v) e = absurd (cc)
-queued-of Done e = absurd (cc)
-queued-of (Refused f) e = absurd (cc)
+queued-of _ e = absurd (cc)
 
 got-of : (r : Reply) → outline r ≡ Got 0 None None → (m : ℕ) × (r ≡ Got m None None)
-got-of (Opened o new) e = absurd (cc)
-got-of (Queued None) e = absurd (cc)
-got-of (Queued (Some x)) e = absurd (cc)
-got-of (Handed w) e = absurd (cc)
-got-of Waits e = absurd (cc)
 got-of (Got m None None) e = (m, refl)
-got-of (Got m (Some x) n) e = absurd (cc)
-got-of (Got m None (Some x)) e = absurd (cc)
-got-of (Collected b) e = absurd (cc)
-got-of (Withdrawn w) e = absurd (cc)
-got-of (Attrs s) e = absurd (cc)
-got-of (Notice v) e = absurd (cc)
-got-of Done e = absurd (cc)
-got-of (Refused f) e = absurd (cc)
+got-of _ e = absurd (cc)
 
 -- the state of a queue after such a call
 pub record KeptAt (past : Past) (r : Record) (k : ℕ) : Type 0 where
@@ -202,17 +178,13 @@ module _ (x y : Past) (p : ℕ) (same : (d : ℕ) → held y p d ≡ held x p d)
   receive-like : (call : Call) (given : List ℕ) → (m : ℕ) (a n : Option ℕ) → Says x p call (Got m a n) → called_queue x p call ≡ Some q → FoundFull x y q → outline (reply_to y p call given) ≡ outline (reply_to x p call given)
   receive-like (MqReceive d room) given m a n says on found = receive-found d room on found
   receive-like (MqTimedReceive d room until now) given m a n says on found = timed-shape until now _ _ (receive-found d room on found)
-  receive-like (MqOpen flags attr) given m a n says on found = absurd says
   receive-like (MqClose d) given m a n says on found = absurd says.0
-  receive-like MqUnlink given m a n says on found = absurd says
   receive-like (MqSend d prio len) given m a n says on found = absurd says.3
   receive-like (MqTimedSend d prio len until now) given m a n says on found = absurd says.3
-  receive-like (MqGetattr d) given m a n says on found = absurd says
-  receive-like (MqSetattr d nonblock) given m a n says on found = absurd says
-  receive-like (MqNotify d value) given m a n says on found = absurd says
   receive-like NextNotice given m a n says on found = absurd (cc)
   receive-like Collect given m a n says on found = absurd (cc)
   receive-like (Withdraw now) given m a n says on found = absurd (cc)
+  receive-like _ given m a n says on found = absurd says
 
   send-like : (call : Call) (given : List ℕ) → is_send call ≡ true → called_queue x p call ≡ Some q → FoundRoom x y q → outline (reply_to y p call given) ≡ outline (reply_to x p call given)
   send-like (MqSend d prio len) given sends on found = send-found d prio len on found

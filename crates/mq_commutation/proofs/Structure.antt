@@ -43,15 +43,6 @@ not-created call Done on = refl
 not-created call (Refused f) on = refl
 
 pub not-unlinked : (call : Call) (reply : Reply) → is_covered call ≡ true → unlinks call reply ≡ false
-not-unlinked call (Opened e new) on = refl
-not-unlinked call (Queued n) on = refl
-not-unlinked call (Handed w) on = refl
-not-unlinked call Waits on = refl
-not-unlinked call (Got m a n) on = refl
-not-unlinked call (Collected b) on = refl
-not-unlinked call (Withdrawn w) on = refl
-not-unlinked call (Attrs s) on = refl
-not-unlinked call (Notice v) on = refl
 not-unlinked (MqSend d prio len) Done on = refl
 not-unlinked (MqReceive d room) Done on = refl
 not-unlinked (MqTimedSend d prio len until now) Done on = refl
@@ -65,7 +56,7 @@ not-unlinked MqUnlink Done on = let bad : false ≡ true = on in absurd (cc)
 not-unlinked NextNotice Done on = refl
 not-unlinked Collect Done on = refl
 not-unlinked (Withdraw now) Done on = let bad : false ≡ true = on in absurd (cc)
-not-unlinked call (Refused f) on = refl
+not-unlinked call _ on = refl
 
 -- a descriptor after such a call
 abbrev pub flagged : Call → Reply → ℕ → Option Description → Option Description
@@ -189,11 +180,6 @@ held-by past Collect name (Refused f) d before on = refl
 held-by past (Withdraw now) name reply d before on = let bad : false ≡ true = on in absurd (cc)
 
 pub flagged-shape : (call : Call) (reply : Reply) (d : ℕ) (before : Option Description) → flagged call (shape reply) d before ≡ flagged call reply d before
-flagged-shape (MqSend e prio len) reply d before = refl
-flagged-shape (MqReceive e room) reply d before = refl
-flagged-shape (MqTimedSend e prio len until now) reply d before = refl
-flagged-shape (MqTimedReceive e room until now) reply d before = refl
-flagged-shape (MqGetattr e) reply d before = refl
 flagged-shape (MqSetattr e nonblock) (Opened o new) d before = refl
 flagged-shape (MqSetattr e nonblock) (Queued n) d before = refl
 flagged-shape (MqSetattr e nonblock) (Handed w) d before = refl
@@ -205,8 +191,6 @@ flagged-shape (MqSetattr e nonblock) (Attrs s) d before = refl
 flagged-shape (MqSetattr e nonblock) (Notice v) d before = refl
 flagged-shape (MqSetattr e nonblock) Done d before = refl
 flagged-shape (MqSetattr e nonblock) (Refused f) d before = refl
-flagged-shape (MqNotify e value) reply d before = refl
-flagged-shape (MqOpen flags attr) reply d before = refl
 flagged-shape (MqClose c) (Opened o new) d before = refl
 flagged-shape (MqClose c) (Queued n) d before = refl
 flagged-shape (MqClose c) (Handed w) d before = refl
@@ -218,10 +202,7 @@ flagged-shape (MqClose c) (Attrs s) d before = refl
 flagged-shape (MqClose c) (Notice v) d before = refl
 flagged-shape (MqClose c) Done d before = refl
 flagged-shape (MqClose c) (Refused f) d before = refl
-flagged-shape MqUnlink reply d before = refl
-flagged-shape NextNotice reply d before = refl
-flagged-shape Collect reply d before = refl
-flagged-shape (Withdraw now) reply d before = refl
+flagged-shape _ reply d before = refl
 
 pub created-stay : (past : Past) (p : ℕ) (call : Call) (reply : Reply) (payload : List ℕ) → is_covered call ≡ true → created (rec p call reply payload ∷ past) ≡ created past
 created-stay past p call reply payload on = rw (not-created call reply on) refl
