@@ -126,12 +126,7 @@ record Sends (o : Operation) (prio : ℕ) (message : List ℕ) : Type 0 where
 
 done-of : (x : Outcome) → is_done x ≡ true → x ≡ Done
 done-of Done e = refl
-done-of Pending e = absurd (let bad : false ≡ true = e in cc)
-done-of (Opened d) e = absurd (let bad : false ≡ true = e in cc)
-done-of (Got p m) e = absurd (let bad : false ≡ true = e in cc)
-done-of (Attributes s) e = absurd (let bad : false ≡ true = e in cc)
-done-of (Notice v) e = absurd (let bad : false ≡ true = e in cc)
-done-of (Refused f) e = absurd (let bad : false ≡ true = e in cc)
+done-of _ e = absurd (let bad : false ≡ true = e in cc)
 
 sends-of : (o : Operation) (prio : ℕ) (message : List ℕ) → has_sent prio message o ≡ true → Sends o prio message
 sends-of o prio message e =
@@ -155,14 +150,7 @@ newest-accepted past r q send on (reply.Queued n) is sent goes = rw (is, send, o
 newest-accepted past r q send on (reply.Handed w) is sent goes =
     or-right (is_in (admitted (r ∷ past) q) (length past)) (is_in (handed (r ∷ past) q) (length past)) (rw (is, send, on, eq-eqb q q refl) (rw (eq-eqb (length past) (length past) refl) refl))
 newest-accepted past r q send on reply.Waits is sent goes = absurd (let bad : true ≡ false = goes in cc)
-newest-accepted past r q send on (reply.Opened d c) is sent goes = absurd (let bad : false ≡ true = sent in cc)
-newest-accepted past r q send on (reply.Got m a n) is sent goes = absurd (let bad : false ≡ true = sent in cc)
-newest-accepted past r q send on (reply.Collected b) is sent goes = absurd (let bad : false ≡ true = sent in cc)
-newest-accepted past r q send on (reply.Withdrawn b) is sent goes = absurd (let bad : false ≡ true = sent in cc)
-newest-accepted past r q send on (reply.Attrs s) is sent goes = absurd (let bad : false ≡ true = sent in cc)
-newest-accepted past r q send on (reply.Notice v) is sent goes = absurd (let bad : false ≡ true = sent in cc)
-newest-accepted past r q send on reply.Done is sent goes = absurd (let bad : false ≡ true = sent in cc)
-newest-accepted past r q send on (reply.Refused f) is sent goes = absurd (let bad : false ≡ true = sent in cc)
+newest-accepted past r q send on _ is sent goes = absurd (let bad : false ≡ true = sent in cc)
 
 enters : (past : Past) (r : Record) (q w : ℕ) → entered past r.entry q ≡ Some w → is_in (admitted (r ∷ past) q) w ≡ true
 enters past r q w e = rw e (rw (eq-eqb w w refl) refl)
@@ -185,16 +173,7 @@ admits-admitted (r ∷ past) legal k w h = has-cases admits past r k w h
         let waits = least-in (waiting_sends past x.0) w (sym x.1 ∙ e) in
         let blocked : is_in (blocked_sends past x.0) w ≡ true = (is_in-filter _ (blocked_sends past x.0) w waits).0 in
         (x.0, enters past r x.0 w (entered-got past r x.0 w m a n is e blocked))
-    by (reply.Opened d c) is e = absurd (let bad : None ≡ Some w = e in cc)
-    by (reply.Queued n) is e = absurd (let bad : None ≡ Some w = e in cc)
-    by (reply.Handed v) is e = absurd (let bad : None ≡ Some w = e in cc)
-    by reply.Waits is e = absurd (let bad : None ≡ Some w = e in cc)
-    by (reply.Collected b) is e = absurd (let bad : None ≡ Some w = e in cc)
-    by (reply.Withdrawn b) is e = absurd (let bad : None ≡ Some w = e in cc)
-    by (reply.Attrs s) is e = absurd (let bad : None ≡ Some w = e in cc)
-    by (reply.Notice v) is e = absurd (let bad : None ≡ Some w = e in cc)
-    by reply.Done is e = absurd (let bad : None ≡ Some w = e in cc)
-    by (reply.Refused f) is e = absurd (let bad : None ≡ Some w = e in cc)
+    by _ is e = absurd (let bad : None ≡ Some w = e in cc)
 
 -- an entry that serves a wait and hands nothing over admits a send
 admitting : (past : Past) (b w : ℕ) → Has named_wait past b w → not (is_handed past b) ≡ true → Has admits past b w
@@ -236,16 +215,9 @@ collected-accepted histories past linear time begun r legal index o prio message
   where
     waits-sent : (y : Reply) → is_wait y ≡ true → is_sent y ≡ true
     waits-sent reply.Waits e = refl
-    waits-sent (reply.Opened d c) e = absurd (let bad : false ≡ true = e in cc)
     waits-sent (reply.Queued n) e = refl
     waits-sent (reply.Handed w) e = refl
-    waits-sent (reply.Got m a n) e = absurd (let bad : false ≡ true = e in cc)
-    waits-sent (reply.Collected b) e = absurd (let bad : false ≡ true = e in cc)
-    waits-sent (reply.Withdrawn b) e = absurd (let bad : false ≡ true = e in cc)
-    waits-sent (reply.Attrs s) e = absurd (let bad : false ≡ true = e in cc)
-    waits-sent (reply.Notice v) e = absurd (let bad : false ≡ true = e in cc)
-    waits-sent reply.Done e = absurd (let bad : false ≡ true = e in cc)
-    waits-sent (reply.Refused f) e = absurd (let bad : false ≡ true = e in cc)
+    waits-sent _ e = absurd (let bad : false ≡ true = e in cc)
 
 -- the record that completes a send
 completing-accepted : (histories : Histories) (past : Past) (linear : IsLinearization histories past) (time : ℕ) → AreBegun time histories past linear → (r : Record) → IsLegalNext past r → (from : ComesFrom histories past r) → from.operation.begin ≤ time → (prio : ℕ) (message : List ℕ) →

@@ -46,10 +46,7 @@ collected-enters : (past : Past) (m : ℕ) (x : Outcome) → is_handed past m �
 collected-enters past m Pending kept fit = refl
 collected-enters past m Done kept fit = refl
 collected-enters past m (Got p bytes) kept fit = absurd (let bad : false ≡ true = rw kept at fit in cc)
-collected-enters past m (Opened d) kept fit = absurd (let bad : false ≡ true = fit in cc)
-collected-enters past m (Attributes s) kept fit = absurd (let bad : false ≡ true = fit in cc)
-collected-enters past m (Notice v) kept fit = absurd (let bad : false ≡ true = fit in cc)
-collected-enters past m (Refused f) kept fit = absurd (let bad : false ≡ true = fit in cc)
+collected-enters past m _ kept fit = absurd (let bad : false ≡ true = fit in cc)
 
 admitted-step : (histories : Histories) (past : Past) (r : Record) (linear : IsLinearization histories (r ∷ past)) (index w m : ℕ) (o : Operation) → IsAdmitted histories past index w m o →
     IsAdmitted histories (r ∷ past) index w m o ⊎ (may_enter o.outcome ≡ true)
@@ -90,17 +87,7 @@ admitted-step histories past r linear index w m o x = split (r.entry.process == 
         let same : w0 ≡ w = rw x.opened refl in
         let here : Has withdrawn_wait (r ∷ past) (length past) w = has-here withdrawn_wait past r w (ap withdrawn_wait is ∙ ap Some same) in
         absurd (withdrawn-unnamed (r ∷ past) (legal, linear.1) (length past) m w here (has-older named_wait past r m w x.named))
-    by (MqOpen flags attr) mine turn says = absurd (some-not-none past (index + 1) w x.opened turn)
-    by (MqClose d) mine turn says = absurd (some-not-none past (index + 1) w x.opened turn)
-    by MqUnlink mine turn says = absurd (some-not-none past (index + 1) w x.opened turn)
-    by (MqSend d p len) mine turn says = absurd (some-not-none past (index + 1) w x.opened turn)
-    by (MqTimedSend d p len until now) mine turn says = absurd (some-not-none past (index + 1) w x.opened turn)
-    by (MqReceive d room) mine turn says = absurd (some-not-none past (index + 1) w x.opened turn)
-    by (MqTimedReceive d room until now) mine turn says = absurd (some-not-none past (index + 1) w x.opened turn)
-    by (MqGetattr d) mine turn says = absurd (some-not-none past (index + 1) w x.opened turn)
-    by (MqSetattr d nonblock) mine turn says = absurd (some-not-none past (index + 1) w x.opened turn)
-    by (MqNotify d value) mine turn says = absurd (some-not-none past (index + 1) w x.opened turn)
-    by NextNotice mine turn says = absurd (some-not-none past (index + 1) w x.opened turn)
+    by _ mine turn says = absurd (some-not-none past (index + 1) w x.opened turn)
 
     ended : r.entry.process ≡ index + 1 → may_enter o.outcome ≡ true
     ended mine = by r.entry.call mine
@@ -120,12 +107,7 @@ admitted-later histories base (r ∷ full) linear ends index w m o x = elim ends
 
 pending-enters : (x : Outcome) → is_pending x ≡ true → may_enter x ≡ true
 pending-enters Pending e = refl
-pending-enters Done e = absurd (let bad : false ≡ true = e in cc)
-pending-enters (Opened d) e = absurd (let bad : false ≡ true = e in cc)
-pending-enters (Got p m) e = absurd (let bad : false ≡ true = e in cc)
-pending-enters (Attributes s) e = absurd (let bad : false ≡ true = e in cc)
-pending-enters (Notice v) e = absurd (let bad : false ≡ true = e in cc)
-pending-enters (Refused f) e = absurd (let bad : false ≡ true = e in cc)
+pending-enters _ e = absurd (let bad : false ≡ true = e in cc)
 
 -- in a complete linearization the operation succeeds, or has not returned
 pub admitted-enters : (histories : Histories) (base full : Past) → IsLinearization histories full → Ends base full → (index w m : ℕ) (o : Operation) → is_through (current_of histories full index) ≡ true →

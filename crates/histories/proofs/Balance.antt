@@ -84,17 +84,13 @@ present-got : (past : Past) → Legal past → (p : ℕ) (call : Call) (m : ℕ)
     length (present (rec p call (reply.Got m a n) payload ∷ past) q) + if_on (is_place q (called_queue past p call)) 1 ≤ length (present past q) + if_on (is_place q (called_queue past p call)) (one_if (is_some a))
 present-got past legal p (MqReceive d room) m a n payload says q = rw says.1 (got-at past legal p (MqReceive d room) says.0 m a n payload says.3 q)
 present-got past legal p (MqTimedReceive d room until now) m a n payload says q = rw says.1 (got-at past legal p (MqTimedReceive d room until now) says.0 m a n payload says.3 q)
-present-got past legal p (MqOpen flags attr) m a n payload says q = absurd says
 present-got past legal p (MqClose d) m a n payload says q = absurd says.0
-present-got past legal p MqUnlink m a n payload says q = absurd says
 present-got past legal p (MqSend d prio len) m a n payload says q = absurd says.3
 present-got past legal p (MqTimedSend d prio len until now) m a n payload says q = absurd says.3
-present-got past legal p (MqGetattr d) m a n payload says q = absurd says
-present-got past legal p (MqSetattr d nonblock) m a n payload says q = absurd says
-present-got past legal p (MqNotify d value) m a n payload says q = absurd says
 present-got past legal p NextNotice m a n payload says q = absurd (cc)
 present-got past legal p Collect m a n payload says q = absurd (cc)
 present-got past legal p (Withdraw now) m a n payload says q = absurd (cc)
+present-got past legal p _ m a n payload says q = absurd says
 
 if_on-zero : (on : Bool) → if_on on 0 ≡ 0
 if_on-zero true = refl
@@ -117,14 +113,7 @@ present-step past legal p call (reply.Handed w) payload says q =
     let e = ap length (present-handed past p call w payload q) in
     let none = if_on-zero (is_place q (called_queue past p call)) in
     omega (arith, e, none)
-present-step past legal p call (reply.Opened d c) payload says q = let none = if_on-zero (is_place q (called_queue past p call)) in omega (arith, none)
-present-step past legal p call reply.Waits payload says q = let none = if_on-zero (is_place q (called_queue past p call)) in omega (arith, none)
-present-step past legal p call (reply.Collected b) payload says q = let none = if_on-zero (is_place q (called_queue past p call)) in omega (arith, none)
-present-step past legal p call (reply.Withdrawn b) payload says q = let none = if_on-zero (is_place q (called_queue past p call)) in omega (arith, none)
-present-step past legal p call (reply.Attrs s) payload says q = let none = if_on-zero (is_place q (called_queue past p call)) in omega (arith, none)
-present-step past legal p call (reply.Notice v) payload says q = let none = if_on-zero (is_place q (called_queue past p call)) in omega (arith, none)
-present-step past legal p call reply.Done payload says q = let none = if_on-zero (is_place q (called_queue past p call)) in omega (arith, none)
-present-step past legal p call (reply.Refused f) payload says q = let none = if_on-zero (is_place q (called_queue past p call)) in omega (arith, none)
+present-step past legal p call _ payload says q = let none = if_on-zero (is_place q (called_queue past p call)) in omega (arith, none)
 
 -- what a record adds on both sides
 balanced : (y : Reply) → came y + (own_gain y + one_if (hands y)) ≤ gone y + (own_come y + one_if (is_some (admits y)))
@@ -180,15 +169,7 @@ step-on time name histories past r linear begun stays q named = by (called_queue
     still : (y : Reply) → Says past r.entry.process r.entry.call y → called_queue past r.entry.process r.entry.call ≡ None → (gone y ≡ 0) × (came y ≡ 0)
     still (reply.Queued n) x none = absurd (let on = send-on past r.entry.process r.entry.call (reply.Queued n) x (queued-sends past r.entry.process n r.entry.call x) refl in let bad : None ≡ Some on.0 = sym none ∙ on.1 in cc)
     still (reply.Got m a n) x none = absurd (let on = admits-on past r.entry.process m a n r.entry.call x in let bad : None ≡ Some on.0 = sym none ∙ on.1 in cc)
-    still (reply.Handed w) x none = (refl, refl)
-    still (reply.Opened d c) x none = (refl, refl)
-    still reply.Waits x none = (refl, refl)
-    still (reply.Collected b) x none = (refl, refl)
-    still (reply.Withdrawn b) x none = (refl, refl)
-    still (reply.Attrs s) x none = (refl, refl)
-    still (reply.Notice v) x none = (refl, refl)
-    still reply.Done x none = (refl, refl)
-    still (reply.Refused f) x none = (refl, refl)
+    still _ x none = (refl, refl)
 
     by : (o : Option ℕ) → called_queue past r.entry.process r.entry.call ≡ o → IsStep past r q (record_on name histories past r linear)
     by (Some k) e = subst (IsStep past r q) (same-side time name histories past r linear begun stays q named (names-own past r.entry.process r.entry.call) k e) step

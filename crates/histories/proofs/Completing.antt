@@ -80,19 +80,9 @@ begun_sends time prio message histories past index =
     of_process (λ (v : Vec Operation Global). count_by (sends_by time prio message) (take (made past (index + 1)) v.items)) (slice_get histories index)
 
 ending-sends-not : (call : Call) → ends_wait call ≡ true → is_send call ≡ false
-ending-sends-not Collect e = refl
-ending-sends-not (Withdraw now) e = refl
-ending-sends-not (MqOpen flags attr) e = refl
-ending-sends-not (MqClose d) e = refl
-ending-sends-not MqUnlink e = refl
 ending-sends-not (MqSend d prio len) e = absurd (let bad : false ≡ true = e in cc)
 ending-sends-not (MqTimedSend d prio len until now) e = absurd (let bad : false ≡ true = e in cc)
-ending-sends-not (MqReceive d room) e = refl
-ending-sends-not (MqTimedReceive d room until now) e = refl
-ending-sends-not (MqGetattr d) e = refl
-ending-sends-not (MqSetattr d nonblock) e = refl
-ending-sends-not (MqNotify d value) e = refl
-ending-sends-not NextNotice e = refl
+ending-sends-not _ e = refl
 
 pub sent-may : (past : Past) (y : Reply) (outcome : Outcome) → is_sent y ≡ true → fits past y outcome ≡ true → may_have_sent outcome ≡ true
 sent-may past y Pending sent fit = refl
@@ -117,30 +107,13 @@ sent-refuses-not : (y : Reply) → is_sent y ≡ true → is_refused y ≡ false
 sent-refuses-not (reply.Queued n) sent = refl
 sent-refuses-not (reply.Handed w) sent = refl
 sent-refuses-not reply.Waits sent = refl
-sent-refuses-not (reply.Opened d created) sent = absurd (let bad : false ≡ true = sent in cc)
-sent-refuses-not (reply.Got m a n) sent = absurd (let bad : false ≡ true = sent in cc)
-sent-refuses-not (reply.Collected b) sent = absurd (let bad : false ≡ true = sent in cc)
-sent-refuses-not (reply.Withdrawn b) sent = absurd (let bad : false ≡ true = sent in cc)
-sent-refuses-not (reply.Attrs s) sent = absurd (let bad : false ≡ true = sent in cc)
-sent-refuses-not (reply.Notice v) sent = absurd (let bad : false ≡ true = sent in cc)
-sent-refuses-not reply.Done sent = absurd (let bad : false ≡ true = sent in cc)
-sent-refuses-not (reply.Refused f) sent = absurd (let bad : false ≡ true = sent in cc)
+sent-refuses-not _ sent = absurd (let bad : false ≡ true = sent in cc)
 
 -- the payload of a send that did not fail is the message that it was given
 pub sent-payload : (call : Call) (y : Reply) (given : List ℕ) → is_send call ≡ true → is_sent y ≡ true → payload_of call y given ≡ given
 sent-payload (MqSend d prio len) y given send sent = rw (sent-refuses-not y sent) refl
 sent-payload (MqTimedSend d prio len until now) y given send sent = rw (sent-refuses-not y sent) refl
-sent-payload (MqOpen flags attr) y given send sent = absurd (let bad : false ≡ true = send in cc)
-sent-payload (MqClose d) y given send sent = absurd (let bad : false ≡ true = send in cc)
-sent-payload MqUnlink y given send sent = absurd (let bad : false ≡ true = send in cc)
-sent-payload (MqReceive d room) y given send sent = absurd (let bad : false ≡ true = send in cc)
-sent-payload (MqTimedReceive d room until now) y given send sent = absurd (let bad : false ≡ true = send in cc)
-sent-payload (MqGetattr d) y given send sent = absurd (let bad : false ≡ true = send in cc)
-sent-payload (MqSetattr d nonblock) y given send sent = absurd (let bad : false ≡ true = send in cc)
-sent-payload (MqNotify d value) y given send sent = absurd (let bad : false ≡ true = send in cc)
-sent-payload NextNotice y given send sent = absurd (let bad : false ≡ true = send in cc)
-sent-payload Collect y given send sent = absurd (let bad : false ≡ true = send in cc)
-sent-payload (Withdraw now) y given send sent = absurd (let bad : false ≡ true = send in cc)
+sent-payload _ y given send sent = absurd (let bad : false ≡ true = send in cc)
 
 -- the operation of a record that sends the message sends it
 pub sending-operation : (past : Past) (r : Record) (operation : Operation) (prio : ℕ) (message : List ℕ) → IsCallOf r operation → fits past r.entry.reply operation.outcome ≡ true →
@@ -228,14 +201,7 @@ got-given : (past : Past) (y : Reply) (prio : ℕ) (message : List ℕ) → is_w
 got-given past (reply.Got m a n) prio message quiet e = rw e refl
 got-given past (reply.Collected by) prio message quiet e = rw e refl
 got-given past reply.Waits prio message quiet e = absurd (let bad : true ≡ false = quiet in cc)
-got-given past (reply.Opened d created) prio message quiet e = absurd (let bad : false ≡ true = e in cc)
-got-given past (reply.Queued n) prio message quiet e = absurd (let bad : false ≡ true = e in cc)
-got-given past (reply.Handed w) prio message quiet e = absurd (let bad : false ≡ true = e in cc)
-got-given past (reply.Withdrawn w) prio message quiet e = absurd (let bad : false ≡ true = e in cc)
-got-given past (reply.Attrs s) prio message quiet e = absurd (let bad : false ≡ true = e in cc)
-got-given past (reply.Notice v) prio message quiet e = absurd (let bad : false ≡ true = e in cc)
-got-given past reply.Done prio message quiet e = absurd (let bad : false ≡ true = e in cc)
-got-given past (reply.Refused f) prio message quiet e = absurd (let bad : false ≡ true = e in cc)
+got-given past _ prio message quiet e = absurd (let bad : false ≡ true = e in cc)
 
 receives-given : (past : Past) (y : Reply) (outcome : Outcome) (prio : ℕ) (message : List ℕ) → is_wait y ≡ false → fits past y outcome ≡ true → has_got prio message outcome ≡ true →
     is_some (given_by past prio message y) ≡ true
@@ -246,12 +212,7 @@ receives-given past y (Got p m) prio message quiet fit got =
     let P : ℕ → Type 0 = λ k. brings past y k m.items ≡ true in
     let Q : List ℕ → Type 0 = λ b. brings past y prio b ≡ true in
     got-given past y prio message quiet (subst Q bytes (subst P same fit))
-receives-given past y Pending prio message quiet fit got = absurd (let bad : false ≡ true = got in cc)
-receives-given past y Done prio message quiet fit got = absurd (let bad : false ≡ true = got in cc)
-receives-given past y (Opened d) prio message quiet fit got = absurd (let bad : false ≡ true = got in cc)
-receives-given past y (Attributes status) prio message quiet fit got = absurd (let bad : false ≡ true = got in cc)
-receives-given past y (Notice value) prio message quiet fit got = absurd (let bad : false ≡ true = got in cc)
-receives-given past y (Refused fault) prio message quiet fit got = absurd (let bad : false ≡ true = got in cc)
+receives-given past y _ prio message quiet fit got = absurd (let bad : false ≡ true = got in cc)
 
 pub length-with : (o : Option Place) (xs : List ℕ) → length (with_place o xs) ≡ length xs + one_if (is_some o)
 length-with None xs = omega arith

@@ -103,17 +103,13 @@ waits-made histories (r ∷ past) linear p w e = split (r.entry.process == p)
 pub queued-sends : (past : Past) (p : ℕ) (n : Option ℕ) (call : Call) → Says past p call (reply.Queued n) → is_send call ≡ true
 queued-sends past p n (MqSend d prio len) says = refl
 queued-sends past p n (MqTimedSend d prio len until now) says = refl
-queued-sends past p n (MqOpen flags attr) says = absurd says
 queued-sends past p n (MqClose d) says = absurd says.0
-queued-sends past p n MqUnlink says = absurd says
 queued-sends past p n (MqReceive d room) says = absurd says.3
 queued-sends past p n (MqTimedReceive d room until now) says = absurd says.3
-queued-sends past p n (MqGetattr d) says = absurd says
-queued-sends past p n (MqSetattr d nonblock) says = absurd says
-queued-sends past p n (MqNotify d value) says = absurd says
 queued-sends past p n NextNotice says = absurd (cc)
 queued-sends past p n Collect says = absurd (cc)
 queued-sends past p n (Withdraw now) says = absurd (cc)
+queued-sends past p n _ says = absurd says
 
 done-enters : (past : Past) (y : Reply) (x : Outcome) → own_come y ≡ 1 → fits past y x ≡ true → may_enter x ≡ true
 done-enters past y Pending come fit = refl
@@ -159,15 +155,7 @@ come-le time histories past r linear begun own = by r.entry.reply refl
         let send = handed-sends past r.entry.process w r.entry.call (subst (λ (y : Reply). Says past r.entry.process r.entry.call y) is (legal_says past r linear.1)) in
         let e = enters send (ap own_come is) in
         omega (arith, e)
-    by (reply.Opened d c) is = omega arith
-    by (reply.Got m a n) is = omega arith
-    by reply.Waits is = omega arith
-    by (reply.Collected b) is = omega arith
-    by (reply.Withdrawn w) is = omega arith
-    by (reply.Attrs s) is = omega arith
-    by (reply.Notice v) is = omega arith
-    by reply.Done is = omega arith
-    by (reply.Refused f) is = omega arith
+    by _ is = omega arith
 
 -- a collect and a withdrawal bring in nothing
 ending-come : (past : Past) (p : ℕ) (call : Call) (y : Reply) → Says past p call y → ends_wait call ≡ true → own_come y ≡ 0
@@ -284,17 +272,13 @@ got-own past p m a n _ says = refl
 pub admits-on : (past : Past) (p m : ℕ) (a n : Option ℕ) (call : Call) → Says past p call (reply.Got m a n) → (q : ℕ) × (called_queue past p call ≡ Some q) × (a ≡ least (waiting_sends past q))
 admits-on past p m a n (MqReceive d room) says = (says.0.queue, rw says.1 refl, says.3.1)
 admits-on past p m a n (MqTimedReceive d room until now) says = (says.0.queue, rw says.1 refl, says.3.1)
-admits-on past p m a n (MqOpen flags attr) says = absurd says
 admits-on past p m a n (MqClose d) says = absurd says.0
-admits-on past p m a n MqUnlink says = absurd says
 admits-on past p m a n (MqSend d prio len) says = absurd says.3
 admits-on past p m a n (MqTimedSend d prio len until now) says = absurd says.3
-admits-on past p m a n (MqGetattr d) says = absurd says
-admits-on past p m a n (MqSetattr d nonblock) says = absurd says
-admits-on past p m a n (MqNotify d value) says = absurd says
 admits-on past p m a n NextNotice says = absurd (cc)
 admits-on past p m a n Collect says = absurd (cc)
 admits-on past p m a n (Withdraw now) says = absurd (cc)
+admits-on past p m a n _ says = absurd says
 
 -- the process of the send
 record HasAdmitted (time : ℕ) (name : List ℕ) (histories : Histories) (past : Past) (r : Record) (linear : IsLinearization histories (r ∷ past)) : Type 0 where

@@ -134,22 +134,11 @@ refused-full past o (reply.Refused g) f says full fit = says (same-full f g full
 refused-full past o reply.Waits f says full fit = says
 refused-full past o (reply.Queued n) f says full fit = absurd (let bad : false ≡ true = fit in cc)
 refused-full past o (reply.Handed w) f says full fit = absurd (let bad : false ≡ true = fit in cc)
-refused-full past o (reply.Opened d c) f says full fit = absurd says
-refused-full past o (reply.Got m a n) f says full fit = absurd says
-refused-full past o (reply.Collected b) f says full fit = absurd says
-refused-full past o (reply.Withdrawn b) f says full fit = absurd says
-refused-full past o (reply.Attrs s) f says full fit = absurd says
-refused-full past o (reply.Notice v) f says full fit = absurd says
-refused-full past o reply.Done f says full fit = absurd says
+refused-full past o _ f says full fit = absurd says
 
 outcome-full : (past : Past) (o : Option Description) (y : Reply) (x : Outcome) → FullSays past o y → found_full x ≡ true → fits past y x ≡ true → IsFullOf past o
 outcome-full past o y (Refused f) says full fit = refused-full past o y f says full fit
-outcome-full past o y Pending says full fit = absurd (let bad : false ≡ true = full in cc)
-outcome-full past o y Done says full fit = absurd (let bad : false ≡ true = full in cc)
-outcome-full past o y (Opened d) says full fit = absurd (let bad : false ≡ true = full in cc)
-outcome-full past o y (Got p m) says full fit = absurd (let bad : false ≡ true = full in cc)
-outcome-full past o y (Attributes s) says full fit = absurd (let bad : false ≡ true = full in cc)
-outcome-full past o y (Notice v) says full fit = absurd (let bad : false ≡ true = full in cc)
+outcome-full past o y _ says full fit = absurd (let bad : false ≡ true = full in cc)
 
 -- the queue of the call of a record is full
 record HasFull (past : Past) (r : Record) : Type 0 where
@@ -210,12 +199,7 @@ created-capacity time capacity name histories past r linear begun enough named n
   where
     opened-not : (d : ℕ) (x : Outcome) → fits past (reply.Opened d true) x ≡ true → has_failed x ≡ false
     opened-not d (Refused f) fit = absurd (let bad : false ≡ true = fit in cc)
-    opened-not d Pending fit = refl
-    opened-not d Done fit = refl
-    opened-not d (Opened e) fit = refl
-    opened-not d (Got p m) fit = refl
-    opened-not d (Attributes s) fit = refl
-    opened-not d (Notice v) fit = refl
+    opened-not d _ fit = refl
 
     opened : (flags : OpenFlags) (attr : Option Attr) (d : ℕ) → r.entry.call ≡ MqOpen flags attr → r.entry.reply ≡ reply.Opened d true → int_le (pos capacity) (attributes_given (MqOpen flags attr)).maxmsg ≡ true
     opened flags attr d c is =

@@ -137,15 +137,11 @@ hands-send past p call (replies.Handed w) says names = handed call says
     handed (MqTimedSend d prio len until now) says = refl
     handed (MqReceive d room) says = absurd says.3
     handed (MqTimedReceive d room until now) says = absurd says.3
-    handed (MqOpen flags attr) says = absurd says
     handed (MqClose d) says = absurd says.0
-    handed MqUnlink says = absurd says
-    handed (MqGetattr d) says = absurd says
-    handed (MqSetattr d nonblock) says = absurd says
-    handed (MqNotify d value) says = absurd says
     handed NextNotice says = absurd (cc)
     handed Collect says = absurd (cc)
     handed (Withdraw now) says = absurd (cc)
+    handed _ says = absurd says
 hands-send past p call (replies.Got m a n) says names = got call says
   where
     got : (call : Call) → Says past p call (replies.Got m a n) → false ≡ is_send call

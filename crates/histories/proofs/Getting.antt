@@ -121,12 +121,7 @@ record Brings (past : Past) (y : Reply) : Type 0 where
 
 got-brings : (past : Past) (y : Reply) (x : Outcome) → is_got x ≡ true → fits past y x ≡ true → Brings past y
 got-brings past y (Got p m) got fit = record { prio = p; bytes = m.items; is = fit }
-got-brings past y Pending got fit = absurd (let bad : false ≡ true = got in cc)
-got-brings past y Done got fit = absurd (let bad : false ≡ true = got in cc)
-got-brings past y (Opened d) got fit = absurd (let bad : false ≡ true = got in cc)
-got-brings past y (Attributes s) got fit = absurd (let bad : false ≡ true = got in cc)
-got-brings past y (Notice v) got fit = absurd (let bad : false ≡ true = got in cc)
-got-brings past y (Refused f) got fit = absurd (let bad : false ≡ true = got in cc)
+got-brings past y _ got fit = absurd (let bad : false ≡ true = got in cc)
 
 -- what the reply of a call adds to the messages that its process got
 abbrev gain : Reply → Bool → ℕ
@@ -144,14 +139,7 @@ gain-le past p y x fit served = split (is_got x)
     by (reply.Collected k) is b =
         let parts = and_parts (is_handed past k) (is_message past k b.prio b.bytes) b.is in
         rw (served k is parts.0) (omega arith)
-    by (reply.Opened d c) is b = absurd (let bad : false ≡ true = b.is in cc)
-    by (reply.Queued n) is b = absurd (let bad : false ≡ true = b.is in cc)
-    by (reply.Handed w) is b = absurd (let bad : false ≡ true = b.is in cc)
-    by (reply.Withdrawn w) is b = absurd (let bad : false ≡ true = b.is in cc)
-    by (reply.Attrs s) is b = absurd (let bad : false ≡ true = b.is in cc)
-    by (reply.Notice v) is b = absurd (let bad : false ≡ true = b.is in cc)
-    by reply.Done is b = absurd (let bad : false ≡ true = b.is in cc)
-    by (reply.Refused f) is b = absurd (let bad : false ≡ true = b.is in cc)
+    by _ is b = absurd (let bad : false ≡ true = b.is in cc)
 
 -- whether the operation of a record is on the queue
 abbrev pub record_on : (name : List ℕ) (histories : Histories) (past : Past) (r : Record) → IsLinearization histories (r ∷ past) → Bool

@@ -61,30 +61,17 @@ sent-in prio message (s ∷ past) m r there is = split (m == length past)
 pub handed-sends : (past : Past) (p w : ℕ) (call : Call) → Says past p call (Handed w) → is_send call ≡ true
 handed-sends past p w (MqSend d prio len) says = refl
 handed-sends past p w (MqTimedSend d prio len until now) says = refl
-handed-sends past p w (MqOpen flags attr) says = absurd says
 handed-sends past p w (MqClose d) says = absurd says.0
-handed-sends past p w MqUnlink says = absurd says
 handed-sends past p w (MqReceive d room) says = absurd says.3
 handed-sends past p w (MqTimedReceive d room until now) says = absurd says.3
-handed-sends past p w (MqGetattr d) says = absurd says
-handed-sends past p w (MqSetattr d nonblock) says = absurd says
-handed-sends past p w (MqNotify d value) says = absurd says
 handed-sends past p w NextNotice says = absurd (cc)
 handed-sends past p w Collect says = absurd (cc)
 handed-sends past p w (Withdraw now) says = absurd (cc)
+handed-sends past p w _ says = absurd says
 
 pub handing : (reply : Reply) → hands reply ≡ true → (w : ℕ) × (reply ≡ Handed w)
 handing (Handed w) e = (w, refl)
-handing (Opened d created) e = absurd (let bad : false ≡ true = e in cc)
-handing (Queued n) e = absurd (let bad : false ≡ true = e in cc)
-handing Waits e = absurd (let bad : false ≡ true = e in cc)
-handing (Got m a n) e = absurd (let bad : false ≡ true = e in cc)
-handing (Collected b) e = absurd (let bad : false ≡ true = e in cc)
-handing (Withdrawn b) e = absurd (let bad : false ≡ true = e in cc)
-handing (Attrs s) e = absurd (let bad : false ≡ true = e in cc)
-handing (Notice v) e = absurd (let bad : false ≡ true = e in cc)
-handing Done e = absurd (let bad : false ≡ true = e in cc)
-handing (Refused f) e = absurd (let bad : false ≡ true = e in cc)
+handing _ e = absurd (let bad : false ≡ true = e in cc)
 
 pub record HandedAt (past : Past) (m : ℕ) : Type 0 where
   pub r : Record
@@ -141,15 +128,7 @@ given-is past prio message m (Collected by) e = split (is_handed past by && is_m
     let parts = and_parts (is_handed past by) (is_message past by prio message) t in
     (subst (λ k. is_message past k prio message ≡ true) same parts.1, (same, subst (λ k. is_handed past k ≡ true) same parts.0)))
     (λ f. let bad : None ≡ Some m = rw f at e in absurd (cc))
-given-is past prio message m (Opened d created) e = absurd (cc)
-given-is past prio message m (Queued n) e = absurd (cc)
-given-is past prio message m (Handed w) e = absurd (cc)
-given-is past prio message m Waits e = absurd (cc)
-given-is past prio message m (Withdrawn w) e = absurd (cc)
-given-is past prio message m (Attrs s) e = absurd (cc)
-given-is past prio message m (Notice v) e = absurd (cc)
-given-is past prio message m Done e = absurd (cc)
-given-is past prio message m (Refused f) e = absurd (cc)
+given-is past prio message m _ e = absurd (cc)
 
 -- what a legal record hands out was sent
 handed-sent_of : (past : Past) (prio : ℕ) (message : List ℕ) (m : ℕ) → Legal past → is_message past m prio message ≡ true → is_handed past m ≡ true → is_in (sent_of prio message past) m ≡ true
@@ -181,15 +160,7 @@ given-sent past r prio message m legal next e =
         let there = given-present past r next m gives in
         got-sent_of past prio message there.0 m content there.1
     by (Collected b) was is = handed-sent_of past prio message m legal content is.1
-    by (Opened d created) was is = absurd is
-    by (Queued n) was is = absurd is
-    by (Handed w) was is = absurd is
-    by Waits was is = absurd is
-    by (Withdrawn w) was is = absurd is
-    by (Attrs s) was is = absurd is
-    by (Notice v) was is = absurd is
-    by Done was is = absurd is
-    by (Refused f) was is = absurd is
+    by _ was is = absurd is
 
 -- a place that was given before
 with-cases : {C : Type 0} (o : Option ℕ) (xs : List ℕ) (m : ℕ) → is_in (with_place o xs) m ≡ true → (o ≡ Some m → C) → (is_in xs m ≡ true → C) → C
@@ -230,15 +201,7 @@ was-newest past r m is = by r.entry.reply refl is
     by : (reply : Reply) → r.entry.reply ≡ reply → IsGiven past m reply → WasGiven (r ∷ past) m
     by (Got place a n) was is = record { j = length past; how = inl (has-here message_given past r m (ap message_given was ∙ ap Some is)) }
     by (Collected b) was is = record { j = length past; how = inr (has-here cause past r m (ap cause was ∙ ap Some is.0), handed-older past r m is.1) }
-    by (Opened d created) was is = absurd is
-    by (Queued n) was is = absurd is
-    by (Handed w) was is = absurd is
-    by Waits was is = absurd is
-    by (Withdrawn w) was is = absurd is
-    by (Attrs s) was is = absurd is
-    by (Notice v) was is = absurd is
-    by Done was is = absurd is
-    by (Refused f) was is = absurd is
+    by _ was is = absurd is
 
 was-given : (prio : ℕ) (message : List ℕ) (past : Past) (m : ℕ) → is_in (given_of prio message past) m ≡ true → WasGiven past m
 was-given prio message [] m e = absurd (let bad : false ≡ true = e in cc)
@@ -276,15 +239,7 @@ given-fresh past r m legal is old = by r.entry.reply refl is
           | inl given ↦ not-handed past r old.j m legal (has-older message_given past r old.j m given) is.1
           | inr collected ↦ older-place cause past old.j m collected.0 ((gives-once (r ∷ past) legal).causes old.j (length past) m (has-older cause past r old.j m collected.0) here)
         ]
-    by (Opened d created) was is = is
-    by (Queued n) was is = is
-    by (Handed w) was is = is
-    by Waits was is = is
-    by (Withdrawn w) was is = is
-    by (Attrs s) was is = is
-    by (Notice v) was is = is
-    by Done was is = is
-    by (Refused f) was is = is
+    by _ was is = is
 
 all-apart : (x : ℕ) (xs : List ℕ) → is_in xs x ≡ false → AllByRecursion (λ y. (y == x) ≡ false) xs
 all-apart x [] e = tt

@@ -109,12 +109,7 @@ opened-length : (name given : List ℕ) (marks : Marks) (x : Outcome) → length
 opened-length name given marks (Opened d) = split (nat_lt d 16)
     (λ t. rw t (length-set marks d (bytes_eq given name)))
     (λ f. rw f refl)
-opened-length name given marks Pending = refl
-opened-length name given marks Done = refl
-opened-length name given marks (Got p m) = refl
-opened-length name given marks (Attributes s) = refl
-opened-length name given marks (Notice v) = refl
-opened-length name given marks (Refused f) = refl
+opened-length name given marks _ = refl
 
 marks-length : (name : List ℕ) (marks : Marks) (xs : List Operation) → length (marks_of name marks xs) ≡ length marks
 marks-length name marks [] = refl

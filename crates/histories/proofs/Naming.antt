@@ -111,41 +111,25 @@ AreMarked name histories past =
 opened-outcome : (past : Past) (d : ℕ) (new : Bool) (x : Outcome) → fits past (reply.Opened d new) x ≡ true → is_pending x ≡ false → x ≡ Opened d
 opened-outcome past d new (Opened e) fit pending = ap Opened (sym (eqb-true d e fit))
 opened-outcome past d new Pending fit pending = absurd (let bad : true ≡ false = pending in cc)
-opened-outcome past d new Done fit pending = absurd (let bad : false ≡ true = fit in cc)
-opened-outcome past d new (Got p m) fit pending = absurd (let bad : false ≡ true = fit in cc)
-opened-outcome past d new (Attributes s) fit pending = absurd (let bad : false ≡ true = fit in cc)
-opened-outcome past d new (Notice v) fit pending = absurd (let bad : false ≡ true = fit in cc)
-opened-outcome past d new (Refused f) fit pending = absurd (let bad : false ≡ true = fit in cc)
+opened-outcome past d new _ fit pending = absurd (let bad : false ≡ true = fit in cc)
 
 -- such an outcome fits no other reply
 shows-opened : (past : Past) (y : Reply) (d : ℕ) → fits past y (Opened d) ≡ true → (new : Bool) × (y ≡ reply.Opened d new)
 shows-opened past (reply.Opened e new) d fit = (new, ap (λ (k : ℕ). reply.Opened k new) (eqb-true e d fit))
-shows-opened past (reply.Queued n) d fit = absurd (let bad : false ≡ true = fit in cc)
-shows-opened past (reply.Handed w) d fit = absurd (let bad : false ≡ true = fit in cc)
-shows-opened past reply.Waits d fit = absurd (let bad : false ≡ true = fit in cc)
-shows-opened past (reply.Got m a n) d fit = absurd (let bad : false ≡ true = fit in cc)
-shows-opened past (reply.Collected b) d fit = absurd (let bad : false ≡ true = fit in cc)
-shows-opened past (reply.Withdrawn b) d fit = absurd (let bad : false ≡ true = fit in cc)
-shows-opened past (reply.Attrs s) d fit = absurd (let bad : false ≡ true = fit in cc)
-shows-opened past (reply.Notice v) d fit = absurd (let bad : false ≡ true = fit in cc)
-shows-opened past reply.Done d fit = absurd (let bad : false ≡ true = fit in cc)
-shows-opened past (reply.Refused f) d fit = absurd (let bad : false ≡ true = fit in cc)
+shows-opened past _ d fit = absurd (let bad : false ≡ true = fit in cc)
 
 -- only an open has this reply
 opens-only : (past : Past) (p : ℕ) (call : Call) (payload : List ℕ) (d : ℕ) (new : Bool) → Says past p call (reply.Opened d new) → (flags : OpenFlags) × (attr : Option Attr) × (call ≡ MqOpen flags attr)
 opens-only past p (MqOpen flags attr) payload d new says = (flags, attr, refl)
 opens-only past p (MqClose e) payload d new says = absurd says.0
-opens-only past p MqUnlink payload d new says = absurd says
 opens-only past p (MqSend e prio len) payload d new says = absurd says.3
 opens-only past p (MqTimedSend e prio len until now) payload d new says = absurd says.3
 opens-only past p (MqReceive e room) payload d new says = absurd says.3
 opens-only past p (MqTimedReceive e room until now) payload d new says = absurd says.3
-opens-only past p (MqGetattr e) payload d new says = absurd says
-opens-only past p (MqSetattr e nonblock) payload d new says = absurd says
-opens-only past p (MqNotify e value) payload d new says = absurd says
 opens-only past p NextNotice payload d new says = absurd (cc)
 opens-only past p Collect payload d new says = absurd (cc)
 opens-only past p (Withdraw now) payload d new says = absurd (cc)
+opens-only past p _ payload d new says = absurd says
 
 -- the descriptor that an open returns was free
 opened-free : (past : Past) (r : Record) → IsLegalNext past r → (d : ℕ) (new : Bool) → r.entry.reply ≡ reply.Opened d new → (held past r.entry.process d ≡ None) × (d < 16) × OpenedFacts past r.entry.process r.payload d new
@@ -202,12 +186,7 @@ marked-older name histories past r linear d k was =
         let apart : d ≡ e → ⊥ = λ same. let bad : Some k ≡ None = sym was ∙ ap (held past (linear.2.index + 1)) same ∙ held_too in cc in
         ap (λ (x : Outcome). get_or (marks_opened name marks linear.2.operation.given.items x) d false) is
         ∙ marked-other name linear.2.operation.given.items marks e d apart
-    by Pending is = ap (λ (x : Outcome). get_or (marks_opened name marks linear.2.operation.given.items x) d false) is
-    by Done is = ap (λ (x : Outcome). get_or (marks_opened name marks linear.2.operation.given.items x) d false) is
-    by (Got p m) is = ap (λ (x : Outcome). get_or (marks_opened name marks linear.2.operation.given.items x) d false) is
-    by (Attributes s) is = ap (λ (x : Outcome). get_or (marks_opened name marks linear.2.operation.given.items x) d false) is
-    by (Notice v) is = ap (λ (x : Outcome). get_or (marks_opened name marks linear.2.operation.given.items x) d false) is
-    by (Refused f) is = ap (λ (x : Outcome). get_or (marks_opened name marks linear.2.operation.given.items x) d false) is
+    by _ is = ap (λ (x : Outcome). get_or (marks_opened name marks linear.2.operation.given.items x) d false) is
 
 -- what an open opened is marked by its name
 marked-opened : (name : List ℕ) (histories : Histories) (past : Past) (r : Record) (linear : IsLinearization histories (r ∷ past)) → Keeps name linear.2.operation → (d : ℕ) (new : Bool) (flags : OpenFlags) (attr : Option Attr) →
@@ -329,12 +308,7 @@ unlinks-own call y e = absurd (let bad : false ≡ true = e in cc)
 
 done-went : (past : Past) (x : Outcome) → fits past reply.Done x ≡ true → has_failed x ≡ false
 done-went past (Refused f) fit = absurd (let bad : false ≡ true = fit in cc)
-done-went past Pending fit = refl
-done-went past Done fit = refl
-done-went past (Opened d) fit = refl
-done-went past (Got p m) fit = refl
-done-went past (Attributes s) fit = refl
-done-went past (Notice v) fit = refl
+done-went past _ fit = refl
 
 -- a queue of the name that was created is bound to it
 is-bound : (time : ℕ) (name : List ℕ) (histories : Histories) (past : Past) (linear : IsLinearization histories past) → AreBegun time histories past linear → has_any (unbinds time name) histories ≡ false →

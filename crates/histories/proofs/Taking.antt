@@ -113,17 +113,13 @@ sent-called (s ∷ past) q m to before r ends at = elim ends [
 pub handed-on : (past : Past) (p w : ℕ) (call : Call) → Says past p call (reply.Handed w) → (q : ℕ) × (called_queue past p call ≡ Some q) × (least (waiting_receives past q) ≡ Some w)
 handed-on past p w (MqSend d prio len) says = (says.0.queue, rw says.1 refl, says.3)
 handed-on past p w (MqTimedSend d prio len until now) says = (says.0.queue, rw says.1 refl, says.3)
-handed-on past p w (MqOpen flags attr) says = absurd says
 handed-on past p w (MqClose d) says = absurd says.0
-handed-on past p w MqUnlink says = absurd says
 handed-on past p w (MqReceive d room) says = absurd says.3
 handed-on past p w (MqTimedReceive d room until now) says = absurd says.3
-handed-on past p w (MqGetattr d) says = absurd says
-handed-on past p w (MqSetattr d nonblock) says = absurd says
-handed-on past p w (MqNotify d value) says = absurd says
 handed-on past p w NextNotice says = absurd (cc)
 handed-on past p w Collect says = absurd (cc)
 handed-on past p w (Withdraw now) says = absurd (cc)
+handed-on past p w _ says = absurd says
 
 -- what is_message says of a record that is of a message
 message-is : (past : Past) (m prio p : ℕ) (message bytes : List ℕ) → IsOf past m prio message → is_message past m p bytes ≡ true → (p ≡ prio) × (bytes ≡ message)
@@ -146,11 +142,7 @@ gives-it time o prio message begun receive how = elim how [
 got-outcome : (past : Past) (m prio : ℕ) (message : List ℕ) (a n : Option ℕ) (x : Outcome) → IsOf past m prio message → fits past (reply.Got m a n) x ≡ true → (has_got prio message x ≡ true) ⊎ (is_pending x ≡ true)
 got-outcome past m prio message a n Pending of fit = inr refl
 got-outcome past m prio message a n (Got p bytes) of fit = let same = message-is past m prio p message bytes.items of fit in inl (got-of p prio bytes.items message same.0 same.1)
-got-outcome past m prio message a n Done of fit = absurd (let bad : false ≡ true = fit in cc)
-got-outcome past m prio message a n (Opened d) of fit = absurd (let bad : false ≡ true = fit in cc)
-got-outcome past m prio message a n (Attributes s) of fit = absurd (let bad : false ≡ true = fit in cc)
-got-outcome past m prio message a n (Notice v) of fit = absurd (let bad : false ≡ true = fit in cc)
-got-outcome past m prio message a n (Refused f) of fit = absurd (let bad : false ≡ true = fit in cc)
+got-outcome past m prio message a n _ of fit = absurd (let bad : false ≡ true = fit in cc)
 
 collected-outcome : (past : Past) (m prio : ℕ) (message : List ℕ) (x : Outcome) → IsOf past m prio message → is_handed past m ≡ true → fits past (reply.Collected m) x ≡ true → (has_got prio message x ≡ true) ⊎ (is_pending x ≡ true)
 collected-outcome past m prio message Pending of handed fit = inr refl
@@ -158,10 +150,7 @@ collected-outcome past m prio message (Got p bytes) of handed fit =
     let parts = and_parts (is_handed past m) (is_message past m p bytes.items) fit in
     let same = message-is past m prio p message bytes.items of parts.1 in inl (got-of p prio bytes.items message same.0 same.1)
 collected-outcome past m prio message Done of handed fit = absurd (let bad : not true ≡ true = subst (λ (b : Bool). not b ≡ true) handed fit in cc)
-collected-outcome past m prio message (Opened d) of handed fit = absurd (let bad : false ≡ true = fit in cc)
-collected-outcome past m prio message (Attributes s) of handed fit = absurd (let bad : false ≡ true = fit in cc)
-collected-outcome past m prio message (Notice v) of handed fit = absurd (let bad : false ≡ true = fit in cc)
-collected-outcome past m prio message (Refused f) of handed fit = absurd (let bad : false ≡ true = fit in cc)
+collected-outcome past m prio message _ of handed fit = absurd (let bad : false ≡ true = fit in cc)
 
 -- a receive to which the message was handed ------------------------------------------------------------------------------
 
@@ -219,17 +208,7 @@ served-step time histories past r linear index w m prio message o begun receive 
         let same : w0 ≡ w = rw x.opened refl in
         let here : Has withdrawn_wait (r ∷ past) (length past) w = has-here withdrawn_wait past r w (ap withdrawn_wait is ∙ ap Some same) in
         absurd (withdrawn-unnamed (r ∷ past) (legal, linear.1) (length past) m w here (has-older named_wait past r m w x.named))
-    by (MqOpen flags attr) c mine turn says = absurd (some-not-none past (index + 1) w x.opened turn)
-    by (MqClose d) c mine turn says = absurd (some-not-none past (index + 1) w x.opened turn)
-    by MqUnlink c mine turn says = absurd (some-not-none past (index + 1) w x.opened turn)
-    by (MqSend d p len) c mine turn says = absurd (some-not-none past (index + 1) w x.opened turn)
-    by (MqTimedSend d p len until now) c mine turn says = absurd (some-not-none past (index + 1) w x.opened turn)
-    by (MqReceive d room) c mine turn says = absurd (some-not-none past (index + 1) w x.opened turn)
-    by (MqTimedReceive d room until now) c mine turn says = absurd (some-not-none past (index + 1) w x.opened turn)
-    by (MqGetattr d) c mine turn says = absurd (some-not-none past (index + 1) w x.opened turn)
-    by (MqSetattr d nonblock) c mine turn says = absurd (some-not-none past (index + 1) w x.opened turn)
-    by (MqNotify d value) c mine turn says = absurd (some-not-none past (index + 1) w x.opened turn)
-    by NextNotice c mine turn says = absurd (some-not-none past (index + 1) w x.opened turn)
+    by _ c mine turn says = absurd (some-not-none past (index + 1) w x.opened turn)
 
     ended : r.entry.process ≡ index + 1 → may_receive time prio message o ≡ true
     ended mine = by r.entry.call refl mine
@@ -393,12 +372,4 @@ taker time histories full (r ∷ past) linear begun whole ends through m q prio 
         split (length past == m)
         (λ t. handed w is (eqb-true _ _ t))
         (λ f. let old : is_in (taken past) m ≡ true = rw f at in_it in older rest old)
-    by rest (reply.Opened d c) is there = older rest (rw is at there)
-    by rest (reply.Queued n) is there = older rest (rw is at there)
-    by rest reply.Waits is there = older rest (rw is at there)
-    by rest (reply.Collected b) is there = older rest (rw is at there)
-    by rest (reply.Withdrawn b) is there = older rest (rw is at there)
-    by rest (reply.Attrs s) is there = older rest (rw is at there)
-    by rest (reply.Notice v) is there = older rest (rw is at there)
-    by rest reply.Done is there = older rest (rw is at there)
-    by rest (reply.Refused f) is there = older rest (rw is at there)
+    by rest _ is there = older rest (rw is at there)
