@@ -32,17 +32,7 @@ refused-alike a b e = sym (refused-shape a) ∙ ap is_refused e ∙ refused-shap
 pub payload-alike : (call : Call) (a b : Reply) (given : List ℕ) → shape a ≡ shape b → payload_of call a given ≡ payload_of call b given
 payload-alike (MqSend d prio len) a b given e = ap (λ (t : Bool). if t then [] else given) (refused-alike a b e)
 payload-alike (MqTimedSend d prio len until now) a b given e = ap (λ (t : Bool). if t then [] else given) (refused-alike a b e)
-payload-alike (MqOpen flags attr) a b given e = refl
-payload-alike (MqClose d) a b given e = refl
-payload-alike MqUnlink a b given e = refl
-payload-alike (MqReceive d room) a b given e = refl
-payload-alike (MqTimedReceive d room until now) a b given e = refl
-payload-alike (MqGetattr d) a b given e = refl
-payload-alike (MqSetattr d nonblock) a b given e = refl
-payload-alike (MqNotify d value) a b given e = refl
-payload-alike NextNotice a b given e = refl
-payload-alike Collect a b given e = refl
-payload-alike (Withdraw now) a b given e = refl
+payload-alike _ a b given e = refl
 
 pub contents-shape : (call : Call) (payload : List ℕ) (on : Bool) (reply : Reply) (ss : List (Option Sender)) (cs : List (Option Message)) → after_contents call payload on (shape reply) ss cs ≡ after_contents call payload on reply ss cs
 contents-shape call payload on (Queued n) ss cs = refl

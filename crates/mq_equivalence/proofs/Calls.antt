@@ -26,17 +26,7 @@ use Rattle.mq_equivalence.proofs.Effects.{answer-older, called, is-best, is_coll
 payload-form : (call : Call) (a b : Reply) (payload : List ℕ) → shape a ≡ shape b → is_payload call a payload ≡ is_payload call b payload
 payload-form (MqSend d prio len) a b payload e = ap (λ (t : Bool). length payload == (if t then 0 else len)) (refused-alike a b e)
 payload-form (MqTimedSend d prio len until now) a b payload e = ap (λ (t : Bool). length payload == (if t then 0 else len)) (refused-alike a b e)
-payload-form (MqOpen flags attr) a b payload e = refl
-payload-form MqUnlink a b payload e = refl
-payload-form (MqClose d) a b payload e = refl
-payload-form (MqReceive d room) a b payload e = refl
-payload-form (MqTimedReceive d room until now) a b payload e = refl
-payload-form (MqGetattr d) a b payload e = refl
-payload-form (MqSetattr d nonblock) a b payload e = refl
-payload-form (MqNotify d value) a b payload e = refl
-payload-form NextNotice a b payload e = refl
-payload-form Collect a b payload e = refl
-payload-form (Withdraw now) a b payload e = refl
+payload-form _ a b payload e = refl
 
 pub can-alike : (x y : Past) (p : Process) (call : Call) (given : List ℕ) → may_call y p call ≡ may_call x p call →
     shape (reply_to y p call given) ≡ shape (reply_to x p call given) → can_call y p call given ≡ can_call x p call given
@@ -52,16 +42,7 @@ can-alike x y p call given turn same =
 
 not-collected : (reply : Reply) → ((b : ℕ) → reply ≡ Collected b → ⊥) → is_collected reply ≡ false
 not-collected (Collected b) never = absurd (never b refl)
-not-collected (Opened d created) never = refl
-not-collected (Queued n) never = refl
-not-collected (Handed w) never = refl
-not-collected (Got m a n) never = refl
-not-collected Waits never = refl
-not-collected (Withdrawn w) never = refl
-not-collected (Attrs s) never = refl
-not-collected (Notice v) never = refl
-not-collected Done never = refl
-not-collected (Refused f) never = refl
+not-collected _ never = refl
 
 -- of a plain call that is no collect
 abbrev pub is_other : Call → Bool
@@ -74,14 +55,10 @@ says-collected past p (MqSend d prio len) b other says = says.3
 says-collected past p (MqReceive d room) b other says = says.3
 says-collected past p (MqTimedSend d prio len until now) b other says = says.3
 says-collected past p (MqTimedReceive d room until now) b other says = says.3
-says-collected past p (MqGetattr d) b other says = says
-says-collected past p (MqSetattr d nonblock) b other says = says
 says-collected past p Collect b other says = cc
-says-collected past p (MqOpen flags attr) b other says = says
-says-collected past p MqUnlink b other says = says
-says-collected past p (MqNotify d value) b other says = says
 says-collected past p NextNotice b other says = cc
 says-collected past p (Withdraw now) b other says = cc
+says-collected past p _ b other says = says
 
 pub never-collected : (past : Past) (p : ℕ) (call : Call) (given : List ℕ) → is_other call ≡ true → is_collected (reply_to past p call given) ≡ false
 never-collected past p call given other =
@@ -137,49 +114,29 @@ shape-collected Done = refl
 shape-collected (Refused f) = refl
 
 none-collected : (past : Past) (r : Reply) → is_collected r ≡ false → message_collected past r ≡ None
-none-collected past (Opened d created) e = refl
-none-collected past (Queued n) e = refl
-none-collected past (Handed w) e = refl
-none-collected past Waits e = refl
-none-collected past (Got m a n) e = refl
 none-collected past (Collected b) e = absurd (cc)
-none-collected past (Withdrawn w) e = refl
-none-collected past (Attrs s) e = refl
-none-collected past (Notice v) e = refl
-none-collected past Done e = refl
-none-collected past (Refused f) e = refl
+none-collected past _ e = refl
 
 collected-by : (past : Past) (p : ℕ) (call : Call) (b : ℕ) (payload : List ℕ) → Says past p call (Collected b) → may_call past p call ≡ true →
     Some (at told (rec p call (Collected b) payload ∷ past) b) ≡ answer past p
-collected-by past p (MqOpen flags attr) b payload says turn = absurd says
 collected-by past p (MqClose d) b payload says turn = absurd (says-collected past p (MqClose d) b refl says)
-collected-by past p MqUnlink b payload says turn = absurd says
 collected-by past p (MqSend d prio len) b payload says turn = absurd (says-collected past p (MqSend d prio len) b refl says)
 collected-by past p (MqReceive d room) b payload says turn = absurd (says-collected past p (MqReceive d room) b refl says)
 collected-by past p (MqTimedSend d prio len until now) b payload says turn = absurd (says-collected past p (MqTimedSend d prio len until now) b refl says)
 collected-by past p (MqTimedReceive d room until now) b payload says turn = absurd (says-collected past p (MqTimedReceive d room until now) b refl says)
 collected-by past p (MqGetattr d) b payload says turn = absurd (says-collected past p (MqGetattr d) b refl says)
 collected-by past p (MqSetattr d nonblock) b payload says turn = absurd (says-collected past p (MqSetattr d nonblock) b refl says)
-collected-by past p (MqNotify d value) b payload says turn = absurd says
 collected-by past p NextNotice b payload says turn = absurd (cc)
 collected-by past p Collect b payload says turn =
     let e : b ≡ unwrap_or (answered_by past p) 0 = cc in
     ap (λ (j : ℕ). Some (at told (rec p Collect (Collected b) payload ∷ past) j)) e ∙ collected-at past (rec p Collect (Collected b) payload) p turn
 collected-by past p (Withdraw now) b payload says turn = absurd (cc)
+collected-by past p _ b payload says turn = absurd says
 
 collected-is : (past : Past) (p : ℕ) (call : Call) (reply : Reply) (payload : List ℕ) → is_collected reply ≡ true → Says past p call reply → may_call past p call ≡ true →
     Some (message_collected (rec p call reply payload ∷ past) reply) ≡ answer past p
-collected-is past p call (Opened d created) payload e says turn = absurd (cc)
-collected-is past p call (Queued n) payload e says turn = absurd (cc)
-collected-is past p call (Handed w) payload e says turn = absurd (cc)
-collected-is past p call Waits payload e says turn = absurd (cc)
-collected-is past p call (Got m a n) payload e says turn = absurd (cc)
 collected-is past p call (Collected b) payload e says turn = collected-by past p call b payload says turn
-collected-is past p call (Withdrawn w) payload e says turn = absurd (cc)
-collected-is past p call (Attrs s) payload e says turn = absurd (cc)
-collected-is past p call (Notice v) payload e says turn = absurd (cc)
-collected-is past p call Done payload e says turn = absurd (cc)
-collected-is past p call (Refused f) payload e says turn = absurd (cc)
+collected-is past p call _ payload e says turn = absurd (cc)
 
 answered-some : (past : Past) (p : ℕ) (m : Option (Option Message)) → Some m ≡ answer past p → is_some (answered_by past p) ≡ true
 answered-some past p m = by (answered_by past p)

@@ -80,17 +80,13 @@ pub record GotSays (past : Past) (p : ℕ) (call : Call) (m : ℕ) (a : Option �
 pub got-all : (past : Past) (p : ℕ) (call : Call) (m : ℕ) (a n : Option ℕ) → Says past p call (Got m a n) → GotSays past p call m a
 got-all past p (MqReceive d room) m a n says = record { queue = says.0.queue; on = ap (λ (o : Option Description). option_map (λ h. h.queue) o) says.1; best = says.3.0; admitted = says.3.1 }
 got-all past p (MqTimedReceive d room until now) m a n says = record { queue = says.0.queue; on = ap (λ (o : Option Description). option_map (λ h. h.queue) o) says.1; best = says.3.0; admitted = says.3.1 }
-got-all past p (MqOpen flags attr) m a n says = absurd says
 got-all past p (MqClose d) m a n says = absurd says.0
-got-all past p MqUnlink m a n says = absurd says
 got-all past p (MqSend d prio len) m a n says = absurd says.3
 got-all past p (MqTimedSend d prio len until now) m a n says = absurd says.3
-got-all past p (MqGetattr d) m a n says = absurd says
-got-all past p (MqSetattr d nonblock) m a n says = absurd says
-got-all past p (MqNotify d value) m a n says = absurd says
 got-all past p NextNotice m a n says = absurd (cc)
 got-all past p Collect m a n says = absurd (cc)
 got-all past p (Withdraw now) m a n says = absurd (cc)
+got-all past p _ m a n says = absurd says
 
 -- what a Handed says
 pub record HandedSays (past : Past) (p : ℕ) (call : Call) (w : ℕ) : Type 0 where
@@ -101,17 +97,13 @@ pub record HandedSays (past : Past) (p : ℕ) (call : Call) (w : ℕ) : Type 0 w
 pub handed-all : (past : Past) (p : ℕ) (call : Call) (w : ℕ) → Says past p call (Handed w) → HandedSays past p call w
 handed-all past p (MqSend d prio len) w says = record { queue = says.0.queue; on = ap (λ (o : Option Description). option_map (λ h. h.queue) o) says.1; first = says.3 }
 handed-all past p (MqTimedSend d prio len until now) w says = record { queue = says.0.queue; on = ap (λ (o : Option Description). option_map (λ h. h.queue) o) says.1; first = says.3 }
-handed-all past p (MqOpen flags attr) w says = absurd says
 handed-all past p (MqClose d) w says = absurd says.0
-handed-all past p MqUnlink w says = absurd says
 handed-all past p (MqReceive d room) w says = absurd says.3
 handed-all past p (MqTimedReceive d room until now) w says = absurd says.3
-handed-all past p (MqGetattr d) w says = absurd says
-handed-all past p (MqSetattr d nonblock) w says = absurd says
-handed-all past p (MqNotify d value) w says = absurd says
 handed-all past p NextNotice w says = absurd (cc)
 handed-all past p Collect w says = absurd (cc)
 handed-all past p (Withdraw now) w says = absurd (cc)
+handed-all past p _ w says = absurd says
 
 falls-with : (o : Option ℕ) (ks : List ℕ) → Falls ks → ((w : ℕ) → o ≡ Some w → Below w ks) → Falls (with_place o ks)
 falls-with None ks falls below = falls
@@ -145,14 +137,7 @@ falls-next : (past : Past) → Legal past → (p : ℕ) (call : Call) (reply : R
 falls-next past legal p call (Queued n) payload q says falls = falls-queued past legal p call n payload q falls
 falls-next past legal p call (Got m a n) payload q says falls = falls-got past legal p call m a n payload q says falls
 falls-next past legal p call (Handed w) payload q says falls = subst Falls (sym (present-handed past p call w payload q)) falls
-falls-next past legal p call (Opened d created) payload q says falls = falls
-falls-next past legal p call Waits payload q says falls = falls
-falls-next past legal p call (Collected b) payload q says falls = falls
-falls-next past legal p call (Withdrawn w) payload q says falls = falls
-falls-next past legal p call (Attrs s) payload q says falls = falls
-falls-next past legal p call (Notice v) payload q says falls = falls
-falls-next past legal p call Done payload q says falls = falls
-falls-next past legal p call (Refused f) payload q says falls = falls
+falls-next past legal p call _ payload q says falls = falls
 
 pub falls-present : (past : Past) → Legal past → (q : ℕ) → Falls (present past q)
 falls-present [] legal q = tt

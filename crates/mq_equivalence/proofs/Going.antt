@@ -102,15 +102,7 @@ shape-outline (Refused f) = refl
 pub told-outline : (r : Reply) → is_some (notified (outline r)) ≡ is_some (notified r)
 told-outline (Queued n) = hidden-some n
 told-outline (Got m a n) = hidden-some n
-told-outline (Handed w) = refl
-told-outline (Opened d created) = refl
-told-outline Waits = refl
-told-outline (Collected b) = refl
-told-outline (Withdrawn w) = refl
-told-outline (Attrs s) = refl
-told-outline (Notice v) = refl
-told-outline Done = refl
-told-outline (Refused f) = refl
+told-outline _ = refl
 
 given-outline : (r : Reply) → gives_notice (outline r) ≡ gives_notice r
 given-outline (Queued n) = refl

@@ -36,16 +36,7 @@ begun-none Receivers q = refl
 
 queued-admits : (call : Call) (reply : Reply) → queues call reply ≡ true → admits reply ≡ None
 queued-admits call (Queued n) e = refl
-queued-admits call (Opened d created) e = absurd (cc)
-queued-admits call (Handed w) e = absurd (cc)
-queued-admits call Waits e = absurd (cc)
-queued-admits call (Got m a n) e = absurd (cc)
-queued-admits call (Collected b) e = absurd (cc)
-queued-admits call (Attrs s) e = absurd (cc)
-queued-admits call (Notice v) e = absurd (cc)
-queued-admits call Done e = absurd (cc)
-queued-admits call (Refused f) e = absurd (cc)
-queued-admits call (Withdrawn w) e = absurd (cc)
+queued-admits call _ e = absurd (cc)
 
 -- a place that comes is the one that may
 record Comes (past : Past) (kind : Kind) (e : Entry) (m : ℕ) : Type 0 where

@@ -43,45 +43,29 @@ taken false o n j is e = absurd (let bad : None ≡ Some j = sym is ∙ e in cc)
 sends : (past : Past) (p : ℕ) (call : Call) (n : Option ℕ) (j : ℕ) → Says past p call (Queued n) → n ≡ Some j → Notifies past p call j
 sends past p (MqSend d prio len) n j says e = placed past p (MqSend d prio len) says.0.queue j (ap (λ (o : Option Description). option_map (λ h. h.queue) o) says.1) (taken (length (present past says.0.queue) == 0) _ n j says.3.2 e)
 sends past p (MqTimedSend d prio len until now) n j says e = placed past p (MqTimedSend d prio len until now) says.0.queue j (ap (λ (o : Option Description). option_map (λ h. h.queue) o) says.1) (taken (length (present past says.0.queue) == 0) _ n j says.3.2 e)
-sends past p (MqOpen flags attr) n j says e = absurd says
 sends past p (MqClose d) n j says e = absurd says.0
-sends past p MqUnlink n j says e = absurd says
 sends past p (MqReceive d room) n j says e = absurd says.3
 sends past p (MqTimedReceive d room until now) n j says e = absurd says.3
-sends past p (MqGetattr d) n j says e = absurd says
-sends past p (MqSetattr d nonblock) n j says e = absurd says
-sends past p (MqNotify d value) n j says e = absurd says
 sends past p NextNotice n j says e = absurd (cc)
 sends past p Collect n j says e = absurd (cc)
 sends past p (Withdraw now) n j says e = absurd (cc)
+sends past p _ n j says e = absurd says
 
 receives : (past : Past) (p : ℕ) (call : Call) (m : ℕ) (a n : Option ℕ) (j : ℕ) → Says past p call (Got m a n) → n ≡ Some j → Notifies past p call j
 receives past p (MqReceive d room) m a n j says e = placed past p (MqReceive d room) says.0.queue j (ap (λ (o : Option Description). option_map (λ h. h.queue) o) says.1) (taken (is_some a && length (present past says.0.queue) == 1) _ n j says.3.2 e)
 receives past p (MqTimedReceive d room until now) m a n j says e = placed past p (MqTimedReceive d room until now) says.0.queue j (ap (λ (o : Option Description). option_map (λ h. h.queue) o) says.1) (taken (is_some a && length (present past says.0.queue) == 1) _ n j says.3.2 e)
-receives past p (MqOpen flags attr) m a n j says e = absurd says
 receives past p (MqClose d) m a n j says e = absurd says.0
-receives past p MqUnlink m a n j says e = absurd says
 receives past p (MqSend d prio len) m a n j says e = absurd says.3
 receives past p (MqTimedSend d prio len until now) m a n j says e = absurd says.3
-receives past p (MqGetattr d) m a n j says e = absurd says
-receives past p (MqSetattr d nonblock) m a n j says e = absurd says
-receives past p (MqNotify d value) m a n j says e = absurd says
 receives past p NextNotice m a n j says e = absurd (cc)
 receives past p Collect m a n j says e = absurd (cc)
 receives past p (Withdraw now) m a n j says e = absurd (cc)
+receives past p _ m a n j says e = absurd says
 
 pub notifies : (past : Past) (p : ℕ) (call : Call) (reply : Reply) (j : ℕ) → Says past p call reply → notified reply ≡ Some j → Notifies past p call j
 notifies past p call (Queued n) j says e = sends past p call n j says e
 notifies past p call (Got m a n) j says e = receives past p call m a n j says e
-notifies past p call (Opened d created) j says e = absurd (cc)
-notifies past p call (Handed w) j says e = absurd (cc)
-notifies past p call Waits j says e = absurd (cc)
-notifies past p call (Collected b) j says e = absurd (cc)
-notifies past p call (Withdrawn w) j says e = absurd (cc)
-notifies past p call (Attrs s) j says e = absurd (cc)
-notifies past p call (Notice v) j says e = absurd (cc)
-notifies past p call Done j says e = absurd (cc)
-notifies past p call (Refused f) j says e = absurd (cc)
+notifies past p call _ j says e = absurd (cc)
 
 -- notices ----------------------------------------------------------------------------------------------------------------
 

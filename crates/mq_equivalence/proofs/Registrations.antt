@@ -123,16 +123,7 @@ view-by p here (Withdraw now) = refl
 
 view-made : (p here : ℕ) (call : Call) (reply : Reply) → option_map viewed (registration_of here p call reply) ≡ made p call reply
 view-made p here call Done = view-by p here call
-view-made p here call (Opened d created) = refl
-view-made p here call (Queued n) = refl
-view-made p here call (Handed w) = refl
-view-made p here call (Got m a n) = refl
-view-made p here call Waits = refl
-view-made p here call (Collected b) = refl
-view-made p here call (Withdrawn w) = refl
-view-made p here call (Attrs s) = refl
-view-made p here call (Notice v) = refl
-view-made p here call (Refused f) = refl
+view-made p here call _ = refl
 
 view-only : (b : Bool) (o : Option Registration) → option_map viewed (only_if b o) ≡ only b (option_map viewed o)
 view-only b None = refl

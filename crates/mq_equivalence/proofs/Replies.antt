@@ -97,16 +97,7 @@ receive-shape room d q a c b k w v n m e f g =
 -- with a deadline
 timed-flat : (until now : Deadline) (reply : Reply) → outline (timed_reply until now reply) ≡ timed_reply until now (outline reply)
 timed-flat until now Waits = split (not (is_moment until)) (λ t. rw t refl) (λ f. split (has_passed until now) (λ t. rw (f, t) refl) (λ g. rw (f, g) refl))
-timed-flat until now (Queued n) = refl
-timed-flat until now (Handed w) = refl
-timed-flat until now (Got m a n) = refl
-timed-flat until now (Opened d created) = refl
-timed-flat until now (Collected b) = refl
-timed-flat until now (Withdrawn w) = refl
-timed-flat until now (Attrs s) = refl
-timed-flat until now (Notice v) = refl
-timed-flat until now Done = refl
-timed-flat until now (Refused f) = refl
+timed-flat until now _ = refl
 
 pub timed-shape : (until now : Deadline) (a b : Reply) → outline a ≡ outline b → outline (timed_reply until now a) ≡ outline (timed_reply until now b)
 timed-shape until now a b e = timed-flat until now a ∙ ap (timed_reply until now) e ∙ sym (timed-flat until now b)
@@ -289,14 +280,4 @@ module _ {received : Bool} (to : ℕ → ℕ) (x y : Past) (equivalent : AgreeUn
   pub turn-equivalent : (p : ℕ) (call : Call) → may_call y p call ≡ may_call x p call
   turn-equivalent p Collect = answered-equivalent p
   turn-equivalent p (Withdraw now) = λ i. unanswered-equivalent p i && is_over (equivalent.deadlines p i) now
-  turn-equivalent p (MqClose d) = free-equivalent p
-  turn-equivalent p (MqSend d prio len) = free-equivalent p
-  turn-equivalent p (MqReceive d room) = free-equivalent p
-  turn-equivalent p (MqTimedSend d prio len until now) = free-equivalent p
-  turn-equivalent p (MqTimedReceive d room until now) = free-equivalent p
-  turn-equivalent p (MqGetattr d) = free-equivalent p
-  turn-equivalent p (MqSetattr d nonblock) = free-equivalent p
-  turn-equivalent p (MqOpen flags attr) = free-equivalent p
-  turn-equivalent p MqUnlink = free-equivalent p
-  turn-equivalent p (MqNotify d value) = free-equivalent p
-  turn-equivalent p NextNotice = free-equivalent p
+  turn-equivalent p _ = free-equivalent p

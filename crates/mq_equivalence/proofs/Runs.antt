@@ -21,17 +21,7 @@ use Rattle.mq_equivalence.proofs.Waiting.{goes-equivalent, message-equivalent}
 pub payload-by : (call : Call) (a b : Reply) (payload : List ℕ) → is_refused b ≡ is_refused a → is_payload call b payload ≡ is_payload call a payload
 payload-by (MqSend d prio len) a b payload e = ap (λ (r : Bool). length payload == (if r then 0 else len)) e
 payload-by (MqTimedSend d prio len until now) a b payload e = ap (λ (r : Bool). length payload == (if r then 0 else len)) e
-payload-by (MqOpen flags attr) a b payload e = refl
-payload-by MqUnlink a b payload e = refl
-payload-by (MqClose d) a b payload e = refl
-payload-by (MqReceive d room) a b payload e = refl
-payload-by (MqTimedReceive d room until now) a b payload e = refl
-payload-by (MqGetattr d) a b payload e = refl
-payload-by (MqSetattr d nonblock) a b payload e = refl
-payload-by (MqNotify d value) a b payload e = refl
-payload-by NextNotice a b payload e = refl
-payload-by Collect a b payload e = refl
-payload-by (Withdraw now) a b payload e = refl
+payload-by _ a b payload e = refl
 
 -- an entry that may follow the one journal may follow the other
 pub next-equivalent : {received : Bool} (to : ℕ → ℕ) (x y : Past) → AgreeUnder received to x y → (p : ℕ) (call : Call) (given : List ℕ) → IsLegalNext x (record_of x p call given) → IsLegalNext y (record_of y p call given)

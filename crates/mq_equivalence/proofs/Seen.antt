@@ -55,17 +55,13 @@ got-shape (Refused f) = refl
 got-receives : (past : Past) (p : ℕ) (call : Call) (m : ℕ) (a n : Option ℕ) → Says past p call (Got m a n) → is_receive call ≡ true
 got-receives past p (MqReceive d room) m a n says = refl
 got-receives past p (MqTimedReceive d room until now) m a n says = refl
-got-receives past p (MqOpen flags attr) m a n says = absurd says
 got-receives past p (MqClose d) m a n says = absurd says.0
-got-receives past p MqUnlink m a n says = absurd says
 got-receives past p (MqSend d prio len) m a n says = absurd says.3
 got-receives past p (MqTimedSend d prio len until now) m a n says = absurd says.3
-got-receives past p (MqGetattr d) m a n says = absurd says
-got-receives past p (MqSetattr d nonblock) m a n says = absurd says
-got-receives past p (MqNotify d value) m a n says = absurd says
 got-receives past p NextNotice m a n says = absurd (cc)
 got-receives past p Collect m a n says = absurd (cc)
 got-receives past p (Withdraw now) m a n says = absurd (cc)
+got-receives past p _ m a n says = absurd says
 
 -- so it gets one only if receives are to come
 pub got-may : (received : Bool) (past : Past) (p : ℕ) (call : Call) (reply : Reply) → may_come received call ≡ true → Says past p call reply → is_got reply ≡ true → received ≡ true
@@ -179,13 +175,4 @@ admitted-seen false (Some w) ss = oldest-process ss
 pub answer-seen : (received : Bool) (p : ℕ) (call : Call) (payload : List ℕ) (reply : Reply) (ss : List (Option Sender)) (rs : List (Option ℕ)) (k : ℕ) (before : Option (Option (Option Message))) →
     after_answer p call payload reply (seen_senders received ss) rs k before ≡ after_answer p call payload reply ss rs k before
 answer-seen received p call payload (Got m a n) ss rs k before = λ i. if is_place k (admitted-seen received a ss i) then Some (Some (told_of call payload)) else before
-answer-seen received p call payload (Queued n) ss rs k before = refl
-answer-seen received p call payload (Opened d created) ss rs k before = refl
-answer-seen received p call payload (Handed w) ss rs k before = refl
-answer-seen received p call payload Waits ss rs k before = refl
-answer-seen received p call payload (Collected b) ss rs k before = refl
-answer-seen received p call payload (Withdrawn w) ss rs k before = refl
-answer-seen received p call payload (Attrs s) ss rs k before = refl
-answer-seen received p call payload (Notice v) ss rs k before = refl
-answer-seen received p call payload Done ss rs k before = refl
-answer-seen received p call payload (Refused f) ss rs k before = refl
+answer-seen received p call payload _ ss rs k before = refl

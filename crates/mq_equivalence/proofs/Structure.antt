@@ -224,16 +224,7 @@ held-shape past call name (Refused f) d before = refl
 
 opened-only : (reply : Reply) (e : ℕ) (new : Bool) → shape reply ≡ Opened e new → reply ≡ Opened e new
 opened-only (Opened d created) e new same = same
-opened-only (Queued n) e new same = absurd (cc)
-opened-only (Handed w) e new same = absurd (cc)
-opened-only (Got m a n) e new same = absurd (cc)
-opened-only Waits e new same = absurd (cc)
-opened-only (Collected b) e new same = absurd (cc)
-opened-only (Withdrawn w) e new same = absurd (cc)
-opened-only (Attrs s) e new same = absurd (cc)
-opened-only (Notice v) e new same = absurd (cc)
-opened-only Done e new same = absurd (cc)
-opened-only (Refused f) e new same = absurd (cc)
+opened-only _ e new same = absurd (cc)
 
 -- the step ----------------------------------------------------------------------------------------------------------------
 

@@ -35,42 +35,16 @@ idle-answer : (past : Past) (p : ℕ) (call : Call) (reply : Reply) (payload : L
     after_answer p call payload reply ss rs k before ≡ after_answer p call payload reply [] [] k before
 idle-answer past p call (Handed w) payload ss rs k before says none = let hands = handed-all past p call w says in let bad : None ≡ Some hands.queue = sym none ∙ hands.on in absurd (cc)
 idle-answer past p call (Got m a n) payload ss rs k before says none = let got = got-all past p call m a n says in let bad : None ≡ Some got.queue = sym none ∙ got.on in absurd (cc)
-idle-answer past p call (Queued n) payload ss rs k before says none = refl
-idle-answer past p call (Opened d created) payload ss rs k before says none = refl
-idle-answer past p call Waits payload ss rs k before says none = refl
-idle-answer past p call (Collected b) payload ss rs k before says none = refl
-idle-answer past p call (Withdrawn w) payload ss rs k before says none = refl
-idle-answer past p call (Attrs s) payload ss rs k before says none = refl
-idle-answer past p call (Notice v) payload ss rs k before says none = refl
-idle-answer past p call Done payload ss rs k before says none = refl
-idle-answer past p call (Refused f) payload ss rs k before says none = refl
+idle-answer past p call _ payload ss rs k before says none = refl
 
 pub none-given : (past : Past) (reply : Reply) → is_got reply ≡ false → message_given past reply ≡ None
 none-given past (Got m a n) e = cc
-none-given past (Queued n) e = refl
-none-given past (Handed w) e = refl
-none-given past (Opened d created) e = refl
-none-given past Waits e = refl
-none-given past (Collected b) e = refl
-none-given past (Withdrawn w) e = refl
-none-given past (Attrs s) e = refl
-none-given past (Notice v) e = refl
-none-given past Done e = refl
-none-given past (Refused f) e = refl
+none-given past _ e = refl
 
 given-is : (past : Past) → Legal past → (p : ℕ) (call : Call) (reply : Reply) (payload : List ℕ) → is_got reply ≡ true → Says past p call reply →
     message_given (rec p call reply payload ∷ past) reply ≡ foremost (contents past (called past p call))
 given-is past legal p call (Got m a n) payload e says = got-message past legal p call m a n payload says
-given-is past legal p call (Queued n) payload e says = absurd (cc)
-given-is past legal p call (Handed w) payload e says = absurd (cc)
-given-is past legal p call (Opened d created) payload e says = absurd (cc)
-given-is past legal p call Waits payload e says = absurd (cc)
-given-is past legal p call (Collected b) payload e says = absurd (cc)
-given-is past legal p call (Withdrawn w) payload e says = absurd (cc)
-given-is past legal p call (Attrs s) payload e says = absurd (cc)
-given-is past legal p call (Notice v) payload e says = absurd (cc)
-given-is past legal p call Done payload e says = absurd (cc)
-given-is past legal p call (Refused f) payload e says = absurd (cc)
+given-is past legal p call _ payload e says = absurd (cc)
 
 withdrawn-shape : (r : Reply) → is_withdrawn (shape r) ≡ is_withdrawn r
 withdrawn-shape (Withdrawn w) = refl
@@ -87,16 +61,7 @@ withdrawn-shape (Refused f) = refl
 
 the-wait : (r : Reply) → is_withdrawn r ≡ true → (w : ℕ) × (r ≡ Withdrawn w)
 the-wait (Withdrawn w) e = (w, refl)
-the-wait (Got m a n) e = absurd (cc)
-the-wait (Queued n) e = absurd (cc)
-the-wait (Handed w) e = absurd (cc)
-the-wait (Opened d created) e = absurd (cc)
-the-wait Waits e = absurd (cc)
-the-wait (Collected b) e = absurd (cc)
-the-wait (Attrs s) e = absurd (cc)
-the-wait (Notice v) e = absurd (cc)
-the-wait Done e = absurd (cc)
-the-wait (Refused f) e = absurd (cc)
+the-wait _ e = absurd (cc)
 
 is-free : (o : Option ℕ) → is_none o ≡ true → o ≡ None
 is-free None e = refl
@@ -105,17 +70,7 @@ is-free (Some w) e = absurd (cc)
 free-of : (past : Past) (p : ℕ) (call : Call) (reply : Reply) → is_withdrawn reply ≡ false → Says past p call reply → may_call past p call ≡ true → is_collected reply ≡ false → open_wait past p ≡ None
 free-of past p Collect reply kept says turn not = let is : is_collected reply ≡ true = ap is_collected says in let bad : true ≡ false = sym is ∙ not in absurd (cc)
 free-of past p (Withdraw now) reply kept says turn not = let is : is_withdrawn reply ≡ true = ap is_withdrawn says in let bad : true ≡ false = sym is ∙ kept in absurd (cc)
-free-of past p (MqClose d) reply kept says turn not = is-free (open_wait past p) turn
-free-of past p (MqSend d prio len) reply kept says turn not = is-free (open_wait past p) turn
-free-of past p (MqReceive d room) reply kept says turn not = is-free (open_wait past p) turn
-free-of past p (MqTimedSend d prio len until now) reply kept says turn not = is-free (open_wait past p) turn
-free-of past p (MqTimedReceive d room until now) reply kept says turn not = is-free (open_wait past p) turn
-free-of past p (MqGetattr d) reply kept says turn not = is-free (open_wait past p) turn
-free-of past p (MqSetattr d nonblock) reply kept says turn not = is-free (open_wait past p) turn
-free-of past p (MqOpen flags attr) reply kept says turn not = is-free (open_wait past p) turn
-free-of past p MqUnlink reply kept says turn not = is-free (open_wait past p) turn
-free-of past p (MqNotify d value) reply kept says turn not = is-free (open_wait past p) turn
-free-of past p NextNotice reply kept says turn not = is-free (open_wait past p) turn
+free-of past p _ reply kept says turn not = is-free (open_wait past p) turn
 
 -- the waits and the answers, after a withdrawal
 senders-of : (past : Past) → Legal past → (p : ℕ) (call : Call) (reply : Reply) (payload : List ℕ) → is_withdrawn reply ≡ true → Says past p call reply → may_call past p call ≡ true → (q : ℕ) → senders (rec p call reply payload ∷ past) q ≡ senders_but p (senders past q)
@@ -255,16 +210,7 @@ pub record IsGot (r : Reply) : Type 0 where
 
 pub the-got : (r : Reply) → is_got r ≡ true → IsGot r
 the-got (Got m a n) e = record { place = m; admitted = a; notified = n; is = refl }
-the-got (Withdrawn w) e = absurd (cc)
-the-got (Queued n) e = absurd (cc)
-the-got (Handed w) e = absurd (cc)
-the-got (Opened d created) e = absurd (cc)
-the-got Waits e = absurd (cc)
-the-got (Collected b) e = absurd (cc)
-the-got (Attrs s) e = absurd (cc)
-the-got (Notice v) e = absurd (cc)
-the-got Done e = absurd (cc)
-the-got (Refused f) e = absurd (cc)
+the-got _ e = absurd (cc)
 
 module _ {received : Bool} (to : ℕ → ℕ) (x y : Past) (equivalent : AgreeUnder received to x y) (p : ℕ) (call : Call) (may : may_come received call ≡ true) where
   queue-both : called_queue y p call ≡ option_map to (called_queue x p call)
