@@ -83,5 +83,5 @@ abbrev pub ill_formed_text : IllFormed → List ℕ
 ill_formed_text BehindPending = codes "an earlier call of this process had not returned"
 ill_formed_text Overlaps = codes "this call begins before an earlier one of its process ended"
 ill_formed_text EndsFirst = codes "this call ends before it begins"
-ill_formed_text BadName = codes "the name is none of a queue"
+ill_formed_text BadName = codes "the name is not a valid queue name"
 ill_formed_text BadLength = codes "the length is not that of the message"

@@ -36,7 +36,7 @@ impl fmt::Display for IllFormed {
             IllFormed::BehindPending => "an earlier call of this process had not returned",
             IllFormed::Overlaps => "this call begins before an earlier one of its process ended",
             IllFormed::EndsFirst => "this call ends before it begins",
-            IllFormed::BadName => "the name is none of a queue",
+            IllFormed::BadName => "the name is not a valid queue name",
             IllFormed::BadLength => "the length is not that of the message",
         })
     }

@@ -37,7 +37,7 @@ impl fmt::Display for NoStart {
             NoStart::Waits(place) => {
                 write!(
                     f,
-                    "entry {place} waits: a script goes on where no process waits"
+                    "entry {place} waits: a script continues a journal in which no process waits"
                 )
             }
         }
