@@ -27,7 +27,7 @@ static const char *const help =
     "                   can run (last); any if left out\n"
     "  --bounds MOST    schedules with 0 to MOST preemptions come first, or 'none'; 2 if left out\n"
     "  --budget RUNS    the most runs, 100000 if left out\n"
-    "  --seconds N      the most seconds\n"
+    "  --seconds N      the most seconds; no limit if 0 or left out\n"
     "  --check RUNS     random runs after the search, 200 if left out\n"
     "  --steps MOST     the most steps of a run, 2000 if left out\n"
     "  --stop           stop at the first failure\n"
