@@ -148,7 +148,11 @@ fn not_opened(rt: &impl Eprint, path: &str, error: &io::Error) -> ExitCode {
 }
 
 fn failed(rt: &impl Eprint, file: Option<&str>, fault: LogFault) -> ExitCode {
-    say(rt, file, &fault);
+    let about = match fault {
+        LogFault::Output => None,
+        _ => file,
+    };
+    say(rt, about, &fault);
     ExitCode::from(fault.status())
 }
 

@@ -32,9 +32,13 @@ pub fn stopped(
     text: &[u8],
     fault: RunFault,
 ) -> ExitCode {
+    let about = match fault {
+        RunFault::Output => None,
+        _ => file,
+    };
     match reason_text(rt, text, &fault) {
-        Some(reason) => say(rt, file, &reason),
-        None => say(rt, file, &fault),
+        Some(reason) => say(rt, about, &reason),
+        None => say(rt, about, &fault),
     }
     ExitCode::from(fault.status())
 }
