@@ -9,3 +9,4 @@ pub mod Judged
 pub mod State
 pub mod Start
 pub mod Resumed
+pub mod InTime

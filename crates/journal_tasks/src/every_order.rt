@@ -208,8 +208,8 @@ fn try_script<W: Write>(
     Ok(answer_ending(&collected, trial.journal))
 }
 
-// The answer: the report, or the journal with the given number.
-fn answer_text(
+/// The answer: the report, or the journal with the given number.
+pub fn answer_text(
     alloc: Global,
     play: &mut Play,
     phases: u64,
@@ -249,8 +249,8 @@ fn journal_of(alloc: Global, play: &mut Play, schedule: &[u32]) -> Result<Vec<u8
     write_journal(alloc, play.journal())
 }
 
-// The result, given whether the report or the journal of a number is wanted.
-fn answer_ending(collected: &Collected, journal: Option<u64>) -> Ending
+/// The result, given whether the report or the journal of a number is wanted.
+pub fn answer_ending(collected: &Collected, journal: Option<u64>) -> Ending
     ensures { result ≡ answer_ending journal collected.now }
 {
     match journal {

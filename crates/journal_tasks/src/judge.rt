@@ -33,8 +33,8 @@ pub const PLAIN: Question = Question {
     budget: None,
 };
 
-// The maximum number of steps of the search for this number of calls.
-fn budget_for(given: Option<u64>, calls: usize) -> u64
+/// The maximum number of steps of the search for this number of calls.
+pub fn budget_for(given: Option<u64>, calls: usize) -> u64
     ensures { result ≡ budget_for given calls }
 {
     match given {

@@ -19,13 +19,21 @@ window_of o = record { from = unwrap_or o.from 0; to = unwrap_or o.to (2 ^ 64 - 
 abbrev pub wanted_of : Options → Wanted
 wanted_of o = record { at = o.at; form = if o.json then Json else Text }
 
--- a history is checked within a million steps
+-- the maximum number of steps: given seconds alone, no number is too large
+abbrev pub budget_or : Option ℕ → Option ℕ → Option ℕ
+budget_or budget None = budget
+budget_or budget (Some seconds) = Some (unwrap_or budget (2 ^ 64 - 1))
+
+abbrev pub budget_of : Options → Option ℕ
+budget_of o = budget_or o.budget o.seconds
+
+-- a history is checked within as many steps as its number of calls gives
 abbrev pub question_of : Options → Question
-question_of o = record { journal = o.explained; budget = o.budget }
+question_of o = record { journal = o.explained; budget = budget_of o }
 
 -- interleavings are tried within five million steps, and the report is written
 abbrev pub trial_of : Options → Trial
-trial_of o = record { journal = o.journal; budget = unwrap_or o.budget 5000000 }
+trial_of o = record { journal = o.journal; budget = unwrap_or (budget_of o) 5000000 }
 
 -- the task with this name
 abbrev pub task_named : List ℕ → Options → Option Task
@@ -38,6 +46,6 @@ task_named name o =
     else if bytes_eq name (codes "draw") then Some (Draw (window_of o))
     else if bytes_eq name (codes "view") then Some (View (window_of o))
     else if bytes_eq name (codes "state") then Some (State (wanted_of o))
-    else if bytes_eq name (codes "judge") then Some (Judge (question_of o))
-    else if bytes_eq name (codes "orders") then Some (Orders (trial_of o))
+    else if bytes_eq name (codes "judge") then Some (Judge (question_of o) o.seconds)
+    else if bytes_eq name (codes "orders") then Some (Orders (trial_of o) o.seconds)
     else None

@@ -69,6 +69,16 @@ fn number<'a>(alloc: Global, name: &'a str, letter: &'a [&'a str], help: &'a str
         .help(help)
 }
 
+// The time after which a search ends.
+fn seconds<'a>(alloc: Global) -> Arg<'a> {
+    number(
+        alloc,
+        "seconds",
+        &["N"],
+        "Ends the search after about N seconds; its steps have no limit, unless --budget is given",
+    )
+}
+
 // An option without a value.
 fn flag<'a>(alloc: Global, id: &'a str, name: &'a str, help: &'a str) -> Arg<'a> {
     Arg::new(alloc, id)
@@ -161,7 +171,8 @@ fn judge<'a>(alloc: Global) -> Result<Command<'a>, AllocError> {
         "budget",
         &["N"],
         "Takes at most N steps, in place of 2000000 and 10 for each call",
-    ))
+    ))?
+    .arg(seconds(alloc))
 }
 
 fn orders<'a>(alloc: Global) -> Result<Command<'a>, AllocError> {
@@ -182,6 +193,7 @@ fn orders<'a>(alloc: Global) -> Result<Command<'a>, AllocError> {
         &["N"],
         "Takes at most N steps, in place of 5000000",
     ))?
+    .arg(seconds(alloc))?
     .arg(path(
         alloc,
         "past",
@@ -234,7 +246,7 @@ fn source_of(word: Option<&str>) -> Source<'_> {
 fn second_of<'a>(task: Task, matches: &ArgMatches<'a>) -> Option<Source<'a>> {
     let word = match task {
         Task::Resume => matches.get_str("script")?,
-        Task::Orders(_) => matches.get_str("past")?,
+        Task::Orders(_, _) => matches.get_str("past")?,
         _ => return None,
     };
     Some(source_of(Some(word)))
@@ -248,6 +260,7 @@ fn options_of(matches: &ArgMatches<'_>) -> Options {
         at: matches.get_one::<u64>("at"),
         journal: matches.get_one::<u64>("journal"),
         budget: matches.get_one::<u64>("budget"),
+        seconds: matches.get_one::<u64>("seconds"),
         json: matches.get_flag("json"),
         explained: matches.get_flag("explained"),
     }

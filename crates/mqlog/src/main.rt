@@ -12,20 +12,20 @@ use command::{Asked, Source, asked_by, command};
 use fast_mutex::FastMutex;
 use journal_format::input::read_input;
 use journal_tasks::{
-    Ending, LogFault, Question, Trial, Wanted, Window, check_journal, compact_journal,
-    draw_journal, judge_history, record_history, record_script, resume_script, state_journal,
-    try_orders, try_orders_after,
+    Ending, LogFault, NoStart, Question, Trial, Wanted, Window, check_journal, compact_journal,
+    draw_journal, judge_history, judge_in_time, record_history, record_script, resume_script,
+    state_journal, try_orders, try_orders_after, try_orders_in_time,
 };
 use journal_views::{TAIL, Unviewed, Viewed, view_journal};
 use mq::Guarded;
 use mq_model::journals::Journal;
 use pages::{head_of, judge_to_page};
 use progress::with_progress;
-use script_runner::Plain;
+use script_runner::{Plain, RunFault};
 use scripts::{script_of, stopped};
 use std::alloc::{Alloc, Global};
 use std::fmt::Display;
-use std::io::{Eprint, ErrorKind, Input, Print, Read};
+use std::io::{Eprint, ErrorKind, Input, Print, Read, Write};
 use std::process::ExitCode;
 use std::rt::{Env, Files};
 use std::sync::Wait;
@@ -124,11 +124,13 @@ fn answer<R: Read>(
             Err(status) => status,
         },
         Task::State(wanted) => state(rt, file, input, wanted),
-        Task::Judge(question) if asked.page => judge_to_page(rt, file, input, question),
-        Task::Judge(question) => judge(rt, file, input, question),
-        Task::Orders(trial) => match asked.second {
-            None => orders(rt, file, input, trial),
-            Some(past) => orders_after(rt, past, file, input, trial),
+        Task::Judge(question, seconds) if asked.page => {
+            judge_to_page(rt, file, input, question, seconds)
+        }
+        Task::Judge(question, seconds) => judge(rt, file, input, question, seconds),
+        Task::Orders(trial, seconds) => match asked.second {
+            None => orders(rt, file, input, trial, seconds),
+            Some(past) => orders_after(rt, past, file, input, trial, seconds),
         },
     }
 }
@@ -235,11 +237,26 @@ fn judge<R: Read>(
     file: Option<&str>,
     input: &mut R,
     question: Question,
+    seconds: Option<u64>,
 ) -> ExitCode {
-    let search = || judge_history(rt.alloc(), input, &mut io::writer(rt), question);
+    let search = || judged(rt, input, &mut io::writer(rt), question, seconds);
     match with_progress(rt, "judge", search) {
         Ok(status) => ExitCode::from(status),
         Err(fault) => failed(rt, file, fault),
+    }
+}
+
+// Checks a history, and returns the exit status.
+fn judged<R: Read, W: Write>(
+    rt: &(impl AllocGlobal + Clock),
+    input: &mut R,
+    output: &mut W,
+    question: Question,
+    seconds: Option<u64>,
+) -> Result<u8, LogFault> {
+    match seconds {
+        None => judge_history(rt.alloc(), input, output, question),
+        Some(seconds) => judge_in_time(rt, rt.alloc(), input, output, question, seconds),
     }
 }
 
@@ -342,11 +359,16 @@ fn orders<R: Read>(
     file: Option<&str>,
     input: &mut R,
     trial: Trial,
+    seconds: Option<u64>,
 ) -> ExitCode {
     let text = match script_of(rt, file, input) {
         Ok(text) => text,
         Err(status) => return status,
     };
+    if seconds.is_some() {
+        let journal = Journal::new(rt.alloc());
+        return orders_on(rt, None, journal, file, &text, trial, seconds);
+    }
     let mut script = Memory { rest: &text };
     let search = || try_orders(rt.alloc(), &mut script, &mut io::writer(rt), trial);
     match with_progress(rt, "orders", search) {
@@ -371,11 +393,16 @@ fn orders_after<R: Read>(
     file: Option<&str>,
     input: &mut R,
     trial: Trial,
+    seconds: Option<u64>,
 ) -> ExitCode {
     match past {
-        Source::StandardInput => orders_from(rt, None, &mut rt.reader(), file, input, trial),
+        Source::StandardInput => {
+            orders_from(rt, None, &mut rt.reader(), file, input, trial, seconds)
+        }
         Source::Path(path) => match fs::open(rt, path) {
-            Ok(mut entries) => orders_from(rt, Some(path), &mut entries, file, input, trial),
+            Ok(mut entries) => {
+                orders_from(rt, Some(path), &mut entries, file, input, trial, seconds)
+            }
             Err(error) => not_opened(rt, path, &error),
         },
     }
@@ -389,23 +416,53 @@ fn orders_from<J: Read, R: Read>(
     file: Option<&str>,
     input: &mut R,
     trial: Trial,
+    seconds: Option<u64>,
 ) -> ExitCode {
     let journal = match read_input(rt.alloc(), entries) {
         Ok(journal) => journal,
         Err(fault) => return failed(rt, past, LogFault::from(fault)),
     };
-    let text = match script_of(rt, file, input) {
-        Ok(text) => text,
-        Err(status) => return status,
-    };
-    let mut script = Memory { rest: &text };
-    let search = || try_orders_after(rt.alloc(), journal, &mut script, &mut io::writer(rt), trial);
+    match script_of(rt, file, input) {
+        Ok(text) => orders_on(rt, past, journal, file, &text, trial, seconds),
+        Err(status) => status,
+    }
+}
+
+// The same with this journal and the text of the script.
+fn orders_on(
+    rt: &(impl Print + Eprint + AllocGlobal + Threads + Wait + Clock + Sync + Files),
+    past: Option<&str>,
+    journal: Journal,
+    file: Option<&str>,
+    text: &[u8],
+    trial: Trial,
+    seconds: Option<u64>,
+) -> ExitCode {
+    let search = || tried(rt, journal, text, trial, seconds);
     match with_progress(rt, "orders", search) {
         Ok(Ok(ending)) => ended(rt, file, ending),
         Ok(Err(why)) => {
             say(rt, past, &why);
             ExitCode::from(1)
         }
-        Err(fault) => stopped(rt, file, &text, fault),
+        Err(fault) => stopped(rt, file, text, fault),
+    }
+}
+
+fn tried(
+    rt: &(impl Print + AllocGlobal + Clock),
+    journal: Journal,
+    text: &[u8],
+    trial: Trial,
+    seconds: Option<u64>,
+) -> Result<Result<Ending, NoStart>, RunFault> {
+    let mut script = Memory { rest: text };
+    let mut output = io::writer(rt);
+    match seconds {
+        None => try_orders_after(rt.alloc(), journal, &mut script, &mut output, trial),
+        Some(seconds) => {
+            let alloc = rt.alloc();
+            try_orders_in_time(rt, alloc, journal, &mut script, &mut output, trial, seconds)
+        }
     }
 }

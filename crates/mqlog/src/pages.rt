@@ -2,8 +2,8 @@
 //! history.
 
 use crate::progress::with_progress;
-use crate::{failed, not_opened};
-use journal_tasks::{LogFault, Question, judge_history};
+use crate::{failed, judged, not_opened};
+use journal_tasks::{LogFault, Question};
 use journal_views::{FRONT, HEAD, TAIL, page_of_text};
 use std::alloc::AllocGlobal;
 use std::io::{Eprint, ErrorKind, Print, Read, Write};
@@ -42,13 +42,14 @@ pub fn judge_to_page<R: Read>(
     file: Option<&str>,
     input: &mut R,
     question: Question,
+    seconds: Option<u64>,
 ) -> ExitCode {
     let asked = Question {
         journal: true,
         budget: question.budget,
     };
     let mut said = Vec::new(rt.alloc());
-    let search = || judge_history(rt.alloc(), input, &mut said, asked);
+    let search = || judged(rt, input, &mut said, asked, seconds);
     let status = match with_progress(rt, "judge", search) {
         Ok(status) => status,
         Err(fault) => return failed(rt, file, fault),

@@ -1,6 +1,6 @@
 //! The tasks, by name and options.
 ghost use Rattle.std.specs.Prelude.{◌≡◌};
-ghost use Rattle.mqlog.specs.Task.{task_named, trial_of, question_of, wanted_of, window_of};
+ghost use Rattle.mqlog.specs.Task.{budget_of, task_named, trial_of, question_of, wanted_of, window_of};
 
 use journal_tasks::{LAST, Question, REPORT, Trial, WHOLE, Wanted, Window};
 use journal_views::Form;
@@ -24,10 +24,10 @@ pub enum Task {
     View(Window),
     /// Writes the state after a journal, or after a prefix of it.
     State(Wanted),
-    /// Checks whether a concurrent history is linearizable.
-    Judge(Question),
-    /// Tries every interleaving of the calls of a script.
-    Orders(Trial),
+    /// Checks whether a concurrent history is linearizable, in so many seconds if they are given.
+    Judge(Question, Option<u64>),
+    /// Tries every interleaving of the calls of a script, in so many seconds if they are given.
+    Orders(Trial, Option<u64>),
 }
 
 /// The options that were given.
@@ -38,6 +38,7 @@ pub struct Options {
     pub at: Option<u64>,
     pub journal: Option<u64>,
     pub budget: Option<u64>,
+    pub seconds: Option<u64>,
     pub json: bool,
     /// Whether a journal that explains a history is wanted.
     pub explained: bool,
@@ -56,8 +57,8 @@ pub fn task_named(name: &str, options: Options) -> Option<Task>
         "draw" => Task::Draw(window_of(options)),
         "view" => Task::View(window_of(options)),
         "state" => Task::State(wanted_of(options)),
-        "judge" => Task::Judge(question_of(options)),
-        "orders" => Task::Orders(trial_of(options)),
+        "judge" => Task::Judge(question_of(options), options.seconds),
+        "orders" => Task::Orders(trial_of(options), options.seconds),
         _ => return None,
     };
     Some(task)
@@ -83,13 +84,24 @@ fn wanted_of(options: Options) -> Wanted
     }
 }
 
+// The maximum number of steps, if there is one: given seconds alone, the number of steps is not
+// limited.
+fn budget_of(options: Options) -> Option<u64>
+    ensures { result ≡ budget_of options }
+{
+    match options.seconds {
+        Some(_) => Some(options.budget.unwrap_or(u64::MAX)),
+        None => options.budget,
+    }
+}
+
 // How a history is checked.
 fn question_of(options: Options) -> Question
     ensures { result ≡ question_of options }
 {
     Question {
         journal: options.explained,
-        budget: options.budget,
+        budget: budget_of(options),
     }
 }
 
@@ -99,6 +111,6 @@ fn trial_of(options: Options) -> Trial
 {
     Trial {
         journal: options.journal,
-        budget: options.budget.unwrap_or(REPORT.budget),
+        budget: budget_of(options).unwrap_or(REPORT.budget),
     }
 }
