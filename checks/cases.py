@@ -7,7 +7,8 @@ A case is a group of lines:
   ~ text                  a line in place of that of the input with the same first word
   NAME> text              a line of the file NAME, in the folder where the program runs
   < text                  a line of the output; if the last one ends in `...`, more may follow
-  + text                  in place of `<`: a line that the output has once; `-`: one that it lacks
+  + text                  in place of `<`: a line that the output has once; `-`: one that it lacks;
+                          if it ends in `...`, a line that begins so
   ! text                  a line of the error stream
   = 2                     the exit status, if it is not 0
   * 20                    how often the case is run
@@ -161,6 +162,8 @@ def is_wrong(lines, sign, text):
     """Whether lines do not have a line once or lack it, or do not have some that begin with it."""
     if isinstance(sign, int):
         return sum(it.startswith(text) for it in lines) != sign
+    if text.endswith("..."):
+        return is_wrong(lines, int(sign == "+"), text.removesuffix("..."))
     return lines.count(text) != (sign == "+")
 
 

@@ -1,7 +1,7 @@
 -- What was found about a script, from the start of its processes.
-use Rattle.std.proofs.Common.{◌≡◌, ◌≤◌, ◌∙◌, ℕ, true, false, Option, ap, subst}
+use Rattle.std.proofs.Common.{◌≡◌, ◌≤◌, ◌*◌, ◌∙◌, ℕ, true, false, Option, ap, subst}
 use Rattle.std.specs.List.{All}
-use Rattle.schedules.specs.Outcomes.{AreAll, AreDistinct, IsWitness}
+use Rattle.schedules.specs.Outcomes.{AreAll, AreDistinct, AreFoundWithin, IsWitness}
 use Rattle.schedules.specs.Work.{TakesAll}
 use Rattle.schedules.specs.declared.outcomes.Collected.{Collected}
 use Rattle.script_orders.specs.Orders.{AreLegal}
@@ -12,10 +12,11 @@ pub found-from : (budget : ℕ) (play : Stage) (collected : Collected) → first
     All (IsWitness next_stage stands_still observed (first_stage play)) collected.found.items → AreDistinct collected.found.items →
     (collected.complete ≡ true → AreAll next_stage stands_still observed (first_stage play) collected.found.items) →
     (collected.complete ≡ false → TakesAll next_stage choice_count (λ depth. 1) budget (first_stage play)) →
-    (collected.steps ≤ budget) × (collected.complete ≡ false → collected.steps ≡ budget) → AreLegal (first_stage play) → AreFound budget play collected
-found-from budget play collected first witnessed distinct all used_up steps legal =
+    (collected.steps ≤ budget) × (collected.complete ≡ false → collected.steps ≡ budget) → (collected.complete ≡ true → AreFoundWithin collected.steps collected.found.items) →
+    2 * collected.states ≤ collected.steps → AreLegal (first_stage play) → AreFound budget play collected
+found-from budget play collected first witnessed distinct all used_up steps within states legal =
     let P : Stage → Type 0 = λ s. AreFound budget s collected in
-    let here : AreFound budget (first_stage play) collected = record { witnessed = witnessed; distinct = distinct; all = all; used_up = used_up; steps = steps; legal = legal } in
+    let here : AreFound budget (first_stage play) collected = record { witnessed = witnessed; distinct = distinct; all = all; used_up = used_up; steps = steps; within = within; states = states; legal = legal } in
     subst P first here
 
 pub text-from : (journal : Option ℕ) (phases count : ℕ) (play later : Stage) (collected : Collected) →

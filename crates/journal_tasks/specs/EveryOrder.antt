@@ -1,5 +1,5 @@
 -- The answer about all interleavings of the calls of a script.
-use Rattle.std.specs.Prelude.{◌≡◌, ◌≤◌, ℕ, zero, suc, Bool, true, false, List, [], Option, None, Some, Result, Ok, Err, if◌then◌else◌, length, slice_get}
+use Rattle.std.specs.Prelude.{◌≡◌, ◌≤◌, ◌*◌, ℕ, zero, suc, Bool, true, false, List, [], Option, None, Some, Result, Ok, Err, if◌then◌else◌, length, slice_get}
 use Rattle.std.specs.List.{All, list_any}
 use Rattle.std.specs.Option.{option_map, unwrap_or}
 use Rattle.std.specs.Io.KnownBytes as known
@@ -8,7 +8,7 @@ use Rattle.mq_model.specs.Record.{Past}
 use Rattle.script_text.specs.Script.{Whole}
 use Rattle.journal_format.specs.Text.{journal_text}
 use Rattle.schedules.specs.Schedules.{after}
-use Rattle.schedules.specs.Outcomes.{AreAll, AreDistinct, IsWitness}
+use Rattle.schedules.specs.Outcomes.{AreAll, AreDistinct, AreFoundWithin, IsWitness}
 use Rattle.schedules.specs.Work.{TakesAll}
 use Rattle.schedules.specs.declared.outcomes.Collected.{Collected}
 use Rattle.schedules.specs.declared.outcomes.Witnessed.{Witnessed}
@@ -31,13 +31,17 @@ ending_status OutOfBudget = 6
 
 -- What was found from a stage on. Each item has a schedule that leads to it, and no two items are
 -- the same. If the search is complete there is nothing else. If not, it took as many steps as the
--- budget has, and a complete one takes at least as many. The journal after each schedule is legal.
+-- budget has, and a complete one takes at least as many. If it is complete, its steps lead to all
+-- that was found and back. At most one state is kept for two steps. The journal after each schedule
+-- is legal.
 pub record AreFound (budget : ℕ) (from : Stage) (collected : Collected) : Type 0 where
   pub witnessed : All (IsWitness next_stage stands_still observed from) collected.found.items
   pub distinct : AreDistinct collected.found.items
   pub all : collected.complete ≡ true → AreAll next_stage stands_still observed from collected.found.items
   pub used_up : collected.complete ≡ false → TakesAll next_stage choice_count (λ depth. 1) budget from
   pub steps : (collected.steps ≤ budget) × (collected.complete ≡ false → collected.steps ≡ budget)
+  pub within : collected.complete ≡ true → AreFoundWithin collected.steps collected.found.items
+  pub states : 2 * collected.states ≤ collected.steps
   pub legal : AreLegal from
 
 -- the item with this number, counted from 1
@@ -56,7 +60,7 @@ numbered_text from (Some one) = journal_of from one.schedule.items
 
 -- the answer: the report, or the journal with a number
 abbrev pub answer_text : Option ℕ → ℕ → Stage → Collected → List ℕ
-answer_text None phases from collected = report_text phases collected.found.items collected.complete collected.steps
+answer_text None phases from collected = report_text phases collected.found.items collected.complete collected.steps collected.states
 answer_text (Some number) phases from collected = numbered_text from (numbered collected.found.items number)
 
 abbrev pub has_deadlock : List Witnessed → Bool

@@ -1,6 +1,6 @@
 -- The outcomes at the goals of a machine.
-use Rattle.std.specs.Prelude.{◌≡◌, ◌==◌, ℕ, Bool, true, false, ◌&&◌, not, if◌then◌else◌, List, [], ◌∷◌, Option}
-use Rattle.std.specs.List.{list_any}
+use Rattle.std.specs.Prelude.{◌≡◌, ◌≤◌, ◌==◌, ℕ, ◌+◌, ◌*◌, Bool, true, false, ◌&&◌, not, if◌then◌else◌, List, [], ◌∷◌, ◌++◌, ◌⊎◌, length, Option}
+use Rattle.std.specs.List.{All, list_any}
 use Rattle.std.specs.Str.{bytes_eq}
 use Rattle.schedules.specs.Observed.{Observed}
 use Rattle.schedules.specs.Schedules.{LeadsToGoal}
@@ -33,3 +33,13 @@ pub record IsWitness {S : Type 0} (next : S → ℕ → Option S) (is_goal : S �
 abbrev pub AreAll : {S : Type 0} → (S → ℕ → Option S) → (S → Bool) → (S → Observed) → S → List Witnessed → Type 0
 AreAll {S} next is_goal outcome from found =
     (schedule : List ℕ) (to : S) → LeadsToGoal next is_goal from schedule to → is_among found (outcome to) ≡ true
+
+-- none was added, or at the end one with this path as its schedule
+abbrev pub Grows : List ℕ → List Witnessed → List Witnessed → Type 0
+Grows path old new = (new ≡ old) ⊎ ((w : Witnessed) × (w.schedule.items ≡ path) × (new ≡ old ++ w ∷ []))
+
+-- So many steps can lead to all of these outcomes and back, if each step takes a choice, or takes
+-- one back: each outcome but the first takes two, and so does each choice of a schedule.
+pub record AreFoundWithin (steps : ℕ) (found : List Witnessed) : Type 0 where
+  pub outcomes : 2 * length found ≤ steps + 2
+  pub schedules : All (λ (w : Witnessed). 2 * length w.schedule.items ≤ steps) found

@@ -1,11 +1,11 @@
 //! The outcomes of all schedules of a machine.
-ghost use Rattle.std.specs.Prelude.{◌≡◌, ◌≤◌, ◌++◌, ◌∷◌, [], ℕ, All, IfOk, List, None, OnOk, Some, false, if◌then◌else◌, is_some, true};
+ghost use Rattle.std.specs.Prelude.{◌≡◌, ◌≤◌, ◌+◌, ◌*◌, ◌++◌, ◌∷◌, [], ℕ, All, IfOk, List, None, OnOk, Some, false, if◌then◌else◌, is_some, true};
 ghost use Rattle.schedules.specs.Choices.{IsFirstFrom};
 ghost use Rattle.schedules.specs.Persistence.{IsFirst, IsFollowing};
 ghost use Rattle.schedules.specs.Schedules.{after};
-ghost use Rattle.schedules.specs.Seen.{Noted, is_done};
+ghost use Rattle.schedules.specs.Seen.{Noted, is_done, key_count};
 ghost use Rattle.schedules.specs.Observed.{Observed};
-ghost use Rattle.schedules.specs.Outcomes.{AreAll, AreDistinct, IsWitness, are_same, is_among, observed_in};
+ghost use Rattle.schedules.specs.Outcomes.{AreAll, AreDistinct, AreFoundWithin, Grows, IsWitness, are_same, is_among, observed_in};
 ghost use Rattle.schedules.specs.Work.{TakesAll};
 ghost use Rattle.schedules.specs.declared.outcomes.Level.{Level};
 
@@ -59,6 +59,8 @@ pub struct Collected {
     pub complete: bool,
     /// How many steps the search took.
     pub steps: u64,
+    /// How many states the search keeps, so as not to explore equivalent ones again.
+    pub states: u64,
 }
 
 // Whether two outcomes are equal.
@@ -96,6 +98,7 @@ fn note<M: Observable>(
         is_among found.old.items observed ≡ false) }
     ensures noted { OnOk result (M.is_goal machine.now ≡ true →
         is_among found.new.items (M.outcome machine.now) ≡ true) }
+    ensures grows { OnOk result (Grows path.now found.old.items found.new.items) }
 {
     if !machine.is_goal() {
         return Ok(());
@@ -173,9 +176,10 @@ fn kept(key: Option<Vec<u64>>, next: &Option<u32>) -> Option<Vec<u64>>
 
 // Removes the last level, and notes the key of its node, if it has one.
 fn leave(levels: &mut Vec<Level>, seen: &mut Seen) -> Result<Option<u32>, AllocError>
-    ensures { (front : List Level) (last : Level) → levels.old.items ≡ front ++ last ∷ [] →
+    ensures left { (front : List Level) (last : Level) → levels.old.items ≡ front ++ last ∷ [] →
         IfOk result (λ other. (other ≡ last.other) × (levels.new.items ≡ front) ×
         Noted seen.old seen.new last.key) }
+    ensures count { OnOk result (key_count seen.new ≤ key_count seen.old + 1) }
 {
     let Some(Level { other, key }) = levels.pop() else {
         return Ok(None);
@@ -205,6 +209,8 @@ pub fn collect<M: EquivalentOutcomes>(
         TakesAll M.next M.choices (λ depth. 1) budget (M.start machine.old)) }
     ensures steps { IfOk result (λ c. (c.steps ≤ budget) × (c.complete ≡ false →
         c.steps ≡ budget)) }
+    ensures within { IfOk result (λ c. c.complete ≡ true → AreFoundWithin c.steps c.found.items) }
+    ensures states { IfOk result (λ c. 2 * c.states ≤ c.steps) }
     ensures start { OnOk result (M.start machine.new ≡ M.start machine.old) }
 {
     machine.keeps_alike();
@@ -236,6 +242,7 @@ pub fn collect<M: EquivalentOutcomes>(
                         found,
                         complete: true,
                         steps,
+                        states: seen.count(),
                     });
                 };
                 next = leave(&mut levels, &mut seen)?;
@@ -249,5 +256,6 @@ pub fn collect<M: EquivalentOutcomes>(
         found,
         complete: false,
         steps: budget,
+        states: seen.count(),
     })
 }

@@ -317,46 +317,46 @@ more-phases found m (suc n) le = elim (cases_lt m (suc n)) [
       record { rest = []; whole = subst (λ k. phases_text found (suc n) ≡ phases_text found k ++ []) (sym is) (sym (append-nil (phases_text found (suc n)))); is = inl (is, refl) }
 ]
 
-end-ends : (complete : Bool) (steps : ℕ) → Ends (end_text complete steps)
-end-ends true steps = inr (inl refl)
-end-ends false steps = inr (inr refl)
+end-ends : (complete : Bool) (steps states : ℕ) → Ends (end_text complete steps states)
+end-ends true steps states = inr (inl refl)
+end-ends false steps states = inr (inr refl)
 
-phase-no_end : (complete : Bool) (steps : ℕ) (rest y : List ℕ) → IsPhase rest → end_text complete steps ≡ rest ++ y → ⊥
-phase-no_end complete steps [] y is same = is
-phase-no_end true steps (b ∷ rest) y is same = apart 101 b (codes "very order was tried, in " ++ (decimal steps ++ (codes " steps" ++ 10 ∷ []))) (rest ++ y) (λ here. omega (arith, here, is)) same
-phase-no_end false steps (b ∷ rest) y is same = apart 116 b (codes "he budget of " ++ (decimal steps ++ (codes " steps was used up: there may be more" ++ 10 ∷ []))) (rest ++ y) (λ here. omega (arith, here, is)) same
+phase-no_end : (complete : Bool) (steps states : ℕ) (rest y : List ℕ) → IsPhase rest → end_text complete steps states ≡ rest ++ y → ⊥
+phase-no_end complete steps states [] y is same = is
+phase-no_end true steps states (b ∷ rest) y is same = apart 101 b (codes "very order was tried, in " ++ (decimal steps ++ (codes " steps, " ++ (decimal states ++ (codes " states kept" ++ 10 ∷ []))))) (rest ++ y) (λ here. omega (arith, here, is)) same
+phase-no_end false steps states (b ∷ rest) y is same = apart 116 b (codes "he budget of " ++ (decimal steps ++ (codes " steps was used up, " ++ (decimal states ++ (codes " states kept: there may be more" ++ 10 ∷ []))))) (rest ++ y) (λ here. omega (arith, here, is)) same
 
 rest-ends : (rest y : List ℕ) → IsPhase rest → Ends (rest ++ y)
 rest-ends [] y is = absurd is
 rest-ends (b ∷ rest) y is = inl is
 
-fewer : (m n : ℕ) (found others : List Witnessed) (complete whole : Bool) (steps other : ℕ) → m < n → n < 2 ^ 64 → ArePlain found → ArePlain others →
-    report_text m found complete steps ≡ report_text n others whole other → ⊥
-fewer m n found others complete whole steps other less low one two same =
+fewer : (m n : ℕ) (found others : List Witnessed) (complete whole : Bool) (steps other states kept : ℕ) → m < n → n < 2 ^ 64 → ArePlain found → ArePlain others →
+    report_text m found complete steps states ≡ report_text n others whole other kept → ⊥
+fewer m n found others complete whole steps other states kept less low one two same =
     let more = more-phases others m n (omega (arith, less)) in
     let is : IsPhase more.rest = elim more.is [ inl both ↦ absurd (omega (arith, both.0, less)) | inr is ↦ is ] in
-    let text = same ∙ ap (λ t. t ++ end_text whole other) more.whole ∙ append_assoc (phases_text others m) more.rest (end_text whole other) in
-    let end = phases found others m (end_text complete steps) (more.rest ++ end_text whole other) (omega (arith, less, low)) one two (end-ends complete steps) (rest-ends more.rest (end_text whole other) is) text in
-    phase-no_end complete steps more.rest (end_text whole other) is end.1
+    let text = same ∙ ap (λ t. t ++ end_text whole other kept) more.whole ∙ append_assoc (phases_text others m) more.rest (end_text whole other kept) in
+    let end = phases found others m (end_text complete steps states) (more.rest ++ end_text whole other kept) (omega (arith, less, low)) one two (end-ends complete steps states) (rest-ends more.rest (end_text whole other kept) is) text in
+    phase-no_end complete steps states more.rest (end_text whole other kept) is end.1
 
-end-one : (complete whole : Bool) (steps other : ℕ) → end_text complete steps ≡ end_text whole other → whole ≡ complete
-end-one true true steps other same = refl
-end-one true false steps other same = absurd (apart 101 116 (codes "very order was tried, in " ++ (decimal steps ++ (codes " steps" ++ 10 ∷ []))) (codes "he budget of " ++ (decimal other ++ (codes " steps was used up: there may be more" ++ 10 ∷ []))) (differ 101 116 (omega arith)) same)
-end-one false true steps other same = absurd (apart 101 116 (codes "very order was tried, in " ++ (decimal other ++ (codes " steps" ++ 10 ∷ []))) (codes "he budget of " ++ (decimal steps ++ (codes " steps was used up: there may be more" ++ 10 ∷ []))) (differ 101 116 (omega arith)) (sym same))
-end-one false false steps other same = refl
+end-one : (complete whole : Bool) (steps other states kept : ℕ) → end_text complete steps states ≡ end_text whole other kept → whole ≡ complete
+end-one true true steps other states kept same = refl
+end-one true false steps other states kept same = absurd (apart 101 116 (codes "very order was tried, in " ++ (decimal steps ++ (codes " steps, " ++ (decimal states ++ (codes " states kept" ++ 10 ∷ []))))) (codes "he budget of " ++ (decimal other ++ (codes " steps was used up, " ++ (decimal kept ++ (codes " states kept: there may be more" ++ 10 ∷ []))))) (differ 101 116 (omega arith)) same)
+end-one false true steps other states kept same = absurd (apart 101 116 (codes "very order was tried, in " ++ (decimal other ++ (codes " steps, " ++ (decimal kept ++ (codes " states kept" ++ 10 ∷ []))))) (codes "he budget of " ++ (decimal steps ++ (codes " steps was used up, " ++ (decimal states ++ (codes " states kept: there may be more" ++ 10 ∷ []))))) (differ 101 116 (omega arith)) (sym same))
+end-one false false steps other states kept same = refl
 
-as-many : (m n : ℕ) (found others : List Witnessed) (complete whole : Bool) (steps other : ℕ) → n ≡ m → m < 2 ^ 64 → ArePlain found → ArePlain others →
-    report_text m found complete steps ≡ report_text n others whole other → TellsTheSame m n found others complete whole
-as-many m n found others complete whole steps other is low one two same =
-    let text = same ∙ ap (λ k. phases_text others k ++ end_text whole other) is in
-    let both = phases found others m (end_text complete steps) (end_text whole other) low one two (end-ends complete steps) (end-ends whole other) text in
-    record { phases = is; each = both.0; complete = end-one complete whole steps other both.1 }
+as-many : (m n : ℕ) (found others : List Witnessed) (complete whole : Bool) (steps other states kept : ℕ) → n ≡ m → m < 2 ^ 64 → ArePlain found → ArePlain others →
+    report_text m found complete steps states ≡ report_text n others whole other kept → TellsTheSame m n found others complete whole
+as-many m n found others complete whole steps other states kept is low one two same =
+    let text = same ∙ ap (λ k. phases_text others k ++ end_text whole other kept) is in
+    let both = phases found others m (end_text complete steps states) (end_text whole other kept) low one two (end-ends complete steps states) (end-ends whole other kept) text in
+    record { phases = is; each = both.0; complete = end-one complete whole steps other states kept both.1 }
 
 pub can-be-read-back : CanBeReadBack
-can-be-read-back m n found others complete whole steps other low below one two same = elim (cases_lt m n) [
-  | inl less ↦ absurd (fewer m n found others complete whole steps other less below one two same)
+can-be-read-back m n found others complete whole steps other states kept low below one two same = elim (cases_lt m n) [
+  | inl less ↦ absurd (fewer m n found others complete whole steps other states kept less below one two same)
   | inr most ↦ elim (cases_lt n m) [
-    | inl less ↦ absurd (fewer n m others found whole complete other steps less low two one (sym same))
-    | inr least ↦ as-many m n found others complete whole steps other (omega (arith, most, least)) low one two same
+    | inl less ↦ absurd (fewer n m others found whole complete other steps kept states less low two one (sym same))
+    | inr least ↦ as-many m n found others complete whole steps other states kept (omega (arith, most, least)) low one two same
   ]
 ]

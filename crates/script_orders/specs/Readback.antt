@@ -41,7 +41,7 @@ pub record TellsTheSame (m n : ℕ) (found others : List Witnessed) (whole entir
 -- two reports with the same text tell the same
 abbrev pub CanBeReadBack : Type 0
 CanBeReadBack =
-    (m n : ℕ) (found others : List Witnessed) (whole entire : Bool) (steps other : ℕ) →
+    (m n : ℕ) (found others : List Witnessed) (whole entire : Bool) (steps other states kept : ℕ) →
     m < 2 ^ 64 → n < 2 ^ 64 → ArePlain found → ArePlain others →
-    report_text m found whole steps ≡ report_text n others entire other →
+    report_text m found whole steps states ≡ report_text n others entire other kept →
     TellsTheSame m n found others whole entire

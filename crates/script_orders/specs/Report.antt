@@ -39,10 +39,10 @@ phases_text found zero = []
 phases_text found (suc n) = phases_text found n ++ phase_text found n
 
 -- the last line; an incomplete search took as many steps as its budget has
-abbrev pub end_text : Bool → ℕ → List ℕ
-end_text complete steps =
-    if complete then codes "every order was tried, in " ++ (decimal steps ++ (codes " steps" ++ 10 ∷ []))
-    else codes "the budget of " ++ (decimal steps ++ (codes " steps was used up: there may be more" ++ 10 ∷ []))
+abbrev pub end_text : Bool → ℕ → ℕ → List ℕ
+end_text complete steps states =
+    if complete then codes "every order was tried, in " ++ (decimal steps ++ (codes " steps, " ++ (decimal states ++ (codes " states kept" ++ 10 ∷ []))))
+    else codes "the budget of " ++ (decimal steps ++ (codes " steps was used up, " ++ (decimal states ++ (codes " states kept: there may be more" ++ 10 ∷ []))))
 
-abbrev pub report_text : ℕ → List Witnessed → Bool → ℕ → List ℕ
-report_text phases found complete steps = phases_text found phases ++ end_text complete steps
+abbrev pub report_text : ℕ → List Witnessed → Bool → ℕ → ℕ → List ℕ
+report_text phases found complete steps states = phases_text found phases ++ end_text complete steps states

@@ -1,10 +1,10 @@
 //! Trying every interleaving of the calls of a script.
-ghost use Rattle.std.specs.Prelude.{◌≡◌, ◌≤◌, ◌+◌, ℕ, List, IfOk, OnOk, None, Some, false, true};
+ghost use Rattle.std.specs.Prelude.{◌≡◌, ◌≤◌, ◌+◌, ◌*◌, ℕ, List, IfOk, OnOk, None, Some, false, true};
 ghost use Rattle.std.specs.List.{All};
 ghost use Rattle.mq_model.specs.Legality.{Legal};
 ghost use Rattle.mq_model.specs.Waits.{open_wait};
 ghost use Rattle.schedules.specs.Schedules.{after};
-ghost use Rattle.schedules.specs.Outcomes.{AreAll, AreDistinct, IsWitness};
+ghost use Rattle.schedules.specs.Outcomes.{AreAll, AreDistinct, AreFoundWithin, IsWitness};
 ghost use Rattle.schedules.specs.Work.{TakesAll};
 ghost use Rattle.script_text.specs.Script.{Whole, said_script};
 ghost use Rattle.script_orders.specs.Orders.{AreLegal, Begins, BeginsAfter, HasMade};
@@ -59,6 +59,8 @@ pub fn outcomes_of(alloc: Global, play: &mut Play, budget: u64) -> Result<Collec
         TakesAll next_stage choice_count (λ depth. 1) budget (first_stage play.old)) }
     ensures steps { IfOk result (λ c. (c.steps ≤ budget) × (c.complete ≡ false →
         c.steps ≡ budget)) }
+    ensures within { IfOk result (λ c. c.complete ≡ true → AreFoundWithin c.steps c.found.items) }
+    ensures states { IfOk result (λ c. 2 * c.states ≤ c.steps) }
     ensures in_order { IfOk result (λ c. AreInOrder c.found.items) }
     ensures legal { AreLegal (first_stage play.old) }
     ensures start { OnOk result (first_stage play.new ≡ first_stage play.old) }
@@ -68,12 +70,14 @@ pub fn outcomes_of(alloc: Global, play: &mut Play, budget: u64) -> Result<Collec
         found,
         complete,
         steps,
+        states,
     } = collect(alloc, play, budget)?;
     let found = in_phases(alloc, found)?;
     Ok(Collected {
         found,
         complete,
         steps,
+        states,
     })
 }
 

@@ -86,29 +86,33 @@ fn push_phase(
     push_entries(alloc, text, found, phase)
 }
 
-fn end_text(alloc: Global, complete: bool, steps: u64) -> Result<String, AllocError>
-    ensures { IfOk result (λ text. string_bytes text ≡ end_text complete steps) }
+fn end_text(alloc: Global, complete: bool, steps: u64, states: u64) -> Result<String, AllocError>
+    ensures { IfOk result (λ text. string_bytes text ≡ end_text complete steps states) }
 {
     if complete {
-        format!(in alloc; "every order was tried, in {steps} steps\n")
+        format!(in alloc; "every order was tried, in {steps} steps, {states} states kept\n")
     } else {
-        format!(in alloc; "the budget of {steps} steps was used up: there may be more\n")
+        format!(in alloc;
+            "the budget of {steps} steps was used up, {states} states kept: \
+             there may be more\n"
+        )
     }
 }
 
 /// The report of the outcomes of a script with this number of phases. For each phase it has the
 /// number of outcomes and the replies of each, the number of deadlocks and the calls that wait in
-/// each. At the end it says whether every interleaving was tried, and in how many steps. Outcomes
-/// and deadlocks are numbered by their positions in the list, from 1.
+/// each. At the end it says whether every interleaving was tried, in how many steps, and how many
+/// states were kept. Outcomes and deadlocks are numbered by their positions in the list, from 1.
 pub fn report_text(alloc: Global, phases: u64, collected: &Collected) -> Result<Vec<u8>, AllocError>
     ensures { IfOk result (λ text. text.items ≡
-        report_text phases collected.now.found.items collected.now.complete collected.now.steps) }
+        report_text phases collected.now.found.items collected.now.complete collected.now.steps
+        collected.now.states) }
 {
     let mut text = Vec::new(alloc);
     for phase in 0..phases {
         push_phase(alloc, &mut text, &collected.found, phase)?;
     }
-    let end = end_text(alloc, collected.complete, collected.steps)?;
+    let end = end_text(alloc, collected.complete, collected.steps, collected.states)?;
     text.extend_from_slice(end.as_bytes())?;
     Ok(text)
 }

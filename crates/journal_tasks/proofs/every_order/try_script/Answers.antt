@@ -20,7 +20,7 @@ returns-in_err-write_all-clause-output g c = λ failed.
       begins = begins;
       says = c.in_ok-play.ensures.script;
       collected = collected;
-      found = found-from c.args.trial.budget play collected begins.first ensured.witnessed ensured.distinct ensured.all ensured.used_up ensured.steps ensured.legal;
+      found = found-from c.args.trial.budget play collected begins.first ensured.witnessed ensured.distinct ensured.all ensured.used_up ensured.steps ensured.within ensured.states ensured.legal;
       written = rw text at c.in_err-write_all.ensures.failed;
     }
 
@@ -39,7 +39,7 @@ returns-clause-done g c =
       begins = begins;
       says = c.in_ok-play.ensures.script;
       collected = collected;
-      found = found-from c.args.trial.budget play collected begins.first ensured.witnessed ensured.distinct ensured.all ensured.used_up ensured.steps ensured.legal;
+      found = found-from c.args.trial.budget play collected begins.first ensured.witnessed ensured.distinct ensured.all ensured.used_up ensured.steps ensured.within ensured.states ensured.legal;
       ends = c.answer_ending.ensures;
       written = rw text at c.in_ok-write_all.ensures.whole;
     }

@@ -1,5 +1,5 @@
 use Rattle.std.proofs.lemmas.List.{nil_from_length}
-use Rattle.std.proofs.Common.{arith, ◌≡◌, ◌+◌, Some, None, IsSome, Option, inl, inr, ℕ, false, List, [], ◌∷◌, ◌++◌, ◌∙◌, ap, is_some, refl, subst, sym, true}
+use Rattle.std.proofs.Common.{arith, ◌≡◌, ◌+◌, Some, None, IsSome, Option, inl, inr, ℕ, false, List, [], ◌∷◌, ◌++◌, ◌∙◌, ap, is_some, length, length-append, refl, subst, sym, true}
 use Rattle.schedules.specs.Schedules.{IsReached, after, HasNoGoal}
 use Rattle.schedules.specs.Likeness.{HasKey}
 use Rattle.schedules.specs.Seen.{is_done}
@@ -12,6 +12,7 @@ use Rattle.schedules.proofs.Persisting.{IsReachedPersistent, Persist, suffices}
 use Rattle.schedules.proofs.Alike.{AreDone, done-fewer, done-leads, done-more}
 use Rattle.schedules.proofs.LastKey.{has-kept}
 use Rattle.schedules.proofs.Ahead.{CanBeTaken, IsLevel, Leaves, Stands, stands-back, stands-fewer, stands-first, stands-push, step-goes}
+use Rattle.schedules.proofs.Counting.{within-first, within-grown, within-same}
 use Rattle.schedules.proofs.Working.{HasSpent, spends-entered, spends-first, spends-left, spends-within}
 use Rattle.schedules.proofs.outcomes.collect.Goals as goal
 use Rattle.schedules.proofs.outcomes.collect.Goals.{in-Some+in_ok-_went-in-Some+in_ok-push-in-Some+in_ok-note-in-Some+in_ok-key-in-Some+in_ok-push-in-Some-2, in-None+in-Some-pop+in_ok-next-in-None+then-is_some+in_ok-go_back-in-None, in-None+in-Some-pop+in_ok-next-in-None+else-is_some}
@@ -69,6 +70,8 @@ loop-steps-init g c =
       distinct = c.in_ok-note.ensures.distinct;
       witnessed = (rw same at c.in_ok-note.ensures.witnessed);
       spent = λ node at_node. rw c.new-path.ensures.items (spends-first next g.M.Machine.choices (λ depth. 1) c.args.budget start node first);
+      within = within-first c.new-path.result.items c.note.new.found.items (rw c.new-path.ensures.items refl) (rw (c.deref.ensures.value, c.new-found.ensures.items) at c.in_ok-note.ensures.grows);
+      states = rw (c.new-path.ensures.items, c.new-seen.ensures.count) (omega arith);
       marks = rw c.new-marks.ensures.items (λ k d lt. let none : ⊥ = omega (arith, lt) in absurd none);
     }
 
@@ -159,6 +162,7 @@ loop-steps-preserved g c =
           let reached : IsReached next start t = (path ++ choice ∷ [], after-push next path choice start now t runs step) in
           let old_goal : is_new_goal is_goal outcome more t ≡ false = noted-is_old is_goal outcome more t w.in_ok-note-in-Some.ensures.noted in
           let less = new-fewer is_goal outcome found more w.in_ok-note-in-Some.ensures.kept in
+          let pushed : length w.push.new.self.items ≡ length path + 1 = ap (λ (xs : List ℕ). length xs) w.in_ok-push-in-Some.ensures.items ∙ length-append path (choice ∷ []) in
           let fewer = stands-fewer next is_new (is_new_goal is_goal outcome more) IsTaken IsKey less path levels start now (Some choice) stands in
           let done : AreDone next (is_new_goal is_goal outcome more) IsKey start seen =
           done-fewer next is_new (is_new_goal is_goal outcome more) IsKey start seen less c.loop-steps.invariant.done
@@ -189,12 +193,18 @@ loop-steps-preserved g c =
                 rw w.in_ok-push-in-Some.ensures.items
                 (subst (λ (x : g.row.M.Denot). HasSpent next g.M.Machine.choices each c.args.budget (c.loop-steps.steps + 1) 0 (path ++ choice ∷ []) start x w.first_at-next.result) e
                 (spends-entered next g.M.Machine.choices each c.args.budget c.loop-steps.steps 0 path choice start now t w.first_at-next.result runs step (omega arith) now_there));
+            within =
+                within-same (c.loop-steps.steps + length path + 2) (c.loop-steps.steps + 1 + length w.push.new.self.items) more (omega (arith, pushed))
+                (within-grown (c.loop-steps.steps + length path) w.push.new.self.items found more c.loop-steps.invariant.within
+                (rw w.deref-in-Some.ensures.value at w.in_ok-note-in-Some.ensures.grows) (let h = c.loop-steps.invariant.states in omega (arith, pushed, h)));
+            states = let h = c.loop-steps.invariant.states in omega (arith, pushed, h);
             marks = c.loop-steps.invariant.marks;
           }
       | in-None+in-Some-pop+in_ok-next-in-None+then-is_some+in_ok-go_back-in-None w ↦
           let stands = (rw w.in-None.is at c.loop-steps.invariant.stands) in
+          let popped : length path ≡ length w.pop.new.self.items + 1 = ap (λ (xs : List ℕ). length xs) w.in-Some-pop.ensures.items ∙ length-append w.pop.new.self.items (w.in-Some-pop._taken ∷ []) in
           let back : Leaves next is_new IsTaken IsKey w.pop.new.self.items w.in-Some-pop._taken levels start stands.node = stands-back next is_new IsTaken IsKey (enough found) path w.pop.new.self.items w.in-Some-pop._taken levels start now stands w.in-Some-pop.ensures.items in
-          let last = w.in_ok-next-in-None.ensures back.others back.level back.are in
+          let last = w.in_ok-next-in-None.ensures.left back.others back.level back.are in
           let runs : after next w.pop.new.self.items start ≡ Some w.go_back.new.machine = (rw (w.deref-then-is_some.ensures.value, c.loop-steps.invariant.start) at w.in_ok-go_back-in-None.ensures.runs) in
           rw (w.path-is, w.levels-is, w.marks-is, w.machine-is, w.found-is, w.seen-is, w.next-is)
           record {
@@ -211,12 +221,15 @@ loop-steps-preserved g c =
                 (spends-left next g.M.Machine.choices each g.met.M.Machine.no_others c.args.budget c.loop-steps.steps 0 0 0 path w.pop.new.self.items w.in-Some-pop._taken start stands.node node None back.level.other
                 w.in-Some-pop.ensures.items stands.runs at_node (omega arith) (omega arith) (omega arith) back.later
                 (rw w.in-None.is at c.loop-steps.invariant.spent stands.node stands.runs));
+            within = within-same (c.loop-steps.steps + length path) (c.loop-steps.steps + 1 + length w.pop.new.self.items) found (omega (arith, popped)) c.loop-steps.invariant.within;
+            states = let h = c.loop-steps.invariant.states in let k = w.in_ok-next-in-None.ensures.count in omega (arith, popped, h, k);
             marks = (rw c.loop-steps.invariant.start at w.in_ok-go_back-in-None.ensures.marks);
           }
       | in-None+in-Some-pop+in_ok-next-in-None+else-is_some w ↦
           let stands = (rw w.in-None.is at c.loop-steps.invariant.stands) in
+          let popped : length path ≡ length w.pop.new.self.items + 1 = ap (λ (xs : List ℕ). length xs) w.in-Some-pop.ensures.items ∙ length-append w.pop.new.self.items (w.in-Some-pop._taken ∷ []) in
           let back : Leaves next is_new IsTaken IsKey w.pop.new.self.items w.in-Some-pop._taken levels start stands.node = stands-back next is_new IsTaken IsKey (enough found) path w.pop.new.self.items w.in-Some-pop._taken levels start now stands w.in-Some-pop.ensures.items in
-          let last = w.in_ok-next-in-None.ensures back.others back.level back.are in
+          let last = w.in_ok-next-in-None.ensures.left back.others back.level back.are in
           let none : is_some back.level.other ≡ false = rw (← last.0) cc in
           let machine : IsSome back.level.other → after next w.pop.new.self.items start ≡ Some now = λ some. let k : true ≡ false = sym some ∙ none in cc in
           rw (w.path-is, w.levels-is, w.marks-is, w.machine-is, w.found-is, w.seen-is, w.next-is)
@@ -234,6 +247,8 @@ loop-steps-preserved g c =
                 (spends-left next g.M.Machine.choices each g.met.M.Machine.no_others c.args.budget c.loop-steps.steps 0 0 0 path w.pop.new.self.items w.in-Some-pop._taken start stands.node node None back.level.other
                 w.in-Some-pop.ensures.items stands.runs at_node (omega arith) (omega arith) (omega arith) back.later
                 (rw w.in-None.is at c.loop-steps.invariant.spent stands.node stands.runs));
+            within = within-same (c.loop-steps.steps + length path) (c.loop-steps.steps + 1 + length w.pop.new.self.items) found (omega (arith, popped)) c.loop-steps.invariant.within;
+            states = let h = c.loop-steps.invariant.states in let k = w.in_ok-next-in-None.ensures.count in omega (arith, popped, h, k);
             marks = c.loop-steps.invariant.marks;
           }
     ]

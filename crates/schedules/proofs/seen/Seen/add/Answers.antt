@@ -4,7 +4,7 @@ use Rattle.std.specs.Bool.{MatchBool}
 use Rattle.std.specs.Str.{bytes_eq}
 use Rattle.std.specs.List.{list_any, sum_by}
 use Rattle.std.specs.List.Sorted.{IsPermutation}
-use Rattle.std.proofs.lemmas.List.Sorted.{list_any-IsPermutation, sum_by_pushed}
+use Rattle.std.proofs.lemmas.List.Sorted.{length_permutation, list_any-IsPermutation, sum_by_pushed}
 use Rattle.schedules.proofs.seen.Seen.add.Goals as goal
 
 either : (a b : Bool) → b ≡ true → (a || b) ≡ true
@@ -37,10 +37,16 @@ puts : {K : Type 0} (test : K → Bool) (old new : List K) (key : K) (added : Bo
 puts test old new key true is put = sym (list_any-IsPermutation test (key ∷ old) new put)
 puts test old new key false is put = absurd (cc)
 
+-- and then there is one key more
+counts-one : {K : Type 0} (old new : List K) (key : K) (added : Bool) → added ≡ true → MatchBool added (IsPermutation (key ∷ old) new) (new ≡ old) → length new ≡ length old + 1
+counts-one old new key true is put = let e = length_permutation (key ∷ old) new put in omega (arith, e)
+counts-one old new key false is put = absurd (cc)
+
 pub returns-then-branch-clause-added : goal.returns-then-branch-clause-added
 returns-then-branch-clause-added c none fits =
     let is : c.in_ok-insert.field-0 ≡ true = c.in_ok-insert.ensures.added ∙ ap not none in
     record {
       noted = λ other. puts (λ k. bytes_eq other k.items) c.args.self.now.keys.keys c.insert.new.self.keys c.args.key c.in_ok-insert.field-0 is c.in_ok-insert.ensures.keys;
       room = omega (arith, fits, c.len-numbers.ensures, c.if-numbers-self.false);
+      count = counts-one c.args.self.now.keys.keys c.insert.new.self.keys c.args.key c.in_ok-insert.field-0 is c.in_ok-insert.ensures.keys;
     }
