@@ -5,7 +5,6 @@ use mq_core::entries::{Call, Entry, Reply};
 use mq_core::faults::Fault;
 use mq_core::journals::Journal;
 use mq_core::laws;
-use std::process::Abort;
 use std::test::Fail;
 
 const CLOSE: Entry = Entry {

@@ -9,7 +9,6 @@ use std::io::Print;
 use std::process::Abort;
 use std::sync::Wait;
 
-mod looks;
 mod threads;
 mod walks;
 

@@ -1,7 +1,5 @@
 //! Queues that continue from a journal: in place of those that made it, and from a short journal in
 //! its place. They do not continue from a journal that does not fit.
-ghost use Rattle.std.specs.Prelude.{◌≤◌};
-
 use super::Ask::{Close, Entries, Open, Receive, Send, Waiting};
 use super::Outcome::{Count, Replied, Room};
 use super::replays::CALLS;
@@ -13,11 +11,11 @@ use crate::fingerprint::fingerprint;
 use crate::refusals::{refuse_all, say_refused};
 use crate::same::same;
 use mq_model::bounds::Bounds;
-use mq_model::entries::{Call, Entry, Reply};
+use mq_model::entries::Reply;
 use mq_model::faults::Fault;
 use mq_model::journals::Journal;
 use mq_state::books::{Books, Refused};
-use mq_state::replay::{Cause, Departure, Misfit};
+use mq_state::replay::Misfit;
 use mq_state::rewriting::Unwritten;
 use std::alloc::Global;
 use std::io::Print;
@@ -97,44 +95,22 @@ fn waits_and_notices_go_on_from_every_journal(rt: HostRuntime) {
     expect_resumed(&rt, rt.alloc(), None, &ADMITTED);
 }
 
-static BY_PROCESS_5: [Step; 1] = [(5, Open(b"/q", CREATE, ONE), CREATED)];
-
-// The journal from which queues of n processes cannot continue within bounds, and why. It is
+// The journal from which queues of five processes cannot continue within bounds, and why. It is
 // unchanged.
 fn refused<A: Abort + Print>(
     rt: &A,
     alloc: Global,
-    n: u32,
     bounds: Option<Bounds>,
     journal: Journal,
-) -> Option<Refused>
-    requires { (1 ≤ n) × (n ≤ 32) }
-{
+) -> Option<Refused> {
     let before = fingerprint(&journal);
-    let mut refused = Books::resume_within(alloc, n, bounds, journal).err()?;
+    let mut refused = Books::resume_within(alloc, 5, bounds, journal).err()?;
     if refused.why == Misfit::NoMemory {
         say_refused(rt, "a resumption");
-        refused = Books::resume_within(alloc, n, bounds, refused.journal).err()?;
+        refused = Books::resume_within(alloc, 5, bounds, refused.journal).err()?;
     }
     same(rt, fingerprint(&refused.journal), before, "the journal");
     Some(refused)
-}
-
-// Why queues of n processes cannot continue from a journal.
-fn misfit<A: Abort + Print>(rt: &A, alloc: Global, n: u32, journal: Journal) -> Option<Misfit>
-    requires { (1 ≤ n) × (n ≤ 32) }
-{
-    Some(refused(rt, alloc, n, None, journal)?.why)
-}
-
-#[test]
-fn a_journal_of_more_processes_comes_back(rt: HostRuntime) {
-    let mut trial = make_trial(&rt, rt.alloc());
-    expect_steps(&rt, &mut trial, &BY_PROCESS_5);
-    if trial.books.is_stored() {
-        let why = misfit(&rt, rt.alloc(), 4, trial.books.into_journal());
-        same(&rt, why, Some(Misfit::Foreign(0)), "of process 5");
-    }
 }
 
 // It has two entries, two bytes, and an open wait, whose end has room.
@@ -159,7 +135,7 @@ fn a_journal_that_is_too_long_comes_back(rt: HostRuntime) {
     let mut journal = trial.books.into_journal();
     for (entries, bytes) in [(2, 2), (3, 1)] {
         let bounds = Some(Bounds { entries, bytes });
-        let refused = refused(&rt, rt.alloc(), 5, bounds, journal).expect(&rt, "a refusal");
+        let refused = refused(&rt, rt.alloc(), bounds, journal).expect(&rt, "a refusal");
         same(&rt, refused.why, Misfit::TooLong, "the bounds");
         journal = refused.journal;
     }
@@ -170,33 +146,6 @@ fn a_journal_that_is_too_long_comes_back(rt: HostRuntime) {
     let mut trial = resume_within(&rt, rt.alloc(), least, journal);
     refuse_all(&rt, rt.alloc());
     expect_steps(&rt, &mut trial, &IS_FULL);
-}
-
-#[test]
-fn a_journal_that_is_not_legal_comes_back(rt: HostRuntime) {
-    let mut journal = Journal::new(rt.alloc());
-    if journal.reserve(1, 0).is_err() {
-        say_refused(&rt, "a journal");
-        journal.reserve(1, 0).expect(&rt, "memory");
-    }
-    let entry = Entry {
-        process: 1,
-        call: Call::MqClose { d: 0 },
-        reply: Reply::Done,
-    };
-    journal.push(entry, &[]);
-    let refusal = Reply::Refused(Fault::BadDescriptor);
-    let departure = Departure {
-        place: 0,
-        cause: Cause::Reply(refusal),
-    };
-    let why = misfit(&rt, rt.alloc(), 1, journal);
-    same(
-        &rt,
-        why,
-        Some(Misfit::Illegal(departure)),
-        "a close of nothing",
-    );
 }
 
 // The queues that continue from a short journal, which must have this number of entries.

@@ -5,7 +5,6 @@ use mq::Monotonic;
 use mq_model::clock::Clock as Moments;
 use mq_model::entries::{Deadline, Reply};
 use mq_model::faults::Fault;
-use std::process::Abort;
 use std::sync::atomic::{AtomicBool, Ordering};
 
 /// The first time of the clock of the test.
