@@ -3,7 +3,7 @@ ghost use Rattle.std.specs.Prelude.{◌≡◌, ◌≤◌, ℕ, List, [], ◌∷�
 ghost use Rattle.fast_mutex.specs.Items.{Grows, tickets_from};
 
 use crate::refusals::{refuse_all, say_refused};
-use fast_mutex::{Enter, FastMutex, Lock, Logged, Missing, Path, WordLock};
+use fast_mutex::{Enter, FastMutex, Lock, Logged, Path, WordLock};
 use std::alloc::{AllocError, Global};
 use std::io::Print;
 use std::process::Abort;
@@ -61,13 +61,8 @@ fn no_notes<R: Print>(rt: &R, alloc: Global, title: u32, room: usize) -> Result<
     Ok(Notes { title, items })
 }
 
-/// What a process saw in one critical section.
-#[derive(Clone, Copy, Debug, PartialEq, Eq)]
-struct Stay {
-    latest: Option<(u32, u32)>,
-    path: Path,
-    steps: u64,
-}
+/// What a process saw in one critical section: the latest note, its path and its steps.
+type Stay = (Option<(u32, u32)>, Path, u64);
 
 /// One critical section, which adds a note.
 fn add<L: Lock<Notes>, R: Wait>(
@@ -86,27 +81,12 @@ fn add<L: Lock<Notes>, R: Wait>(
 {
     let number = L::number(&seat);
     let (inside, mut notes) = lock.enter(rt, seat);
-    let stay = Stay {
-        latest: notes.items.last().copied(),
-        path: L::path(&inside),
-        steps: L::steps(&inside),
-    };
+    let latest = notes.items.last().copied();
+    let stay = (latest, L::path(&inside), L::steps(&inside));
     match notes.items.push((number, value)) {
         Ok(()) => (lock.leave(inside, notes), Ok(stay)),
         Err(_) => (lock.leave(inside, notes), Err(AllocError)),
     }
-}
-
-/// One critical section, which adds nothing and returns the latest note found.
-fn look<L: Lock<Notes>, R: Wait>(rt: &R, lock: &L, seat: L::Seat) -> (L::Seat, Option<(u32, u32)>)
-    requires { (L.ticket seat).lock ≡ L.id lock.now }
-    ensures seat { (L.ticket result.0).lock ≡ L.id lock.now }
-    ensures nothing { Grows (λ x. x.0) (L.ticket seat).number (L.ticket seat).left
-        (L.ticket result.0).left [] }
-{
-    let (inside, notes) = lock.enter(rt, seat);
-    let latest = notes.items.last().copied();
-    (lock.leave(inside, notes), latest)
 }
 
 /// A lock for n processes. One allocation may be made to fail from outside. Then the state comes
@@ -133,108 +113,8 @@ fn lock_for<L: Lock<Notes>, R: Print>(
     }
 }
 
-// One critical section, which adds a note and must see this.
-fn expect_stay<L: Lock<Notes>, R: Wait + Abort>(
-    rt: &R,
-    lock: &L,
-    seat: L::Seat,
-    value: u32,
-    wanted: Stay,
-) -> L::Seat
-    requires { (L.ticket seat).lock ≡ L.id lock.now }
-    ensures { (L.ticket result).lock ≡ L.id lock.now }
-{
-    let (seat, stay) = add(rt, lock, seat, value);
-    assert_eq!(rt; stay.expect(rt, "room for a note"), wanted);
-    seat
-}
-
-// Process 1 adds 10, and process 2 adds 20, each by this path and in this number of steps. Returns
-// their seats, that of process 1 first.
-fn expect_two_stays<L: Lock<Notes>, R: Wait + Abort>(
-    rt: &R,
-    lock: &L,
-    seats: &mut Vec<L::Seat>,
-    path: Path,
-    steps: u64,
-) -> (L::Seat, L::Seat)
-    requires { map L.ticket seats.old.items ≡ tickets_from (L.id lock.now) 1 2 }
-    ensures taken { seats.new.items ≡ [] }
-    ensures one { (L.ticket result.0).lock ≡ L.id lock.now }
-    ensures two { (L.ticket result.1).lock ≡ L.id lock.now }
-{
-    let two = seats.pop().expect(rt, "two seats");
-    let one = seats.pop().expect(rt, "two seats");
-    let latest = None;
-    let one = expect_stay(
-        rt,
-        lock,
-        one,
-        10,
-        Stay {
-            latest,
-            path,
-            steps,
-        },
-    );
-    let latest = Some((1, 10));
-    let two = expect_stay(
-        rt,
-        lock,
-        two,
-        20,
-        Stay {
-            latest,
-            path,
-            steps,
-        },
-    );
-    (one, two)
-}
-
-// With both seats, `finish` returns the notes of both processes.
-fn expect_notes<L: Lock<Notes>, R: Abort>(
-    rt: &R,
-    lock: L,
-    mut seats: Vec<L::Seat>,
-    one: L::Seat,
-    two: L::Seat,
-)
-    requires taken { seats.items ≡ [] }
-    requires one { (L.ticket one).lock ≡ L.id lock }
-    requires two { (L.ticket two).lock ≡ L.id lock }
-{
-    seats.push(one).ok().expect(rt, "room for two seats");
-    seats.push(two).ok().expect(rt, "room for two seats");
-    let notes = lock.finish(seats).ok().expect(rt, "all seats");
-    assert_eq!(rt; notes.title, 7);
-    assert_eq!(rt; notes.items.as_slice(), [(1, 10), (2, 20)].as_slice());
-}
-
-// Without the seat of process 2, `finish` returns everything. Process 1 reads once more, and then
-// both seats are given.
-fn expect_end<L: Lock<Notes>, R: Wait + Abort>(
-    rt: &R,
-    lock: L,
-    mut seats: Vec<L::Seat>,
-    one: L::Seat,
-    two: L::Seat,
-)
-    requires taken { seats.items ≡ [] }
-    requires one { (L.ticket one).lock ≡ L.id lock }
-    requires two { (L.ticket two).lock ≡ L.id lock }
-{
-    seats.push(one).ok().expect(rt, "room for two seats");
-    let Err(Missing { whole, mut parts }) = lock.finish(seats) else {
-        panic!(rt; "a seat is missing")
-    };
-    let one = parts.pop().expect(rt, "one seat");
-    let (one, latest) = look(rt, &whole, one);
-    assert_eq!(rt; latest, Some((2, 20)));
-    expect_notes(rt, whole, parts, one, two);
-}
-
-// Two processes take turns, each by this path and in this number of steps.
+// Process 1 adds 10, and process 2 adds 20, each by this path and in this number of steps. With
+// both seats, `finish` returns the notes of both.
 fn expect_turns<L: Lock<Notes>, R: Wait + Print + Abort>(
     rt: &R,
     alloc: Global,
@@ -244,8 +124,20 @@ fn expect_turns<L: Lock<Notes>, R: Wait + Print + Abort>(
     let notes = no_notes(rt, alloc, 7, 2).expect(rt, "memory");
     let (lock, mut seats) = lock_for::<L, R>(rt, alloc, 2, notes).expect(rt, "memory");
     refuse_all(rt, alloc);
-    let (one, two) = expect_two_stays(rt, &lock, &mut seats, path, steps);
-    expect_end(rt, lock, seats, one, two);
+    let two = seats.pop().expect(rt, "two seats");
+    let one = seats.pop().expect(rt, "two seats");
+    let (one, first) = add(rt, &lock, one, 10);
+    let (two, second) = add(rt, &lock, two, 20);
+    assert!(rt; first == Ok((None, path, steps)), "the first note");
+    assert!(rt;
+        second == Ok((Some((1, 10)), path, steps)),
+        "the second note"
+    );
+    seats.push(one).ok().expect(rt, "room for two seats");
+    seats.push(two).ok().expect(rt, "room for two seats");
+    let notes = lock.finish(seats).ok().expect(rt, "all seats");
+    assert_eq!(rt; notes.title, 7);
+    assert_eq!(rt; notes.items.as_slice(), [(1, 10), (2, 20)].as_slice());
 }
 
 #[test]

@@ -80,7 +80,7 @@ fn expect_row<A: Abort + Print>(
     is_last: bool,
 ) -> Result<(), AllocError> {
     let (schedule, wanted, words) = row;
-    let n = (wanted.len() as u32).clamp(1, 3);
+    let n = (wanted.len().min(3) as u32).max(1);
     let mut world = start(rt, alloc, n)?;
     if is_last {
         refuse_all(rt, alloc);

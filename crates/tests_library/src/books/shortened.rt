@@ -122,24 +122,27 @@ fn shortened<A: Abort + Print>(rt: &A, alloc: Global, trial: &Trial) -> Option<T
     Some(resume(rt, alloc, journal))
 }
 
-// The same calls on both have outcomes that differ only in sequence numbers, and leave equal
+// What a process asks of both has outcomes that differ only in sequence numbers, and leaves equal
 // buffers.
-fn expect_alike<A: Abort + Print>(rt: &A, seed: &mut u64, one: &mut Trial, other: &mut Trial) {
+fn is_alike(one: &mut Trial, other: &mut Trial, p: u32, ask: Ask) -> bool {
     let (mut buf, mut copy) = ([0; 8], [0; 8]);
+    let found = outline(outcome_of(other, p, ask, &mut copy));
+    found == outline(outcome_of(one, p, ask, &mut buf)) && copy == buf
+}
+
+// The same calls are alike, and leave the same waits and descriptors.
+fn expect_alike<A: Abort>(rt: &A, seed: &mut u64, one: &mut Trial, other: &mut Trial) {
     for number in 0..AFTER {
         let (p, ask) = drawn(seed);
-        let found = outline(outcome_of(other, p, ask, &mut copy));
-        let wanted = outline(outcome_of(one, p, ask, &mut buf));
-        assert_eq!(rt; found, wanted, "call {number}");
-        assert_eq!(rt; copy, buf, "the buffer after call {number}");
+        assert!(rt; is_alike(one, other, p, ask), "call {number}");
         for q in 1..=5 {
-            let found = outcome_of(other, q, Waiting, &mut copy);
-            assert_eq!(rt; found, outcome_of(one, q, Waiting, &mut buf), "who waits");
-            let found = outcome_of(other, q, LowestOpen, &mut copy);
-            assert_eq!(rt;
-                found,
-                outcome_of(one, q, LowestOpen, &mut buf),
-                "descriptors"
+            assert!(rt;
+                is_alike(one, other, q, Waiting),
+                "waits after call {number}"
+            );
+            assert!(rt;
+                is_alike(one, other, q, LowestOpen),
+                "numbers after call {number}"
             );
         }
     }
