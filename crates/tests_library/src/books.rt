@@ -5,9 +5,7 @@
 ghost use Rattle.std.specs.Prelude.{◌≡◌, ◌≤◌, IsTrue, None};
 ghost use Rattle.mq_model.specs.Waits.{open_wait};
 
-use crate::fingerprint::fingerprint;
 use crate::refusals::say_refused;
-use crate::same::same;
 use mq_model::entries::{Access, Attr, Deadline, OpenFlags, Received, Reply, Status};
 use mq_model::faults::Fault;
 use mq_model::names::Name;
@@ -57,7 +55,7 @@ enum Ask<'a> {
 }
 
 // The outcome.
-#[derive(Clone, Copy, Debug, PartialEq, Eq)]
+#[derive(Clone, Copy, PartialEq, Eq)]
 enum Outcome {
     Replied(Reply),
     Came(Option<Collected>),
@@ -193,17 +191,8 @@ fn outcome_of(trial: &mut Trial, p: u32, ask: Ask, buf: &mut [u8]) -> Outcome {
     }
 }
 
-// A number for the journal, or its length if it is not stored.
-fn state_of(books: &Books) -> u64 {
-    if books.is_stored() {
-        fingerprint(books.journal())
-    } else {
-        books.journal_len()
-    }
-}
-
-// The outcome. If memory was refused, the journal and the buffer are unchanged, and the same is
-// asked again.
+// The outcome. If memory was refused, the buffer and the length of the journal are unchanged, and
+// the same is asked again.
 fn asked<A: Abort + Print>(
     rt: &A,
     trial: &mut Trial,
@@ -211,12 +200,12 @@ fn asked<A: Abort + Print>(
     ask: Ask,
     buf: &mut [u8; 8],
 ) -> Outcome {
-    let before = (state_of(&trial.books), *buf);
+    let before = (trial.books.journal_len(), *buf);
     let outcome = outcome_of(trial, p, ask, buf);
     if outcome != REFUSED_MEMORY {
         return outcome;
     }
-    assert_eq!(rt; (state_of(&trial.books), *buf), before);
+    assert!(rt; (trial.books.journal_len(), *buf) == before);
     say_refused(rt, "a call");
     outcome_of(trial, p, ask, buf)
 }
@@ -226,7 +215,8 @@ fn expect_steps<A: Abort + Print>(rt: &A, trial: &mut Trial, steps: &[Step]) {
     let mut buf = [0; 8];
     for (number, step) in steps.iter().enumerate() {
         let (p, ask, wanted) = *step;
-        assert_eq!(rt; asked(rt, trial, p, ask, &mut buf), wanted, "step {number}");
+        let found = asked(rt, trial, p, ask, &mut buf);
+        assert!(rt; found == wanted, "step {number}");
     }
 }
 
@@ -270,7 +260,7 @@ fn expect_outlines<A: Abort + Print>(rt: &A, trial: &mut Trial, steps: &[Step]) 
     for (number, step) in steps.iter().enumerate() {
         let (p, ask, wanted) = *step;
         let found = outline(asked(rt, trial, p, ask, &mut buf));
-        assert_eq!(rt; found, wanted, "step {number}");
+        assert!(rt; found == wanted, "step {number}");
     }
 }
 
@@ -319,7 +309,8 @@ const OPENED: Outcome = Replied(Reply::Opened {
 
 const QUEUED: Outcome = Replied(Reply::Queued { notified: None });
 
-// A receive that neither admits a waiting send nor gives a notice, without the place of its message.
+// A receive that neither admits a waiting send nor gives a notice, without the place of its
+// message.
 const GOT: Outcome = Replied(Reply::Got {
     place: 0,
     admitted: None,
@@ -506,7 +497,7 @@ fn at_most_64_queues_exist_and_an_open_one_exists_without_its_name(rt: HostRunti
             let ask = Open(&name, CREATE, ONE);
             let outcome = asked(&rt, &mut trial, p, ask, &mut [0; 8]);
             let wanted = Replied(Reply::Opened { d, created: true });
-            same(&rt, outcome, wanted, "an open");
+            assert!(rt; outcome == wanted, "descriptor {d}");
         }
     }
     expect_steps(&rt, &mut trial, &FULL);

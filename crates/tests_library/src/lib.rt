@@ -7,8 +7,6 @@
 #[cfg(test)]
 mod books;
 #[cfg(test)]
-mod fingerprint;
-#[cfg(test)]
 mod laws;
 #[cfg(test)]
 mod locks;

@@ -44,8 +44,8 @@ fn opened_and_exited<L: Look<Guarded>, R: Wait + Clock + Abort + Print>(
     finish(rt, room(rt, alloc), mq, one, two)
 }
 
-// Each descriptor was closed once, the lowest first. An exit that is refused memory closes the lower
-// ones, and the next exit the others.
+// Each descriptor was closed once, the lowest first. An exit that is refused memory closes the
+// lower ones, and the next exit the others.
 fn expect_closes<A: Abort>(rt: &A, journal: &Journal, count: u32) {
     let mut d = 0u32;
     for place in 0..journal.len() {
