@@ -110,6 +110,7 @@ static void fork_beside_threads(void)
 }
 
 static pid_t of_handler = -1;
+static int ended_wait[2]; /* a pipe: the parent writes when its wait has ended */
 
 static void fork_in_handler(int number)
 {
@@ -117,11 +118,13 @@ static void fork_in_handler(int number)
     of_handler = fork();
 }
 
-/* The wait is interrupted in both processes. */
+/* The wait is interrupted in both processes. The child begins when that of the parent has ended,
+ * which else might get the child's message. */
 static void fork_from_a_wait(void)
 {
     struct sigaction action;
     char buf[8];
+    WANT(pipe(ended_wait) == 0);
     memset(&action, 0, sizeof action);
     action.sa_handler = fork_in_handler;
     sigaction(SIGALRM, &action, 0);
@@ -129,10 +132,15 @@ static void fork_from_a_wait(void)
     WANT(mq_receive(queue, buf, sizeof buf, 0) == -1 && errno == EINTR);
     if (of_handler == 0) {
         alarm(0);
+        close(ended_wait[1]);
+        WANT(read(ended_wait[0], buf, 1) == 1);
         child();
         _exit(0);
     }
+    WANT(write(ended_wait[1], "", 1) == 1);
     await(of_handler);
+    close(ended_wait[0]);
+    close(ended_wait[1]);
 }
 
 int main(int count, char **words)
