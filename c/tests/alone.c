@@ -233,14 +233,25 @@ static void deadlines(void)
 /* ---- signals and cancellations ---- */
 
 static mqd_t of_handler;
+static atomic_bool has_called;
+
+/* Its calls fail if it interrupts a part of the receive that does not wait. */
+static void call_in_handler(void)
+{
+    char buf[8];
+    if (mq_send(of_handler, "x", 1, 0) != 0) {
+        WANT(errno == EDEADLK);
+        return;
+    }
+    WANT(mq_receive(of_handler, buf, sizeof buf, 0) == 1);
+    atomic_store(&has_called, true);
+}
 
 static void come(int number)
 {
     const int error = errno;
-    char buf[8];
     if (number == SIGUSR2)
-        WANT(mq_send(of_handler, "x", 1, 0) == 0 &&
-             mq_receive(of_handler, buf, sizeof buf, 0) == 1);
+        call_in_handler();
     errno = error;
 }
 
@@ -274,6 +285,7 @@ static void signals(void)
         send_to(queue, "b", 0);
         WANT(got(&it, "b", 0));
     }
+    WANT(atomic_load(&has_called));
     WANT(mq_close(of_handler) == 0 && mq_unlink("/yak-alone-handler") == 0);
 }
 
