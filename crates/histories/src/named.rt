@@ -13,35 +13,6 @@ use mq_model::entries::Call;
 /// returned it gave the queue's name.
 pub type Marks = [bool; 16];
 
-/// The descriptor that a call names.
-pub fn descriptor_of(call: Call) -> Option<u32>
-    ensures { result ≡ descriptor_of call }
-{
-    match call {
-        Call::MqClose { d } => Some(d),
-        Call::MqSend { d, .. } => Some(d),
-        Call::MqReceive { d, .. } => Some(d),
-        Call::MqTimedSend { d, .. } => Some(d),
-        Call::MqTimedReceive { d, .. } => Some(d),
-        Call::MqGetattr { d } => Some(d),
-        Call::MqSetattr { d, .. } => Some(d),
-        Call::MqNotify { d, .. } => Some(d),
-        _ => None,
-    }
-}
-
-pub fn is_open(call: Call) -> bool
-    ensures { result ≡ is_open call }
-{
-    matches!(call, Call::MqOpen { .. })
-}
-
-pub fn is_unlink(call: Call) -> bool
-    ensures { result ≡ is_unlink call }
-{
-    matches!(call, Call::MqUnlink)
-}
-
 /// Whether a descriptor is marked.
 pub fn is_marked(marks: &Marks, d: Option<u32>) -> bool
     ensures { result ≡ is_marked marks.now d }
@@ -77,7 +48,7 @@ pub fn marks_after(name: &[u8], marks: Marks, operation: &Operation) -> Marks
 pub fn has_unlinked(name: &[u8], operation: &Operation) -> bool
     ensures { result ≡ has_unlinked name.now operation.now }
 {
-    is_unlink(operation.call)
+    operation.call.is_unlink()
         && !has_failed(&operation.outcome)
         && operation.given.as_slice() == name
 }
@@ -88,7 +59,7 @@ fn unbinds(time: u64, name: &[u8], operation: &Operation) -> bool
 {
     operation.begin <= time
         && (has_unlinked(name, operation)
-            || is_open(operation.call) && is_pending(&operation.outcome))
+            || operation.call.is_open() && is_pending(&operation.outcome))
 }
 
 fn one_unbinds(time: u64, name: &[u8], operations: &[Operation]) -> bool

@@ -6,7 +6,7 @@ ghost use Rattle.histories.specs.Named.{calls_on, has_any, has_returned_on};
 ghost use Rattle.histories.specs.NotFull.{IsNotFull, asks_less, creates_less, enters_by, finds_full, found_full, is_got, may_enter, says_full, takes_out, times_entered, times_taken};
 
 use crate::excess::returned_by;
-use crate::named::{Marks, descriptor_of, is_marked, marks_after, was_unbound};
+use crate::named::{Marks, is_marked, marks_after, was_unbound};
 use crate::operation::{Operation, Outcome, has_failed};
 use crate::queues::{Queue, queues_of};
 use mq_model::entries::Call;
@@ -122,7 +122,7 @@ fn one_full(found: &NotFull, operations: &[Operation]) -> bool
     let mut full = false;
     let mut marks: Marks = [false; 16];
     for operation in operations {
-        let is_on = is_marked(&marks, descriptor_of(operation.call));
+        let is_on = is_marked(&marks, operation.call.descriptor());
         full = full || (is_on && finds_full(found.from, found.prio, &found.message, operation));
         marks = marks_after(&found.name, marks, operation);
     }
@@ -169,7 +169,7 @@ fn entering(time: u64, name: &[u8], operations: &[Operation]) -> u64
     let mut count: u64 = 0;
     let mut marks: Marks = [false; 16];
     for operation in operations {
-        if is_marked(&marks, descriptor_of(operation.call)) && enters_by(time, operation) {
+        if is_marked(&marks, operation.call.descriptor()) && enters_by(time, operation) {
             count += 1;
         }
         marks = marks_after(name, marks, operation);
@@ -183,7 +183,7 @@ fn taken_out(name: &[u8], operations: &[Operation]) -> u64
     let mut count: u64 = 0;
     let mut marks: Marks = [false; 16];
     for operation in operations {
-        if is_marked(&marks, descriptor_of(operation.call)) && is_got(&operation.outcome) {
+        if is_marked(&marks, operation.call.descriptor()) && is_got(&operation.outcome) {
             count += 1;
         }
         marks = marks_after(name, marks, operation);

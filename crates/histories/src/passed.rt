@@ -6,7 +6,7 @@ ghost use Rattle.histories.specs.Named.{calls_on, has_any_on, has_returned_on};
 ghost use Rattle.histories.specs.Passed.{IsPassed, got_other, has_sent, is_done, is_part, may_receive, passes, passes_over, says_empty, sends_other};
 
 use crate::excess::{has_got, is_pending, may_have_sent, returned_by, sends_by};
-use crate::named::{Marks, descriptor_of, is_marked, marks_after, was_unbound};
+use crate::named::{Marks, is_marked, marks_after, was_unbound};
 use crate::operation::{Operation, Outcome};
 use crate::queues::{Queue, queues_of};
 use mq_model::faults::Fault;
@@ -132,7 +132,7 @@ fn one_on(part: Part, passed: &Passed, operations: &[Operation]) -> bool
     let mut found = false;
     let mut marks: Marks = [false; 16];
     for operation in operations {
-        let is_on = is_marked(&marks, descriptor_of(operation.call));
+        let is_on = is_marked(&marks, operation.call.descriptor());
         found = found || (is_on && is_part(part, passed, operation));
         marks = marks_after(&passed.name, marks, operation);
     }

@@ -1,6 +1,6 @@
 //! The calls of a history by the queues on which they were made, for guesses that are checked.
 use crate::excess::is_pending;
-use crate::named::{descriptor_of, has_unlinked, is_open};
+use crate::named::has_unlinked;
 use crate::operation::{Operation, Outcome};
 use std::alloc::{AllocError, Global};
 
@@ -20,7 +20,7 @@ fn names_of(alloc: Global, histories: &Vec<Vec<Operation>>) -> Result<Vec<&[u8]>
     let mut names: Vec<&[u8]> = Vec::new(alloc);
     for operations in histories {
         for operation in operations {
-            if is_open(operation.call) {
+            if operation.call.is_open() {
                 names.push(operation.given.as_slice())?;
             }
         }
@@ -35,7 +35,7 @@ fn opened_until(histories: &Vec<Vec<Operation>>) -> u64 {
     let mut until = u64::MAX;
     for operations in histories {
         for operation in operations {
-            if is_open(operation.call) && is_pending(&operation.outcome) {
+            if operation.call.is_open() && is_pending(&operation.outcome) {
                 until = until.min(operation.begin);
             }
         }
@@ -60,14 +60,14 @@ pub fn queues_of(alloc: Global, histories: &Vec<Vec<Operation>>) -> Result<Vec<Q
         // the queue of each descriptor
         let mut of: [Option<usize>; 16] = [None; 16];
         for operation in operations {
-            if let Some(d) = descriptor_of(operation.call)
+            if let Some(d) = operation.call.descriptor()
                 && d < 16
                 && let Some(queue) = of[d as usize]
                 && queue < queues.len()
             {
                 queues[queue].operations.push(operation)?;
             }
-            if is_open(operation.call)
+            if operation.call.is_open()
                 && let Ok(queue) = names.binary_search(&operation.given.as_slice())
                 && queue < queues.len()
             {

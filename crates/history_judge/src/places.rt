@@ -1,5 +1,4 @@
 //! Numbers for the queues of a history, as far as its calls distinguish them.
-use histories::named::{descriptor_of, is_open, is_unlink};
 use histories::operation::{Operation, Outcome};
 use mq_model::entries::Call;
 use mq_model::limits::DESCRIPTORS;
@@ -64,7 +63,7 @@ impl<'h> Names<'h> {
             let queue = if is_named(operation.call) {
                 self.queue_at(&operation.given, operation.begin)
             } else {
-                held_at(&held, descriptor_of(operation.call), none)
+                held_at(&held, operation.call.descriptor(), none)
             };
             if let Outcome::Opened(d) = operation.outcome
                 && d < DESCRIPTORS as u32
@@ -86,11 +85,11 @@ fn place_of(names: &[&[u8]], name: &[u8]) -> usize {
 }
 
 fn is_named(call: Call) -> bool {
-    is_open(call) || is_unlink(call)
+    call.is_open() || call.is_unlink()
 }
 
 fn is_unlink_done(operation: &Operation) -> bool {
-    is_unlink(operation.call) && matches!(operation.outcome, Outcome::Done)
+    operation.call.is_unlink() && matches!(operation.outcome, Outcome::Done)
 }
 
 // The queue that a process holds under a descriptor.

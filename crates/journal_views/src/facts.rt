@@ -12,7 +12,7 @@ ghost use Rattle.journal_views.specs.Followed.{Follows};
 ghost use Rattle.journal_views.specs.State.{callers, held_numbers};
 
 use crate::followed::Followed;
-use mq_checker::scan_names::{creates, entry_at};
+use mq_checker::scan_names::entry_at;
 use mq_model::entries::{Call, Description, Registration, Reply};
 use mq_model::journals::Journal;
 use mq_model::limits::{DESCRIPTORS, PROCESSES};
@@ -28,7 +28,7 @@ pub(crate) fn alive(alloc: Global, journal: &Journal, f: &Followed) -> Result<Ve
     let mut queues = Vec::new(alloc);
     for i in 0..journal.len() {
         let entry = entry_at(journal, i);
-        if creates(entry.call, entry.reply) {
+        if entry.call.creates(entry.reply) {
             if f.is_named(journal, i) || f.is_held(journal, i) {
                 queues.push(i)?;
             }

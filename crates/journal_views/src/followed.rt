@@ -14,7 +14,6 @@ ghost use Rattle.mq_model.specs.Owners.{OwnersMirror, free_owner, held_in};
 ghost use Rattle.mq_model.specs.OwnersNoted.{FitsSlots, KeepsMirror};
 ghost use Rattle.journal_views.specs.Followed.{AreBound, Follows, bound_in, called_in, bound_after};
 
-use mq_checker::scan_names::creates;
 use mq_model::entries::{Call, Entry, Reply};
 use mq_model::journals::Journal;
 use mq_model::limits::PROCESSES;
@@ -32,40 +31,11 @@ pub(crate) struct Followed {
     on: Vec<Option<u64>>,
 }
 
-fn descriptor_of(call: Call) -> Option<u32>
-    ensures { result ≡ descriptor_of call }
-{
-    match call {
-        Call::MqClose { d }
-        | Call::MqSend { d, .. }
-        | Call::MqReceive { d, .. }
-        | Call::MqTimedSend { d, .. }
-        | Call::MqTimedReceive { d, .. }
-        | Call::MqGetattr { d }
-        | Call::MqSetattr { d, .. }
-        | Call::MqNotify { d, .. } => Some(d),
-        Call::MqOpen { .. }
-        | Call::MqUnlink
-        | Call::NextNotice
-        | Call::Collect
-        | Call::Withdraw { .. } => None,
-    }
-}
-
-fn unlinks(call: Call, reply: Reply) -> bool
-    ensures { result ≡ unlinks call reply }
-{
-    match (call, reply) {
-        (Call::MqUnlink, Reply::Done) => true,
-        _ => false,
-    }
-}
-
 // The queue that a call is made on.
 fn called_queue(owners: &[Owner], p: u32, call: Call) -> Option<u64>
     ensures { result ≡ called_in owners.now p call }
 {
-    match owners::held(owners, p, descriptor_of(call)?) {
+    match owners::held(owners, p, call.descriptor()?) {
         None => None,
         Some(h) => Some(h.queue),
     }
@@ -154,9 +124,9 @@ fn note_bound(
     ensures { OnOk result (queues.new.items ≡
         bound_after journal.now.records k entry name.now queues.old.items) }
 {
-    if creates(entry.call, entry.reply) {
+    if entry.call.creates(entry.reply) {
         queues.insert(0, k)?;
-    } else if unlinks(entry.call, entry.reply) {
+    } else if entry.call.unlinks(entry.reply) {
         *queues = without(alloc, journal, queues, name)?;
     }
     Ok(())

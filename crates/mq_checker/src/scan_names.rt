@@ -27,43 +27,6 @@ pub fn entry_at(journal: &Journal, place: u64) -> Entry
     }
 }
 
-pub(crate) fn is_open(call: Call) -> bool
-    ensures { result ≡ is_open call }
-{
-    match call {
-        Call::MqOpen { .. } => true,
-        _ => false,
-    }
-}
-
-pub(crate) fn is_unlink(call: Call) -> bool
-    ensures { result ≡ is_unlink call }
-{
-    match call {
-        Call::MqUnlink => true,
-        _ => false,
-    }
-}
-
-/// Whether this call with this reply is an open that created its queue.
-pub fn creates(call: Call, reply: Reply) -> bool
-    ensures { result ≡ creates call reply }
-{
-    match reply {
-        Reply::Opened { d: _, created } => created && is_open(call),
-        _ => false,
-    }
-}
-
-pub(crate) fn unlinks(call: Call, reply: Reply) -> bool
-    ensures { result ≡ unlinks call reply }
-{
-    match reply {
-        Reply::Done => is_unlink(call),
-        _ => false,
-    }
-}
-
 // The queue that a name is bound to before place `k`.
 pub(crate) fn bound_queue(journal: &Journal, k: u64, name: &[u8]) -> Option<u64>
     requires { k ≤ length journal.now.records }
@@ -71,10 +34,10 @@ pub(crate) fn bound_queue(journal: &Journal, k: u64, name: &[u8]) -> Option<u64>
 {
     for i in (0..k).rev() {
         let (entry, payload) = journal.record(i);
-        if payload == name && creates(entry.call, entry.reply) {
+        if payload == name && entry.call.creates(entry.reply) {
             return Some(i);
         }
-        if payload == name && unlinks(entry.call, entry.reply) {
+        if payload == name && entry.call.unlinks(entry.reply) {
             return None;
         }
     }
@@ -138,43 +101,12 @@ pub fn held(journal: &Journal, k: u64, p: u32, d: u32) -> Option<Description>
     None
 }
 
-pub(crate) fn descriptor_of(call: Call) -> Option<u32>
-    ensures { result ≡ descriptor_of call }
-{
-    match call {
-        Call::MqClose { d } => Some(d),
-        Call::MqSend { d, prio: _, len: _ } => Some(d),
-        Call::MqReceive { d, room: _ } => Some(d),
-        Call::MqTimedSend {
-            d,
-            prio: _,
-            len: _,
-            until: _,
-            now: _,
-        } => Some(d),
-        Call::MqTimedReceive {
-            d,
-            room: _,
-            until: _,
-            now: _,
-        } => Some(d),
-        Call::MqGetattr { d } => Some(d),
-        Call::MqSetattr { d, nonblock: _ } => Some(d),
-        Call::MqNotify { d, value: _ } => Some(d),
-        Call::MqOpen { flags: _, attr: _ } => None,
-        Call::MqUnlink => None,
-        Call::NextNotice => None,
-        Call::Collect => None,
-        Call::Withdraw { now: _ } => None,
-    }
-}
-
 /// Whether a call of process `p` at place `k` is made on queue `q`.
 pub fn is_on(journal: &Journal, k: u64, p: u32, call: Call, q: u64) -> bool
     requires { k ≤ length journal.now.records }
     ensures { result ≡ is_place q (called_queue (first k journal.now.records) p call) }
 {
-    match descriptor_of(call) {
+    match call.descriptor() {
         Some(d) => match held(journal, k, p, d) {
             Some(h) => h.queue == q,
             None => false,
@@ -224,7 +156,7 @@ pub(crate) fn alive_count(journal: &Journal, k: u64, tables: &Tables) -> u64
     let mut count = 0;
     for i in 0..k {
         let (entry, _) = journal.record(i);
-        if creates(entry.call, entry.reply) {
+        if entry.call.creates(entry.reply) {
             if is_named(journal, k, i) || is_held(journal, k, tables, i) {
                 count += 1;
             }

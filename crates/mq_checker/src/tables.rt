@@ -11,7 +11,7 @@ ghost use Rattle.mq_model.specs.Owners.{waiting, OwnersMirror};
 ghost use Rattle.mq_model.specs.Legality.{Legal};
 ghost use Rattle.mq_checker.specs.CheckerTables.{TablesMirror};
 
-use crate::scan_names::{descriptor_of, opened_queue};
+use crate::scan_names::opened_queue;
 use crate::taken;
 use mq_model::entries::{Call, Deadline, Description, Entry, Reply};
 use mq_model::journals::Journal;
@@ -130,7 +130,7 @@ fn called_queue(journal: &Journal, k: u64, tables: &Tables, p: u32, call: Call) 
     requires { TablesMirror (first k journal.now.records) tables.now }
     ensures { result ≡ called_queue (first k journal.now.records) p call }
 {
-    match descriptor_of(call) {
+    match call.descriptor() {
         Some(d) => match held(journal, k, tables, p, d) {
             Some(h) => Some(h.queue),
             None => None,

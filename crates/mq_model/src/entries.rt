@@ -2,6 +2,8 @@
 ghost use Rattle.std.specs.Prelude.{◌≡◌, true, false};
 ghost use Rattle.mq_model.specs.Messages.{priority_given, is_send, is_receive};
 ghost use Rattle.mq_model.specs.Deadlines.{deadline_of};
+ghost use Rattle.mq_model.specs.Descriptors.{descriptor_of};
+ghost use Rattle.mq_model.specs.Names.{is_open, is_unlink, creates, unlinks};
 
 use crate::faults::Fault;
 
@@ -261,6 +263,63 @@ impl Call {
                 now: _,
             } => prio,
             _ => 0,
+        }
+    }
+
+    /// The descriptor that the call names.
+    pub fn descriptor(self) -> Option<u32>
+        ensures { result ≡ descriptor_of self }
+    {
+        match self {
+            Call::MqClose { d } => Some(d),
+            Call::MqSend { d, .. } => Some(d),
+            Call::MqReceive { d, .. } => Some(d),
+            Call::MqTimedSend { d, .. } => Some(d),
+            Call::MqTimedReceive { d, .. } => Some(d),
+            Call::MqGetattr { d } => Some(d),
+            Call::MqSetattr { d, .. } => Some(d),
+            Call::MqNotify { d, .. } => Some(d),
+            _ => None,
+        }
+    }
+
+    /// Whether the call is an `mq_open`.
+    pub fn is_open(self) -> bool
+        ensures { result ≡ is_open self }
+    {
+        match self {
+            Call::MqOpen { .. } => true,
+            _ => false,
+        }
+    }
+
+    /// Whether the call is an `mq_unlink`.
+    pub fn is_unlink(self) -> bool
+        ensures { result ≡ is_unlink self }
+    {
+        match self {
+            Call::MqUnlink => true,
+            _ => false,
+        }
+    }
+
+    /// Whether the call with this reply is an open that created its queue.
+    pub fn creates(self, reply: Reply) -> bool
+        ensures { result ≡ creates self reply }
+    {
+        match reply {
+            Reply::Opened { d: _, created } => created && self.is_open(),
+            _ => false,
+        }
+    }
+
+    /// Whether the call with this reply is an unlink that succeeded.
+    pub fn unlinks(self, reply: Reply) -> bool
+        ensures { result ≡ unlinks self reply }
+    {
+        match reply {
+            Reply::Done => self.is_unlink(),
+            _ => false,
         }
     }
 

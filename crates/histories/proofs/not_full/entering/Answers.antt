@@ -16,7 +16,7 @@ loop-operation-preserved c =
     let name = c.args.name.now in
     let test = (enters_by c.args.time) in
     let is : slice_get xs k ≡ Some o = slice_get_read xs (length xs) k o refl (omega (arith, c.loop-operation-test.true)) c.operation-item.is in
-    let on : c.is_marked.result ≡ is_marked (marks_of name no_marks (take k xs)) (descriptor_of o.call) = rw (c.descriptor_of.ensures, c.loop-operation.invariant.marks) at c.is_marked.ensures in
+    let on : c.is_marked.result ≡ is_marked (marks_of name no_marks (take k xs)) (descriptor_of o.call) = rw (c.descriptor.ensures, c.loop-operation.invariant.marks) at c.is_marked.ensures in
     let step : c.if-is_marked.count ≡ c.loop-operation.count + one_if (c.is_marked.result && test o) = elim c.if-is_marked.branch [
       | then-is_marked+then-enters_by w ↦ grind (arith, w.count-is, w.if-is_marked.true, w.if-enters_by.true, w.enters_by.ensures)
       | else-is_marked w ↦ elim w.else-is_marked.branch [

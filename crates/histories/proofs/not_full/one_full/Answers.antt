@@ -16,7 +16,7 @@ loop-operation-preserved c =
     let name = c.args.found.now.name.items in
     let part = finds_full c.args.found.now.from c.args.found.now.prio c.args.found.now.message.items in
     let is : slice_get xs k ≡ Some o = slice_get_read xs (length xs) k o refl (omega (arith, c.loop-operation-test.true)) c.operation-item.is in
-    let on : c.is_marked-is_on.result ≡ is_marked (marks_of name no_marks (take k xs)) (descriptor_of o.call) = rw (c.descriptor_of.ensures, c.loop-operation.invariant.marks) at c.is_marked-is_on.ensures in
+    let on : c.is_marked-is_on.result ≡ is_marked (marks_of name no_marks (take k xs)) (descriptor_of o.call) = rw (c.descriptor.ensures, c.loop-operation.invariant.marks) at c.is_marked-is_on.ensures in
     let found : c.if-full.full ≡ (c.loop-operation.full || (c.is_marked-is_on.result && part o)) = elim c.if-full.branch [
       | then-full w ↦ grind (arith, w.full-is, w.if-full.true)
       | else-full+then-is_on w ↦ grind (arith, w.full-is, w.if-full.false, w.if-is_on.true, w.finds_full.ensures)

@@ -16,7 +16,7 @@ loop-operation-preserved c =
     let name = c.args.passed.now.name.items in
     let part = is_part c.args.part c.args.passed.now in
     let is : slice_get xs k ≡ Some o = slice_get_read xs (length xs) k o refl (omega (arith, c.loop-operation-test.true)) c.operation-item.is in
-    let on : c.is_marked-is_on.result ≡ is_marked (marks_of name no_marks (take k xs)) (descriptor_of o.call) = rw (c.descriptor_of.ensures, c.loop-operation.invariant.marks) at c.is_marked-is_on.ensures in
+    let on : c.is_marked-is_on.result ≡ is_marked (marks_of name no_marks (take k xs)) (descriptor_of o.call) = rw (c.descriptor.ensures, c.loop-operation.invariant.marks) at c.is_marked-is_on.ensures in
     let found : c.if-found.found ≡ (c.loop-operation.found || (c.is_marked-is_on.result && part o)) = elim c.if-found.branch [
       | then-found w ↦ grind (arith, w.found-is, w.if-found.true)
       | else-found+then-is_on w ↦ grind (arith, w.found-is, w.if-found.false, w.if-is_on.true, w.is_part.ensures)
