@@ -1,7 +1,6 @@
 //! Messages that were received more often than they were sent, up to a time.
 ghost use Rattle.std.specs.Prelude.{◌≡◌, ◌≤◌, IfOk, IfSome, IsSome, length, position};
 ghost use Rattle.std.specs.List.{count_by};
-ghost use Rattle.histories.specs.Histories.{is_pending};
 ghost use Rattle.histories.specs.Excess.{HasNoOrder, IsExcess, has_got, may_have_sent, receives, returned_by, returns_after, sends, sends_by, times_received, times_sent};
 
 use crate::operation::{Operation, Outcome, is_timeout};
@@ -20,15 +19,6 @@ pub struct Excess {
     /// How many calls that began by the time may have sent it: sends that did not fail, and those
     /// whose deadline passed, since they may have waited.
     pub sent: u128,
-}
-
-pub fn is_pending(outcome: &Outcome) -> bool
-    ensures { result ≡ is_pending outcome.now }
-{
-    match outcome {
-        Outcome::Pending => true,
-        _ => false,
-    }
 }
 
 /// Whether a send with this result may have sent its message. One whose deadline passed may have
@@ -68,7 +58,7 @@ pub fn has_got(prio: u32, message: &[u8], outcome: &Outcome) -> bool
 fn returns_after(time: u64, operation: &Operation) -> bool
     ensures { result ≡ returns_after time operation.now }
 {
-    is_pending(&operation.outcome) || time < operation.end
+    operation.outcome.is_pending() || time < operation.end
 }
 
 // The first operation that had not returned by this time.

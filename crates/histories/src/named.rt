@@ -5,7 +5,6 @@ ghost use Rattle.mq_model.specs.Descriptors.{descriptor_of};
 ghost use Rattle.mq_model.specs.Names.{is_open, is_unlink};
 ghost use Rattle.histories.specs.Named.{has_any, has_unlinked, is_marked, marks_after, marks_opened, unbinds};
 
-use crate::excess::is_pending;
 use crate::operation::{Operation, Outcome, has_failed};
 use mq_model::entries::Call;
 
@@ -59,7 +58,7 @@ fn unbinds(time: u64, name: &[u8], operation: &Operation) -> bool
 {
     operation.begin <= time
         && (has_unlinked(name, operation)
-            || operation.call.is_open() && is_pending(&operation.outcome))
+            || operation.call.is_open() && operation.outcome.is_pending())
 }
 
 fn one_unbinds(time: u64, name: &[u8], operations: &[Operation]) -> bool

@@ -5,7 +5,7 @@ ghost use Rattle.histories.specs.Excess.{HasNoOrder};
 ghost use Rattle.histories.specs.Named.{calls_on, has_any_on, has_returned_on};
 ghost use Rattle.histories.specs.Passed.{IsPassed, got_other, has_sent, is_done, is_part, may_receive, passes, passes_over, says_empty, sends_other};
 
-use crate::excess::{has_got, is_pending, may_have_sent, returned_by, sends_by};
+use crate::excess::{has_got, may_have_sent, returned_by, sends_by};
 use crate::named::{Marks, is_marked, marks_after, was_unbound};
 use crate::operation::{Operation, Outcome};
 use crate::queues::{Queue, queues_of};
@@ -91,7 +91,7 @@ fn may_receive(time: u64, prio: u32, message: &[u8], operation: &Operation) -> b
 {
     operation.begin <= time
         && (has_got(prio, message, &operation.outcome)
-            || (operation.call.is_receive() && is_pending(&operation.outcome)))
+            || (operation.call.is_receive() && operation.outcome.is_pending()))
 }
 
 // The parts of a contradiction: what passes its tests.
@@ -445,7 +445,7 @@ fn contradiction(
 fn known_until(queue: &Queue) -> u64 {
     let mut until = queue.until;
     for operation in &queue.operations {
-        if operation.call.is_receive() && is_pending(&operation.outcome) {
+        if operation.call.is_receive() && operation.outcome.is_pending() {
             until = until.min(operation.begin);
         }
     }

@@ -1,5 +1,4 @@
 //! The calls of a history by the queues on which they were made, for guesses that are checked.
-use crate::excess::is_pending;
 use crate::named::has_unlinked;
 use crate::operation::{Operation, Outcome};
 use std::alloc::{AllocError, Global};
@@ -35,7 +34,7 @@ fn opened_until(histories: &Vec<Vec<Operation>>) -> u64 {
     let mut until = u64::MAX;
     for operations in histories {
         for operation in operations {
-            if operation.call.is_open() && is_pending(&operation.outcome) {
+            if operation.call.is_open() && operation.outcome.is_pending() {
                 until = until.min(operation.begin);
             }
         }

@@ -1,6 +1,5 @@
 //! Prefixes of a history: what was seen of it until a return.
 ghost use Rattle.std.specs.Prelude.{◌≡◌, ◌++◌, ◌∷◌, ◌+◌, [], nat_le, nat_lt, ◌==◌, ◌||◌, IfOk, OnOk, map};
-ghost use Rattle.histories.specs.Histories.{is_pending};
 ghost use Rattle.history_judge.specs.Text.{message_of, written_reply};
 ghost use Rattle.history_judge.specs.Seen.{AreSameCalls, seen_call};
 ghost use Rattle.history_judge.specs.Fronts.{AreReturnsOf, front_until, had_returned, under_way};
@@ -16,22 +15,12 @@ pub fn returns_of(alloc: Global, calls: &[Called]) -> Result<Vec<(u64, usize)>, 
 {
     let mut returns = Vec::new(alloc);
     for (index, called) in calls.iter().enumerate() {
-        if !is_pending(&called.operation) {
+        if !called.operation.outcome.is_pending() {
             returns.push((called.operation.end, index))?;
         }
     }
     returns.sort()?;
     Ok(returns)
-}
-
-// Whether an operation had not returned when the history ended.
-fn is_pending(operation: &Operation) -> bool
-    ensures { result ≡ is_pending operation.now.outcome }
-{
-    match operation.outcome {
-        Outcome::Pending => true,
-        _ => false,
-    }
 }
 
 // A copy of what was returned.
@@ -97,7 +86,7 @@ fn under_way(alloc: Global, called: &Called) -> Result<Called, AllocError>
 fn had_returned(last: (u64, usize), index: usize, operation: &Operation) -> bool
     ensures { result ≡ had_returned last index operation.now }
 {
-    !is_pending(operation)
+    !operation.outcome.is_pending()
         && (operation.end < last.0 || (operation.end == last.0 && index <= last.1))
 }
 

@@ -1,7 +1,6 @@
 //! Whether a history is well-formed: each process makes its calls one after the other, and each
 //! call is given the bytes that it takes.
 ghost use Rattle.std.specs.Prelude.{◌≡◌, IfSome, None, Some, max};
-ghost use Rattle.histories.specs.Histories.{is_pending};
 ghost use Rattle.history_judge.specs.Processes.{AreOfProcesses};
 ghost use Rattle.history_judge.specs.WellFormed.{IsFirstFault, IsWellFormed, fault_behind, ill_formed_text, overlaps, takes_name};
 
@@ -49,15 +48,6 @@ fn takes_name(call: Call) -> bool
 {
     match call {
         Call::MqOpen { flags: _, attr: _ } | Call::MqUnlink => true,
-        _ => false,
-    }
-}
-
-fn is_pending(outcome: &Outcome) -> bool
-    ensures { result ≡ is_pending outcome.now }
-{
-    match outcome {
-        Outcome::Pending => true,
         _ => false,
     }
 }
@@ -117,7 +107,7 @@ pub fn first_fault(calls: &[Called]) -> Option<(u64, IllFormed)>
         }
         begins[p] = later(begins[p], called.operation.begin);
         ends[p] = later(ends[p], called.operation.end);
-        pending[p] = pending[p] | is_pending(&called.operation.outcome);
+        pending[p] = pending[p] | called.operation.outcome.is_pending();
     }
     None
 }
