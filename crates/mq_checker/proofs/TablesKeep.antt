@@ -50,9 +50,7 @@ length-noted owners here p call (Collected by) q = length-with_wait owners p Non
 length-noted owners here p call (Withdrawn w) q = length-with_wait owners p None
 length-noted owners here p call (Handed w) q = length-answer_at owners (waiter_in owners w) here
 length-noted owners here p call (Got m a n) q = length-answer_at owners (option_and_then (waiter_in owners) a) here
-length-noted owners here p call (Queued n) q = refl
-length-noted owners here p call (Notice v) q = refl
-length-noted owners here p call (Refused f) q = refl
+length-noted owners here p call reply q = refl
 
 -- a call that blocks is made on a queue
 waits-on : (past : Past) (p : ℕ) (call : Call) → Says past p call Waits → (q : ℕ) × (called_queue past p call ≡ Some q)
@@ -60,15 +58,11 @@ waits-on past p (MqSend d prio len) says = (says.0.queue, rw says.1 refl)
 waits-on past p (MqReceive d room) says = (says.0.queue, rw says.1 refl)
 waits-on past p (MqTimedSend d prio len until now) says = (says.0.queue, rw says.1 refl)
 waits-on past p (MqTimedReceive d room until now) says = (says.0.queue, rw says.1 refl)
-waits-on past p (MqOpen flags attr) says = absurd says
 waits-on past p (MqClose d) says = absurd says.0
-waits-on past p MqUnlink says = absurd says
-waits-on past p (MqGetattr d) says = absurd says
-waits-on past p (MqSetattr d nonblock) says = absurd says
-waits-on past p (MqNotify d value) says = absurd says
 waits-on past p NextNotice says = absurd (cc)
 waits-on past p Collect says = absurd (cc)
 waits-on past p (Withdraw now) says = absurd (cc)
+waits-on past p call says = absurd says
 
 pub queue-of : (past : Past) (p : ℕ) (call : Call) (payload : List ℕ) (reply : Reply) (q : ℕ) → Says past p call reply →
     ((d : ℕ) (created : Bool) → reply ≡ Opened d created → q ≡ opened_queue past payload created) → (reply ≡ Waits → q ≡ unwrap_or (called_queue past p call) 0) → EntryQueue past p call payload reply q
@@ -77,15 +71,7 @@ queue-of past p call payload Waits q says opened waits =
     let x = waits-on past p call says in
     let value : q ≡ x.0 = waits refl ∙ ap (λ (o : Option ℕ). unwrap_or o 0) x.1 in
     x.1 ∙ ap Some (sym value)
-queue-of past p call payload (Queued n) q says opened waits = tt
-queue-of past p call payload (Handed w) q says opened waits = tt
-queue-of past p call payload (Got m a n) q says opened waits = tt
-queue-of past p call payload (Collected b) q says opened waits = tt
-queue-of past p call payload (Withdrawn w) q says opened waits = tt
-queue-of past p call payload (Attrs s) q says opened waits = tt
-queue-of past p call payload (Notice v) q says opened waits = tt
-queue-of past p call payload Done q says opened waits = tt
-queue-of past p call payload (Refused f) q says opened waits = tt
+queue-of past p call payload reply q says opened waits = tt
 
 pub tables-keep : (past now : Past) (tables : Tables) (owners : List Owner) (marks : List Bool) (r : Record) (k q : ℕ) → TablesMirror past tables → Legal past → IsLegalNext past r →
     EntryQueue past r.entry.process r.entry.call r.payload r.entry.reply q → now ≡ r ∷ past → length past ≡ k →

@@ -85,14 +85,7 @@ ended-open past r legal next w e = by r.entry.reply (legal_says past r next) e
         let same : k ≡ w = cc in
         let x = withdrawn-open past r.entry.process r.entry.call k says next.turn in
         record { p = r.entry.process; opened = x.0 ∙ ap Some same; free = x.1 }
-    by (Opened d created) says e = absurd (cc)
-    by (Queued n) says e = absurd (cc)
-    by Waits says e = absurd (cc)
-    by (Collected b) says e = absurd (cc)
-    by (Attrs s) says e = absurd (cc)
-    by (Notice v) says e = absurd (cc)
-    by Done says e = absurd (cc)
-    by (Refused f) says e = absurd (cc)
+    by reply says e = absurd (cc)
 
 pub ended-below : (past : Past) → Legal past → (k w : ℕ) → Has ended_wait past k w → w < length past
 ended-below [] legal k w e = absurd (cc)
@@ -115,14 +108,7 @@ ended-listed (r ∷ past) k w e = has-cases ended_wait past r k w e
     by (Handed v) is = let same : v ≡ w = cc in (Receive, rw same (with-first w (ended_receives past)))
     by (Got m a n) is = (Send, rw is (with-first w (ended_sends past)))
     by (Withdrawn v) is = let same : v ≡ w = cc in (Send, rw same (with-first w (ended_sends past)))
-    by (Opened d created) is = absurd (cc)
-    by (Queued n) is = absurd (cc)
-    by Waits is = absurd (cc)
-    by (Collected b) is = absurd (cc)
-    by (Attrs s) is = absurd (cc)
-    by (Notice v) is = absurd (cc)
-    by Done is = absurd (cc)
-    by (Refused f) is = absurd (cc)
+    by reply is = absurd (cc)
 
 ended-fresh : (past : Past) (r : Record) → Legal past → IsLegalNext past r → (j w : ℕ) → ended_wait r.entry.reply ≡ Some w → Has ended_wait past j w → ⊥
 ended-fresh past r legal next j w e old =

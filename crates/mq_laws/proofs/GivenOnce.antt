@@ -29,16 +29,7 @@ use Rattle.mq_model.specs.declared.entries.Reply.TheVariants.{Opened, Queued, Ha
 
 pub given-reply : (reply : Reply) (m : ℕ) → message_given reply ≡ Some m → (a : Option ℕ) × (n : Option ℕ) × (reply ≡ Got m a n)
 given-reply (Got k a n) m e = let same : k ≡ m = cc in (a, n, ap (λ j. Got j a n) same)
-given-reply (Opened d created) m e = absurd (cc)
-given-reply (Queued n) m e = absurd (cc)
-given-reply (Handed w) m e = absurd (cc)
-given-reply Waits m e = absurd (cc)
-given-reply (Collected by) m e = absurd (cc)
-given-reply (Withdrawn by) m e = absurd (cc)
-given-reply (Attrs s) m e = absurd (cc)
-given-reply (Notice v) m e = absurd (cc)
-given-reply Done m e = absurd (cc)
-given-reply (Refused f) m e = absurd (cc)
+given-reply reply m e = absurd (cc)
 
 -- a message that a legal record returns was present in a queue
 pub given-present : (past : Past) (r : Record) → IsLegalNext past r → (m : ℕ) → message_given r.entry.reply ≡ Some m → (q : ℕ) × (is_in (present past q) m ≡ true)
@@ -123,15 +114,7 @@ notified-standing past r next k e = by r.entry.call r.entry.reply (legal_says pa
     by NextNotice (Got m a n) says e = absurd (cc)
     by Collect (Got m a n) says e = absurd (cc)
     by (Withdraw now) (Got m a n) says e = absurd (cc)
-    by call (Opened d created) says e = absurd (cc)
-    by call (Handed w) says e = absurd (cc)
-    by call Waits says e = absurd (cc)
-    by call (Collected b) says e = absurd (cc)
-    by call (Withdrawn b) says e = absurd (cc)
-    by call (Attrs s) says e = absurd (cc)
-    by call (Notice v) says e = absurd (cc)
-    by call Done says e = absurd (cc)
-    by call (Refused f) says e = absurd (cc)
+    by call reply says e = absurd (cc)
 
 notified-below : (past : Past) → Legal past → (j k : ℕ) → Has notified past j k → k < length past
 notified-below [] legal j k e = absurd (cc)
@@ -147,16 +130,7 @@ unless-not ended (Some m) n e = split (ended m)
 
 quiet-made : (p here : ℕ) (call : Call) (reply : Reply) (n : Registration) → registration_of here p call reply ≡ Some n → notified reply ≡ None
 quiet-made p here call Done n e = refl
-quiet-made p here call (Opened d created) n e = absurd (cc)
-quiet-made p here call (Queued m) n e = absurd (cc)
-quiet-made p here call (Handed w) n e = absurd (cc)
-quiet-made p here call Waits n e = absurd (cc)
-quiet-made p here call (Got m a k) n e = absurd (cc)
-quiet-made p here call (Collected b) n e = absurd (cc)
-quiet-made p here call (Withdrawn b) n e = absurd (cc)
-quiet-made p here call (Attrs s) n e = absurd (cc)
-quiet-made p here call (Notice v) n e = absurd (cc)
-quiet-made p here call (Refused f) n e = absurd (cc)
+quiet-made p here call reply n e = absurd (cc)
 
 -- a registration that exists was not notified
 standing-unnotified : (past : Past) → Legal past → (q j : ℕ) (n : Registration) → registered past q ≡ Some n → Has notified past j n.place → ⊥
@@ -244,16 +218,7 @@ collected past r next by e = cases r.entry.call r.entry.reply refl refl (legal_s
     cases (MqSetattr d nonblock) (Collected b) c is says e = absurd says
     cases (MqNotify d value) (Collected b) c is says e = absurd says
     cases NextNotice (Collected b) c is says e = absurd (cc)
-    cases call (Opened d created) c is says e = absurd (cc)
-    cases call (Queued n) c is says e = absurd (cc)
-    cases call (Handed w) c is says e = absurd (cc)
-    cases call Waits c is says e = absurd (cc)
-    cases call (Got m a n) c is says e = absurd (cc)
-    cases call (Withdrawn w) c is says e = absurd (cc)
-    cases call (Attrs s) c is says e = absurd (cc)
-    cases call (Notice v) c is says e = absurd (cc)
-    cases call Done c is says e = absurd (cc)
-    cases call (Refused f) c is says e = absurd (cc)
+    cases call reply c is says e = absurd (cc)
 
 pub cause-below : (past : Past) → Legal past → (j by : ℕ) → Has cause past j by → by < length past
 cause-below [] legal j by e = absurd (cc)

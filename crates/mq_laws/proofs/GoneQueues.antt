@@ -150,15 +150,7 @@ sent-first past k q m x lt le = record {
 pub taken-reply : (k m : ℕ) (reply : Reply) → taken_by k reply ≡ Some m → (message_given reply ≡ Some m) ⊎ (k ≡ m)
 taken-reply k m (Got j a n) e = inl e
 taken-reply k m (Handed w) e = let same : k ≡ m = cc in inr same
-taken-reply k m (Opened d created) e = absurd (cc)
-taken-reply k m (Queued n) e = absurd (cc)
-taken-reply k m Waits e = absurd (cc)
-taken-reply k m (Collected b) e = absurd (cc)
-taken-reply k m (Withdrawn b) e = absurd (cc)
-taken-reply k m (Attrs s) e = absurd (cc)
-taken-reply k m (Notice v) e = absurd (cc)
-taken-reply k m Done e = absurd (cc)
-taken-reply k m (Refused f) e = absurd (cc)
+taken-reply k m reply e = absurd (cc)
 
 pub none-taken : (past : Past) → Legal past → (j k q m : ℕ) → IsGoneAt past j q → j ≤ k → is_accepted past q m ≡ true → IsTakenAt past m k → ⊥
 none-taken past legal j k q m gone le h e =

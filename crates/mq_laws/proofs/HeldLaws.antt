@@ -65,39 +65,17 @@ send-holds past p d prio len (Refused f) says e = absurd (let bad : true ≡ fal
 send-holds past p d prio len (Queued n) says e = record { h = says.0; held = says.1; access = not-false (is_read_only says.0.access) says.2.access }
 send-holds past p d prio len (Handed w) says e = record { h = says.0; held = says.1; access = not-false (is_read_only says.0.access) says.2.access }
 send-holds past p d prio len Waits says e = record { h = says.0; held = says.1; access = not-false (is_read_only says.0.access) says.2.access }
-send-holds past p d prio len (Opened x created) says e = absurd says.3
-send-holds past p d prio len (Got m a n) says e = absurd says.3
-send-holds past p d prio len (Collected by) says e = absurd says.3
-send-holds past p d prio len (Withdrawn by) says e = absurd says.3
-send-holds past p d prio len (Attrs s) says e = absurd says.3
-send-holds past p d prio len (Notice v) says e = absurd says.3
-send-holds past p d prio len Done says e = absurd says.3
+send-holds past p d prio len reply says e = absurd says.3
 
 receive-holds : (past : Past) (p d room : ℕ) (reply : Reply) → ReceiveSays past (held past p d) room reply → is_refused reply ≡ false → IsHeldWith past p d (λ h. not (is_write_only h.access))
 receive-holds past p d room (Refused f) says e = absurd (let bad : true ≡ false = e in cc)
 receive-holds past p d room (Got m a n) says e = record { h = says.0; held = says.1; access = not-false (is_write_only says.0.access) says.2.access }
 receive-holds past p d room Waits says e = record { h = says.0; held = says.1; access = not-false (is_write_only says.0.access) says.2.access }
-receive-holds past p d room (Opened x created) says e = absurd says.3
-receive-holds past p d room (Queued n) says e = absurd says.3
-receive-holds past p d room (Handed w) says e = absurd says.3
-receive-holds past p d room (Collected by) says e = absurd says.3
-receive-holds past p d room (Withdrawn by) says e = absurd says.3
-receive-holds past p d room (Attrs s) says e = absurd says.3
-receive-holds past p d room (Notice v) says e = absurd says.3
-receive-holds past p d room Done says e = absurd says.3
+receive-holds past p d room reply says e = absurd says.3
 
 is_wait-Waits : (reply : Reply) → is_wait reply ≡ true → reply ≡ Waits
 is_wait-Waits Waits e = refl
-is_wait-Waits (Opened d created) e = absurd (cc)
-is_wait-Waits (Queued n) e = absurd (cc)
-is_wait-Waits (Handed w) e = absurd (cc)
-is_wait-Waits (Got m a n) e = absurd (cc)
-is_wait-Waits (Collected by) e = absurd (cc)
-is_wait-Waits (Withdrawn by) e = absurd (cc)
-is_wait-Waits (Attrs s) e = absurd (cc)
-is_wait-Waits (Notice v) e = absurd (cc)
-is_wait-Waits Done e = absurd (cc)
-is_wait-Waits (Refused f) e = absurd (cc)
+is_wait-Waits reply e = absurd (cc)
 
 -- a process that waits holds what it held when its wait began
 pub wait-holds : (past : Past) (p w : ℕ) → open_wait past p ≡ Some w → (d : ℕ) → held past p d ≡ held (first w past) p d

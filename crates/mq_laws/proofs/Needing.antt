@@ -78,14 +78,7 @@ home-below (r ∷ past) legal k q e = split (k == length past)
     by (Opened d new) e = let same : length past ≡ q = cc in omega (arith, same)
     by (Queued n) e = let lt = called-below past legal.0 r.entry.process r.entry.call q e in omega (arith, lt)
     by Waits e = let lt = called-below past legal.0 r.entry.process r.entry.call q e in omega (arith, lt)
-    by (Handed w) e = absurd (cc)
-    by (Got m a n) e = absurd (cc)
-    by (Collected b) e = absurd (cc)
-    by (Withdrawn b) e = absurd (cc)
-    by (Attrs s) e = absurd (cc)
-    by (Notice v) e = absurd (cc)
-    by Done e = absurd (cc)
-    by (Refused f) e = absurd (cc)
+    by reply e = absurd (cc)
 
 -- one more entry: a store that drops what the latest entry ended, and keeps the new entry if it is
 -- of a kind that is kept, still has enough

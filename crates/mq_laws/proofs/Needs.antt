@@ -38,14 +38,7 @@ ended-ways (r ∷ past) k h = by (λ old. ended-ways past k old) (ended_by r.ent
     here (Got m a n) is e = (length past, inl (has-here message_given past r k (rw is e)))
     here (Collected b) is e = (length past, inr (inl (has-here cause past r k (rw is e))))
     here (Withdrawn b) is e = (length past, inr (inr (has-here withdrawn_wait past r k (rw is e))))
-    here (Opened d new) is e = absurd (cc)
-    here (Queued n) is e = absurd (cc)
-    here (Handed w) is e = absurd (cc)
-    here Waits is e = absurd (cc)
-    here (Attrs s) is e = absurd (cc)
-    here (Notice v) is e = absurd (cc)
-    here Done is e = absurd (cc)
-    here (Refused f) is e = absurd (cc)
+    here reply is e = absurd (cc)
 
     by : (is_in (ended past) k ≡ true → Ways past k) → (o : Option ℕ) → ended_by r.entry.reply ≡ o → is_in (with_place o (ended past)) k ≡ true → Ways (r ∷ past) k
     by rest None e h = older (rest h)
@@ -66,16 +59,7 @@ given-taken (r ∷ past) j m e = has-cases message_given past r j m e
 
     by : (reply : Reply) → message_given reply ≡ Some m → is_in (with_place (taken_by (length past) reply) (taken past)) m ≡ true
     by (Got k a n) e = let same : k ≡ m = cc in rw (eq-eqb k m same) refl
-    by (Opened d new) e = absurd (cc)
-    by (Queued n) e = absurd (cc)
-    by (Handed w) e = absurd (cc)
-    by Waits e = absurd (cc)
-    by (Collected b) e = absurd (cc)
-    by (Withdrawn b) e = absurd (cc)
-    by (Attrs s) e = absurd (cc)
-    by (Notice v) e = absurd (cc)
-    by Done e = absurd (cc)
-    by (Refused f) e = absurd (cc)
+    by reply e = absurd (cc)
 
 -- what was collected had answered a wait
 cause-named : (past : Past) → Legal past → (j k : ℕ) → Has cause past j k → (w : ℕ) × Has named_wait past k w
@@ -105,23 +89,15 @@ home-sent (r ∷ past) m q reply to at how = split (m == length past)
     by (Queued n) how e = e
     by Waits how e = e
     by (Opened d new) (inl x) e = let bad : Opened d new ≡ Queued x.0 = x.1 in absurd (cc)
-    by (Opened d new) (inr x) e = absurd (cc)
     by (Handed w) (inl x) e = let bad : Handed w ≡ Queued x.0 = x.1 in absurd (cc)
-    by (Handed w) (inr x) e = absurd (cc)
     by (Got m a n) (inl x) e = let bad : Got m a n ≡ Queued x.0 = x.1 in absurd (cc)
-    by (Got m a n) (inr x) e = absurd (cc)
     by (Collected b) (inl x) e = let bad : Collected b ≡ Queued x.0 = x.1 in absurd (cc)
-    by (Collected b) (inr x) e = absurd (cc)
     by (Withdrawn b) (inl x) e = let bad : Withdrawn b ≡ Queued x.0 = x.1 in absurd (cc)
-    by (Withdrawn b) (inr x) e = absurd (cc)
     by (Attrs s) (inl x) e = let bad : Attrs s ≡ Queued x.0 = x.1 in absurd (cc)
-    by (Attrs s) (inr x) e = absurd (cc)
     by (Notice v) (inl x) e = let bad : Notice v ≡ Queued x.0 = x.1 in absurd (cc)
-    by (Notice v) (inr x) e = absurd (cc)
     by Done (inl x) e = let bad : Done ≡ Queued x.0 = x.1 in absurd (cc)
-    by Done (inr x) e = absurd (cc)
     by (Refused f) (inl x) e = let bad : Refused f ≡ Queued x.0 = x.1 in absurd (cc)
-    by (Refused f) (inr x) e = absurd (cc)
+    by reply (inr x) e = absurd (cc)
 
 -- an entry with such a reply answers no wait
 queued-unnamed : (past : Past) (m w : ℕ) (reply : Reply) → reply_at past m ≡ Some reply → (((n : Option ℕ) × (reply ≡ Queued n)) ⊎ (reply ≡ Waits)) → Has named_wait past m w → ⊥
@@ -147,14 +123,7 @@ entered-reply past legal q m h = let x = admitted-sent past q m h in
     by (Queued n) at s = inl (n, refl)
     by Waits at s = inr refl
     by (Handed w) at s = absurd (admitted-not_handed past legal q m w h at)
-    by (Opened d new) at s = absurd (cc)
-    by (Got k a n) at s = absurd (cc)
-    by (Collected b) at s = absurd (cc)
-    by (Withdrawn b) at s = absurd (cc)
-    by (Attrs s') at s = absurd (cc)
-    by (Notice v) at s = absurd (cc)
-    by Done at s = absurd (cc)
-    by (Refused f) at s = absurd (cc)
+    by reply at s = absurd (cc)
 
 untaken : (past : Past) (q m : ℕ) → is_in (present past q) m ≡ true → is_in (taken past) m ≡ false
 untaken past q m h = not-true _ (is_in-filter (λ k. not (is_in (taken past) k)) (admitted past q) m h).1
@@ -191,16 +160,7 @@ withdrawn-ended (r ∷ past) j w e = has-cases withdrawn_wait past r j w e
   where
     by : (reply : Reply) → withdrawn_wait reply ≡ Some w → is_in (with_place (ends_send reply) (ended_sends past)) w ≡ true
     by (Withdrawn v) e = let same : v ≡ w = cc in rw (eq-eqb v w same) refl
-    by (Opened d new) e = absurd (cc)
-    by (Queued n) e = absurd (cc)
-    by (Handed v) e = absurd (cc)
-    by Waits e = absurd (cc)
-    by (Got m a n) e = absurd (cc)
-    by (Collected b) e = absurd (cc)
-    by (Attrs s) e = absurd (cc)
-    by (Notice v) e = absurd (cc)
-    by Done e = absurd (cc)
-    by (Refused f) e = absurd (cc)
+    by reply e = absurd (cc)
 
 -- a send that waits on a queue that exists is needed: the one that a receive admits
 pub waiting-needed : (past : Past) → Legal past → (q w : ℕ) → is_in (alive past) q ≡ true → is_in (waiting_sends past q) w ≡ true → IsNeeded past w
@@ -270,17 +230,7 @@ made-at (r ∷ past) q h = split (creates r.entry.call r.entry.reply)
     here : length past ≡ q → (reply : Reply) → r.entry.reply ≡ reply → creates r.entry.call reply ≡ true → IsMadeAt (r ∷ past) q
     here same (Opened d true) is t = let now : (q == length past) ≡ true = eq-eqb q (length past) (sym same) in
         record { d = d; reply = rw now (ap Some is); at_home = rw (now, is) (ap Some same) }
-    here same (Opened d false) is t = absurd (cc)
-    here same (Queued n) is t = absurd (cc)
-    here same (Handed w) is t = absurd (cc)
-    here same Waits is t = absurd (cc)
-    here same (Got m a n) is t = absurd (cc)
-    here same (Collected b) is t = absurd (cc)
-    here same (Withdrawn b) is t = absurd (cc)
-    here same (Attrs s) is t = absurd (cc)
-    here same (Notice v) is t = absurd (cc)
-    here same Done is t = absurd (cc)
-    here same (Refused f) is t = absurd (cc)
+    here same reply is t = absurd (cc)
 
 -- a queue that exists is needed, for its name
 pub alive-needed : (past : Past) → Legal past → (q : ℕ) → is_in (alive past) q ≡ true → IsNeeded past q

@@ -30,19 +30,9 @@ refused p call f payload = record { entry = record { process = p; call = call; r
 
 -- a call that fails is neither a collect nor a withdrawal, so its process had no open wait
 idle : (past : Past) (p : ℕ) (call : Call) (f : Fault) (payload : List ℕ) → IsTrue (may_call past p call) → Refused f ≡ reply_to past p call payload → is_none (open_wait past p) ≡ true
-idle past p (MqOpen flags attr) f payload turn e = grind arith
-idle past p (MqClose d) f payload turn e = grind arith
-idle past p MqUnlink f payload turn e = grind arith
-idle past p (MqSend d prio len) f payload turn e = grind arith
-idle past p (MqTimedSend d prio len until now) f payload turn e = grind arith
-idle past p (MqReceive d room) f payload turn e = grind arith
-idle past p (MqTimedReceive d room until now) f payload turn e = grind arith
-idle past p (MqGetattr d) f payload turn e = grind arith
-idle past p (MqSetattr d nonblock) f payload turn e = grind arith
-idle past p (MqNotify d value) f payload turn e = grind arith
-idle past p NextNotice f payload turn e = grind arith
 idle past p Collect f payload turn e = absurd (cc)
 idle past p (Withdraw now) f payload turn e = absurd (cc)
+idle past p call f payload turn e = grind arith
 
 -- tests that agree on the members of a list
 all-same : (s t : ℕ → Bool) (xs : List ℕ) → ((x : ℕ) → is_in xs x ≡ true → s x ≡ t x) → list_all s xs ≡ list_all t xs

@@ -45,18 +45,7 @@ removal-is (Withdraw now) e = absurd (let bad : false ≡ true = e in cc)
 
 close-is : (call : Call) (d : ℕ) → is_close_of call d ≡ true → call ≡ MqClose d
 close-is (MqClose x) d e = ap MqClose (eqb-true x d e)
-close-is (MqOpen flags attr) d e = absurd (let bad : false ≡ true = e in cc)
-close-is MqUnlink d e = absurd (let bad : false ≡ true = e in cc)
-close-is (MqSend x prio len) d e = absurd (let bad : false ≡ true = e in cc)
-close-is (MqTimedSend x prio len until now) d e = absurd (let bad : false ≡ true = e in cc)
-close-is (MqReceive x room) d e = absurd (let bad : false ≡ true = e in cc)
-close-is (MqTimedReceive x room until now) d e = absurd (let bad : false ≡ true = e in cc)
-close-is (MqGetattr x) d e = absurd (let bad : false ≡ true = e in cc)
-close-is (MqSetattr x nonblock) d e = absurd (let bad : false ≡ true = e in cc)
-close-is (MqNotify x value) d e = absurd (let bad : false ≡ true = e in cc)
-close-is NextNotice d e = absurd (let bad : false ≡ true = e in cc)
-close-is Collect d e = absurd (let bad : false ≡ true = e in cc)
-close-is (Withdraw now) d e = absurd (let bad : false ≡ true = e in cc)
+close-is call d e = absurd (let bad : false ≡ true = e in cc)
 
 -- a test that only a successful call can pass
 abbrev only_done : (Call → Bool) → Call → Reply → Bool
@@ -65,29 +54,10 @@ only_done t call _ = false
 
 done-is : (t : Call → Bool) (call : Call) (reply : Reply) → only_done t call reply ≡ true → (reply ≡ Done) × (t call ≡ true)
 done-is t call Done e = (refl, e)
-done-is t call (Opened d created) e = absurd (let bad : false ≡ true = e in cc)
-done-is t call (Queued n) e = absurd (let bad : false ≡ true = e in cc)
-done-is t call (Handed w) e = absurd (let bad : false ≡ true = e in cc)
-done-is t call Waits e = absurd (let bad : false ≡ true = e in cc)
-done-is t call (Got m a n) e = absurd (let bad : false ≡ true = e in cc)
-done-is t call (Collected b) e = absurd (let bad : false ≡ true = e in cc)
-done-is t call (Withdrawn b) e = absurd (let bad : false ≡ true = e in cc)
-done-is t call (Attrs s) e = absurd (let bad : false ≡ true = e in cc)
-done-is t call (Notice v) e = absurd (let bad : false ≡ true = e in cc)
-done-is t call (Refused f) e = absurd (let bad : false ≡ true = e in cc)
+done-is t call reply e = absurd (let bad : false ≡ true = e in cc)
 
 removes-is : (call : Call) (reply : Reply) → removes call reply ≡ only_done is_removal call reply
-removes-is call Done = refl
-removes-is call (Opened d created) = refl
-removes-is call (Queued n) = refl
-removes-is call (Handed w) = refl
-removes-is call Waits = refl
-removes-is call (Got m a n) = refl
-removes-is call (Collected b) = refl
-removes-is call (Withdrawn b) = refl
-removes-is call (Attrs s) = refl
-removes-is call (Notice v) = refl
-removes-is call (Refused f) = refl
+removes-is call reply = refl
 
 closes-is : (call : Call) (reply : Reply) (d : ℕ) → closes call reply d ≡ only_done (λ c. is_close_of c d) call reply
 closes-is call Done d = refl
@@ -146,32 +116,11 @@ made-by : (here p : ℕ) (call : Call) (n : Registration) → registration_by he
 made-by here p (MqNotify d (Some v)) n e =
     let same : record { place = here; process = p; d = d; value = v } ≡ n = cc in
     record { place = ap (λ (x : Registration). x.place) (sym same); process = ap (λ (x : Registration). x.process) same; call = ap (λ (x : Registration). MqNotify x.d (Some x.value)) same; reply = refl }
-made-by here p (MqNotify d None) n e = absurd (cc)
-made-by here p (MqOpen flags attr) n e = absurd (cc)
-made-by here p (MqClose d) n e = absurd (cc)
-made-by here p MqUnlink n e = absurd (cc)
-made-by here p (MqSend d prio len) n e = absurd (cc)
-made-by here p (MqTimedSend d prio len until now) n e = absurd (cc)
-made-by here p (MqReceive d room) n e = absurd (cc)
-made-by here p (MqTimedReceive d room until now) n e = absurd (cc)
-made-by here p (MqGetattr d) n e = absurd (cc)
-made-by here p (MqSetattr d nonblock) n e = absurd (cc)
-made-by here p NextNotice n e = absurd (cc)
-made-by here p Collect n e = absurd (cc)
-made-by here p (Withdraw now) n e = absurd (cc)
+made-by here p call n e = absurd (cc)
 
 made-of : (here p : ℕ) (call : Call) (reply : Reply) (n : Registration) → registration_of here p call reply ≡ Some n → IsMadeBy here p call reply n
 made-of here p call Done n e = made-by here p call n e
-made-of here p call (Opened d created) n e = absurd (cc)
-made-of here p call (Queued m) n e = absurd (cc)
-made-of here p call (Handed w) n e = absurd (cc)
-made-of here p call Waits n e = absurd (cc)
-made-of here p call (Got m a k) n e = absurd (cc)
-made-of here p call (Collected b) n e = absurd (cc)
-made-of here p call (Withdrawn b) n e = absurd (cc)
-made-of here p call (Attrs s) n e = absurd (cc)
-made-of here p call (Notice v) n e = absurd (cc)
-made-of here p call (Refused f) n e = absurd (cc)
+made-of here p call reply n e = absurd (cc)
 
 only-parts : (b : Bool) (o : Option Registration) (n : Registration) → only_if b o ≡ Some n → (b ≡ true) × (o ≡ Some n)
 only-parts b None n e = absurd (cc)

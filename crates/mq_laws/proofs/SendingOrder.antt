@@ -61,32 +61,24 @@ least-le (x ∷ xs) m k e h = by (λ j f g. least-le xs j k f g) (least xs) refl
 queued-room : (past : Past) (p q : ℕ) (call : Call) (n : Option ℕ) → Says past p call (Queued n) → is_on past (record { process = p; call = call; reply = Queued n }) q ≡ true → is_full past q ≡ false
 queued-room past p q (MqSend d prio len) n says on = let same : says.0.queue ≡ q = called-on past p d q says.0 says.1 on in rw same at says.3.1
 queued-room past p q (MqTimedSend d prio len until now) n says on = let same : says.0.queue ≡ q = called-on past p d q says.0 says.1 on in rw same at says.3.1
-queued-room past p q (MqOpen flags attr) n says on = absurd says
 queued-room past p q (MqClose d) n says on = absurd says.0
-queued-room past p q MqUnlink n says on = absurd says
 queued-room past p q (MqReceive d room) n says on = absurd says.3
 queued-room past p q (MqTimedReceive d room until now) n says on = absurd says.3
-queued-room past p q (MqGetattr d) n says on = absurd says
-queued-room past p q (MqSetattr d nonblock) n says on = absurd says
-queued-room past p q (MqNotify d value) n says on = absurd says
 queued-room past p q NextNotice n says on = absurd (cc)
 queued-room past p q Collect n says on = absurd (cc)
 queued-room past p q (Withdraw now) n says on = absurd (cc)
+queued-room past p q call n says on = absurd says
 
 handed-waits : (past : Past) (p q : ℕ) (call : Call) (w : ℕ) → Says past p call (Handed w) → is_on past (record { process = p; call = call; reply = Handed w }) q ≡ true → is_in (waiting_receives past q) w ≡ true
 handed-waits past p q (MqSend d prio len) w says on = let same : says.0.queue ≡ q = called-on past p d q says.0 says.1 on in let P : ℕ → Type 0 = λ k. is_in (waiting_receives past k) w ≡ true in subst P same (least-in (waiting_receives past says.0.queue) w says.3)
 handed-waits past p q (MqTimedSend d prio len until now) w says on = let same : says.0.queue ≡ q = called-on past p d q says.0 says.1 on in let P : ℕ → Type 0 = λ k. is_in (waiting_receives past k) w ≡ true in subst P same (least-in (waiting_receives past says.0.queue) w says.3)
-handed-waits past p q (MqOpen flags attr) w says on = absurd says
 handed-waits past p q (MqClose d) w says on = absurd says.0
-handed-waits past p q MqUnlink w says on = absurd says
 handed-waits past p q (MqReceive d room) w says on = absurd says.3
 handed-waits past p q (MqTimedReceive d room until now) w says on = absurd says.3
-handed-waits past p q (MqGetattr d) w says on = absurd says
-handed-waits past p q (MqSetattr d nonblock) w says on = absurd says
-handed-waits past p q (MqNotify d value) w says on = absurd says
 handed-waits past p q NextNotice w says on = absurd (cc)
 handed-waits past p q Collect w says on = absurd (cc)
 handed-waits past p q (Withdraw now) w says on = absurd (cc)
+handed-waits past p q call w says on = absurd says
 
 not-zero : (a : ℤ) → int_le (pos 1) a ≡ true → int_le a (pos 0) ≡ true → ⊥
 not-zero (pos k) h g = let low : 1 ≤ k = grind (arith, nat_tests) in let high : k ≤ 0 = grind (arith, nat_tests) in omega (arith, low, high)
@@ -165,13 +157,8 @@ older-next past legal p call (Queued k) payload q says before = older-queued pas
 older-next past legal p call (Handed v) payload q says before = older-handed past legal p call v payload q says before
 older-next past legal p call Waits payload q says before = older-waits past p call payload q before
 older-next past legal p call (Got m a k) payload q says before = older-got past legal p call m a k payload q says before
-older-next past legal p call (Opened d created) payload q says before = before
-older-next past legal p call (Collected b) payload q says before = before
 older-next past legal p call (Withdrawn v) payload q says before = λ n w h g. before n w h (still-waits past v q w g)
-older-next past legal p call (Attrs s) payload q says before = before
-older-next past legal p call (Notice v) payload q says before = before
-older-next past legal p call Done payload q says before = before
-older-next past legal p call (Refused f) payload q says before = before
+older-next past legal p call reply payload q says before = before
 
 pub accepted-older : (past : Past) → Legal past → (q n w : ℕ) → is_accepted past q n ≡ true → is_in (waiting_sends past q) w ≡ true → n < w
 accepted-older [] legal q n w h g = absurd (cc)
@@ -180,16 +167,7 @@ accepted-older (r ∷ past) legal q n w h g = older-next past legal.0 r.entry.pr
 -- a waiting send that was admitted entered its queue
 admits-queues : (call : Call) (reply : Reply) (k : ℕ) → admits reply ≡ Some k → (queues call reply ≡ false) × (blocks_send call reply ≡ false)
 admits-queues call (Got m a n) k e = (refl, refl)
-admits-queues call (Opened d created) k e = absurd (cc)
-admits-queues call (Queued n) k e = absurd (cc)
-admits-queues call (Handed w) k e = absurd (cc)
-admits-queues call Waits k e = absurd (cc)
-admits-queues call (Collected b) k e = absurd (cc)
-admits-queues call (Withdrawn b) k e = absurd (cc)
-admits-queues call (Attrs s) k e = absurd (cc)
-admits-queues call (Notice v) k e = absurd (cc)
-admits-queues call Done k e = absurd (cc)
-admits-queues call (Refused f) k e = absurd (cc)
+admits-queues call reply k e = absurd (cc)
 
 admitted-enters : (past : Past) → Legal past → (q m k : ℕ) → is_in (blocked_sends past q) m ≡ true → Has admits past k m → is_in (admitted past q) m ≡ true
 admitted-enters [] legal q m k h e = absurd (cc)
@@ -227,14 +205,7 @@ entered-unless past legal q m x kept waits = by x.r.entry.reply x.reply (sent-st
     by Waits s z = split (is_in (ended_sends past) m)
         (λ t. ended (z.waits refl) (send-ended past m t))
         (λ f. absurd (waits (in-filter (λ w. not (is_in (ended_sends past) w)) (blocked_sends past q) m (z.waits refl) (rw f refl))))
-    by (Opened d created) s z = absurd (let bad : false ≡ true = s in cc)
-    by (Got k a n) s z = absurd (let bad : false ≡ true = s in cc)
-    by (Collected b) s z = absurd (let bad : false ≡ true = s in cc)
-    by (Withdrawn b) s z = absurd (let bad : false ≡ true = s in cc)
-    by (Attrs v) s z = absurd (let bad : false ≡ true = s in cc)
-    by (Notice v) s z = absurd (let bad : false ≡ true = s in cc)
-    by Done s z = absurd (let bad : false ≡ true = s in cc)
-    by (Refused f) s z = absurd (let bad : false ≡ true = s in cc)
+    by reply s z = absurd (let bad : false ≡ true = s in cc)
 
 all-in : (t : ℕ → Bool) (xs : List ℕ) (m : ℕ) → list_all t xs ≡ true → is_in xs m ≡ true → t m ≡ true
 all-in t [] m all h = absurd (cc)
@@ -313,15 +284,7 @@ taken-first past legal r next q m n sent kept lt prio (inr x) =
 taken-by-reply : (k m : ℕ) (reply : Reply) → taken_by k reply ≡ Some m → (message_given reply ≡ Some m) ⊎ ((k ≡ m) × ((w : ℕ) × (reply ≡ Handed w)))
 taken-by-reply k m (Got j a n) e = inl e
 taken-by-reply k m (Handed w) e = let same : k ≡ m = cc in inr (same, (w, refl))
-taken-by-reply k m (Opened d created) e = absurd (cc)
-taken-by-reply k m (Queued n) e = absurd (cc)
-taken-by-reply k m Waits e = absurd (cc)
-taken-by-reply k m (Collected b) e = absurd (cc)
-taken-by-reply k m (Withdrawn b) e = absurd (cc)
-taken-by-reply k m (Attrs s) e = absurd (cc)
-taken-by-reply k m (Notice v) e = absurd (cc)
-taken-by-reply k m Done e = absurd (cc)
-taken-by-reply k m (Refused f) e = absurd (cc)
+taken-by-reply k m reply e = absurd (cc)
 
 back-taken : (past : Past) (k m j : ℕ) → j < k → k ≤ length past → IsTakenAt (first k past) m j → IsTakenAt past m j
 back-taken past k m j lt le e = ap (λ (o : Option Record). option_and_then (taken_by j) (option_map (λ (s : Record). s.entry.reply) o)) (sym (record_at-first past k j lt le)) ∙ e

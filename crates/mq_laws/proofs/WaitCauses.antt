@@ -60,16 +60,7 @@ entered-fresh past legal r next q k e =
     by (Got m a n) says e =
         let first = admits-least past r.entry.process r.entry.call m a n says in
         waiting-not_admitted past first.0 k q (least-in (waiting_sends past first.0) k (sym first.1 ∙ e))
-    by (Opened d created) says e = absurd (cc)
-    by (Queued n) says e = absurd (cc)
-    by (Handed w) says e = absurd (cc)
-    by Waits says e = absurd (cc)
-    by (Collected b) says e = absurd (cc)
-    by (Withdrawn b) says e = absurd (cc)
-    by (Attrs s) says e = absurd (cc)
-    by (Notice v) says e = absurd (cc)
-    by Done says e = absurd (cc)
-    by (Refused f) says e = absurd (cc)
+    by reply says e = absurd (cc)
 
 admitted-distinct : (past : Past) → Legal past → (q : ℕ) → is_distinct (admitted past q) ≡ true
 admitted-distinct [] legal q = refl
@@ -127,15 +118,11 @@ full-waits past legal p (MqSend d prio len) payload q says before w h = full-blo
 full-waits past legal p (MqTimedSend d prio len until now) payload q says before w h = full-blocked past legal p d (MqTimedSend d prio len until now) says.0 payload q refl refl says.1 says.3.1 before w h
 full-waits past legal p (MqReceive d room) payload q says before w h = full-same past legal (rec p (MqReceive d room) Waits payload) q before refl refl w h
 full-waits past legal p (MqTimedReceive d room until now) payload q says before w h = full-same past legal (rec p (MqTimedReceive d room until now) Waits payload) q before refl refl w h
-full-waits past legal p (MqOpen flags attr) payload q says before w h = absurd says
 full-waits past legal p (MqClose d) payload q says before w h = absurd says.0
-full-waits past legal p MqUnlink payload q says before w h = absurd says
-full-waits past legal p (MqGetattr d) payload q says before w h = absurd says
-full-waits past legal p (MqSetattr d nonblock) payload q says before w h = absurd says
-full-waits past legal p (MqNotify d value) payload q says before w h = absurd says
 full-waits past legal p NextNotice payload q says before w h = absurd (cc)
 full-waits past legal p Collect payload q says before w h = absurd (cc)
 full-waits past legal p (Withdraw now) payload q says before w h = absurd (cc)
+full-waits past legal p call payload q says before w h = absurd says
 
 full-sent : (past : Past) → Legal past → (p d : ℕ) (call : Call) (h : Description) (n : Option ℕ) (payload : List ℕ) (q : ℕ) → called_queue past p call ≡ option_map (λ h. h.queue) (held past p d) → held past p d ≡ Some h → is_full past h.queue ≡ false → FullWhereWaiting past q → FullWhereWaiting (rec p call (Queued n) payload ∷ past) q
 full-sent past legal p d call h n payload q calls is free before w waits =
@@ -148,17 +135,13 @@ full-sent past legal p d call h n payload q calls is free before w waits =
 full-queued : (past : Past) → Legal past → (p : ℕ) (call : Call) (n : Option ℕ) (payload : List ℕ) (q : ℕ) → Says past p call (Queued n) → FullWhereWaiting past q → FullWhereWaiting (rec p call (Queued n) payload ∷ past) q
 full-queued past legal p (MqSend d prio len) n payload q says before w h = full-sent past legal p d (MqSend d prio len) says.0 n payload q refl says.1 says.3.1 before w h
 full-queued past legal p (MqTimedSend d prio len until now) n payload q says before w h = full-sent past legal p d (MqTimedSend d prio len until now) says.0 n payload q refl says.1 says.3.1 before w h
-full-queued past legal p (MqOpen flags attr) n payload q says before w h = absurd says
 full-queued past legal p (MqClose d) n payload q says before w h = absurd says.0
-full-queued past legal p MqUnlink n payload q says before w h = absurd says
 full-queued past legal p (MqReceive d room) n payload q says before w h = absurd says.3
 full-queued past legal p (MqTimedReceive d room until now) n payload q says before w h = absurd says.3
-full-queued past legal p (MqGetattr d) n payload q says before w h = absurd says
-full-queued past legal p (MqSetattr d nonblock) n payload q says before w h = absurd says
-full-queued past legal p (MqNotify d value) n payload q says before w h = absurd says
 full-queued past legal p NextNotice n payload q says before w h = absurd (cc)
 full-queued past legal p Collect n payload q says before w h = absurd (cc)
 full-queued past legal p (Withdraw now) n payload q says before w h = absurd (cc)
+full-queued past legal p call n payload q says before w h = absurd says
 
 -- the sends that wait after a reply that ends one waited before it
 pub still-waits : (past : Past) (v q w : ℕ) → is_in (filter (λ k. not (is_in (v ∷ ended_sends past) k)) (blocked_sends past q)) w ≡ true → is_in (waiting_sends past q) w ≡ true
@@ -202,17 +185,13 @@ full-taken past legal p call m a n payload q k gives admits before w h =
 full-got : (past : Past) → Legal past → (p : ℕ) (call : Call) (m : ℕ) (a n : Option ℕ) (payload : List ℕ) (q : ℕ) → Says past p call (Got m a n) → FullWhereWaiting past q → FullWhereWaiting (rec p call (Got m a n) payload ∷ past) q
 full-got past legal p (MqReceive d room) m a n payload q says before w h = full-taken past legal p (MqReceive d room) m a n payload q says.0.queue says.3.0 says.3.1 before w h
 full-got past legal p (MqTimedReceive d room until now) m a n payload q says before w h = full-taken past legal p (MqTimedReceive d room until now) m a n payload q says.0.queue says.3.0 says.3.1 before w h
-full-got past legal p (MqOpen flags attr) m a n payload q says before w h = absurd says
 full-got past legal p (MqClose d) m a n payload q says before w h = absurd says.0
-full-got past legal p MqUnlink m a n payload q says before w h = absurd says
 full-got past legal p (MqSend d prio len) m a n payload q says before w h = absurd says.3
 full-got past legal p (MqTimedSend d prio len until now) m a n payload q says before w h = absurd says.3
-full-got past legal p (MqGetattr d) m a n payload q says before w h = absurd says
-full-got past legal p (MqSetattr d nonblock) m a n payload q says before w h = absurd says
-full-got past legal p (MqNotify d value) m a n payload q says before w h = absurd says
 full-got past legal p NextNotice m a n payload q says before w h = absurd (cc)
 full-got past legal p Collect m a n payload q says before w h = absurd (cc)
 full-got past legal p (Withdraw now) m a n payload q says before w h = absurd (cc)
+full-got past legal p call m a n payload q says before w h = absurd says
 
 full-next : (past : Past) → Legal past → (p : ℕ) (call : Call) (reply : Reply) (payload : List ℕ) (q : ℕ) → Says past p call reply → FullWhereWaiting past q → FullWhereWaiting (rec p call reply payload ∷ past) q
 full-next past legal p call (Queued n) payload q says before = full-queued past legal p call n payload q says before

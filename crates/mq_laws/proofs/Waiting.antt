@@ -81,17 +81,13 @@ empty-sent past p call d h n payload q w calls is none before waits =
 empty-queued : (past : Past) (p : ℕ) (call : Call) (n : Option ℕ) (payload : List ℕ) (q w : ℕ) → Says past p call (Queued n) → IsEmptyWhereWaiting past q w → IsEmptyWhereWaiting (rec p call (Queued n) payload ∷ past) q w
 empty-queued past p (MqSend d prio len) n payload q w says before h = empty-sent past p (MqSend d prio len) d says.0 n payload q w refl says.1 says.3.0 before h
 empty-queued past p (MqTimedSend d prio len until now) n payload q w says before h = empty-sent past p (MqTimedSend d prio len until now) d says.0 n payload q w refl says.1 says.3.0 before h
-empty-queued past p (MqOpen flags attr) n payload q w says before h = absurd says
 empty-queued past p (MqClose d) n payload q w says before h = absurd says.0
-empty-queued past p MqUnlink n payload q w says before h = absurd says
 empty-queued past p (MqReceive d room) n payload q w says before h = absurd says.3
 empty-queued past p (MqTimedReceive d room until now) n payload q w says before h = absurd says.3
-empty-queued past p (MqGetattr d) n payload q w says before h = absurd says
-empty-queued past p (MqSetattr d nonblock) n payload q w says before h = absurd says
-empty-queued past p (MqNotify d value) n payload q w says before h = absurd says
 empty-queued past p NextNotice n payload q w says before h = absurd (cc)
 empty-queued past p Collect n payload q w says before h = absurd (cc)
 empty-queued past p (Withdraw now) n payload q w says before h = absurd (cc)
+empty-queued past p call n payload q w says before h = absurd says
 
 -- the waits that did not end, after a reply that ends one
 empty-ended : (past : Past) (w0 q w : ℕ) → IsEmptyWhereWaiting past q w → is_in (filter (λ v. not (is_in (w0 ∷ ended_receives past) v)) (blocked_receives past q)) w ≡ true → present past q ≡ []
@@ -115,15 +111,11 @@ empty-waits past p (MqSend d prio len) payload q w says before h = before h
 empty-waits past p (MqTimedSend d prio len until now) payload q w says before h = before h
 empty-waits past p (MqReceive d room) payload q w says before h = empty-received past p (MqReceive d room) d says.0 payload q w refl refl says.1 says.3.0 before h
 empty-waits past p (MqTimedReceive d room until now) payload q w says before h = empty-received past p (MqTimedReceive d room until now) d says.0 payload q w refl refl says.1 says.3.0 before h
-empty-waits past p (MqOpen flags attr) payload q w says before h = absurd says
 empty-waits past p (MqClose d) payload q w says before h = absurd says.0
-empty-waits past p MqUnlink payload q w says before h = absurd says
-empty-waits past p (MqGetattr d) payload q w says before h = absurd says
-empty-waits past p (MqSetattr d nonblock) payload q w says before h = absurd says
-empty-waits past p (MqNotify d value) payload q w says before h = absurd says
 empty-waits past p NextNotice payload q w says before h = absurd (cc)
 empty-waits past p Collect payload q w says before h = absurd (cc)
 empty-waits past p (Withdraw now) payload q w says before h = absurd (cc)
+empty-waits past p call payload q w says before h = absurd says
 
 empty-taken : (past : Past) (p : ℕ) (call : Call) (m : ℕ) (a n : Option ℕ) (payload : List ℕ) (q k : ℕ) → best past k ≡ Some m → a ≡ least (waiting_sends past k) → present past q ≡ [] → present (rec p call (Got m a n) payload ∷ past) q ≡ []
 empty-taken past p call m a n payload q k gives admits empty = by (if_in (blocked_sends past q) a) refl
@@ -142,30 +134,21 @@ empty-taken past p call m a n payload q k gives admits empty = by (if_in (blocke
 empty-got : (past : Past) (p : ℕ) (call : Call) (m : ℕ) (a n : Option ℕ) (payload : List ℕ) (q w : ℕ) → Says past p call (Got m a n) → IsEmptyWhereWaiting past q w → IsEmptyWhereWaiting (rec p call (Got m a n) payload ∷ past) q w
 empty-got past p (MqReceive d room) m a n payload q w says before h = empty-taken past p (MqReceive d room) m a n payload q says.0.queue says.3.0 says.3.1 (before h)
 empty-got past p (MqTimedReceive d room until now) m a n payload q w says before h = empty-taken past p (MqTimedReceive d room until now) m a n payload q says.0.queue says.3.0 says.3.1 (before h)
-empty-got past p (MqOpen flags attr) m a n payload q w says before h = absurd says
 empty-got past p (MqClose d) m a n payload q w says before h = absurd says.0
-empty-got past p MqUnlink m a n payload q w says before h = absurd says
 empty-got past p (MqSend d prio len) m a n payload q w says before h = absurd says.3
 empty-got past p (MqTimedSend d prio len until now) m a n payload q w says before h = absurd says.3
-empty-got past p (MqGetattr d) m a n payload q w says before h = absurd says
-empty-got past p (MqSetattr d nonblock) m a n payload q w says before h = absurd says
-empty-got past p (MqNotify d value) m a n payload q w says before h = absurd says
 empty-got past p NextNotice m a n payload q w says before h = absurd (cc)
 empty-got past p Collect m a n payload q w says before h = absurd (cc)
 empty-got past p (Withdraw now) m a n payload q w says before h = absurd (cc)
+empty-got past p call m a n payload q w says before h = absurd says
 
 empty-more : (past : Past) (p : ℕ) (call : Call) (reply : Reply) (payload : List ℕ) (q w : ℕ) → Says past p call reply → IsEmptyWhereWaiting past q w → IsEmptyWhereWaiting (rec p call reply payload ∷ past) q w
-empty-more past p call (Opened d created) payload q w says before h = before h
-empty-more past p call (Collected by) payload q w says before h = before h
 empty-more past p call (Withdrawn w0) payload q w says before h = empty-ended past w0 q w before h
-empty-more past p call (Attrs s) payload q w says before h = before h
-empty-more past p call (Notice v) payload q w says before h = before h
-empty-more past p call Done payload q w says before h = before h
-empty-more past p call (Refused f) payload q w says before h = before h
 empty-more past p call (Queued n) payload q w says before h = empty-queued past p call n payload q w says before h
 empty-more past p call (Handed w0) payload q w says before h = empty-handed past p call w0 payload q w before h
 empty-more past p call Waits payload q w says before h = empty-waits past p call payload q w says before h
 empty-more past p call (Got m a n) payload q w says before h = empty-got past p call m a n payload q w says before h
+empty-more past p call reply payload q w says before h = before h
 
 -- if a receive waits on a queue, the queue is empty
 pub waiting-empty : (past : Past) → Legal past → (q w : ℕ) → is_in (waiting_receives past q) w ≡ true → present past q ≡ []

@@ -84,17 +84,16 @@ CloseSays o reply = DoneReply reply × Unless reply ((h : Description) × (o ≡
 abbrev pub Says : Past → ℕ → Call → Reply → Type 0
 Says past p (MqOpen flags attr) reply = OpenReply reply
 Says past p (MqClose d) reply = CloseSays (held past p d) reply
-Says past p MqUnlink reply = DoneReply reply
 Says past p (MqSend d prio len) reply = SendSays past (held past p d) prio len reply
 Says past p (MqTimedSend d prio len until now) reply = SendSays past (held past p d) prio len reply
 Says past p (MqReceive d room) reply = ReceiveSays past (held past p d) room reply
 Says past p (MqTimedReceive d room until now) reply = ReceiveSays past (held past p d) room reply
 Says past p (MqGetattr d) reply = AttrsReply reply
 Says past p (MqSetattr d nonblock) reply = AttrsReply reply
-Says past p (MqNotify d value) reply = DoneReply reply
 Says past p NextNotice reply = reply ≡ Notice (slice_get (notices past p) 0)
 Says past p Collect reply = reply ≡ Collected (unwrap_or (answered_by past p) 0)
 Says past p (Withdraw now) reply = reply ≡ Withdrawn (unwrap_or (open_wait past p) 0)
+Says past p call reply = DoneReply reply
 
 message_says : (past : Past) (h : Description) (prio len : ℕ) (w : Option ℕ) → MaySend past h prio len → least (waiting_receives past h.queue) ≡ w → (is_full past h.queue && h.nonblock) ≡ false → SendSays past (Some h) prio len (accepted_reply w (is_full past h.queue) (if length (present past h.queue) == 0 then registered_place past h.queue else None))
 message_says past h prio len (Some w) facts first room = (h, refl, facts, first)
@@ -166,6 +165,4 @@ reply_says past p (MqTimedReceive d room until now) name = timed_says (ReceiveSa
 reply_says past p (MqGetattr d) name = attributes_says past (held past p d)
 reply_says past p (MqSetattr d nonblock) name = attributes_says past (held past p d)
 reply_says past p (MqNotify d value) name = notify_says past p (held past p d) value
-reply_says past p NextNotice name = refl
-reply_says past p Collect name = refl
-reply_says past p (Withdraw now) name = refl
+reply_says past p call name = refl

@@ -101,9 +101,7 @@ blocked-older past r Receive q w h = split (blocks_receive r.entry.call r.entry.
 
 -- an error changes no name and no descriptor
 pub keeps-refused : (past : Past) (call : Call) (f : Fault) (payload : List ℕ) → KeepsNames past call (Refused f) payload
-keeps-refused past (MqOpen flags attr) f payload = record { creates = refl; unlinks = refl; opens = refl; descriptors = λ d b. refl }
 keeps-refused past (MqClose d) f payload = record { creates = refl; unlinks = refl; opens = refl; descriptors = λ d b. refl }
-keeps-refused past MqUnlink f payload = record { creates = refl; unlinks = refl; opens = refl; descriptors = λ d b. refl }
 keeps-refused past (MqSend d prio len) f payload = record { creates = refl; unlinks = refl; opens = refl; descriptors = λ d b. refl }
 keeps-refused past (MqTimedSend d prio len until now) f payload = record { creates = refl; unlinks = refl; opens = refl; descriptors = λ d b. refl }
 keeps-refused past (MqReceive d room) f payload = record { creates = refl; unlinks = refl; opens = refl; descriptors = λ d b. refl }
@@ -111,9 +109,7 @@ keeps-refused past (MqTimedReceive d room until now) f payload = record { create
 keeps-refused past (MqGetattr d) f payload = record { creates = refl; unlinks = refl; opens = refl; descriptors = λ d b. refl }
 keeps-refused past (MqSetattr d nonblock) f payload = record { creates = refl; unlinks = refl; opens = refl; descriptors = λ d b. refl }
 keeps-refused past (MqNotify d value) f payload = record { creates = refl; unlinks = refl; opens = refl; descriptors = λ d b. refl }
-keeps-refused past NextNotice f payload = record { creates = refl; unlinks = refl; opens = refl; descriptors = λ d b. refl }
-keeps-refused past Collect f payload = record { creates = refl; unlinks = refl; opens = refl; descriptors = λ d b. refl }
-keeps-refused past (Withdraw now) f payload = record { creates = refl; unlinks = refl; opens = refl; descriptors = λ d b. refl }
+keeps-refused past call f payload = record { creates = refl; unlinks = refl; opens = refl; descriptors = λ d b. refl }
 
 -- a queue keeps its attributes
 pub attributes-older : (past : Past) (r : Record) (q : ℕ) → q < length past → attributes (r ∷ past) q ≡ attributes past q

@@ -22,16 +22,12 @@ Receives call d = (is_receive call ≡ true) × (descriptor_of call ≡ Some d)
 -- a Got is the reply of a receive, and the message is the best of its queue
 pub got_says : (past : Past) (p : ℕ) (call : Call) (m : ℕ) (a n : Option ℕ) → Says past p call (Got m a n) →
     (d : ℕ) × (room : ℕ) × (h : Description) × Receives call d × (held past p d ≡ Some h) × MayReceive past h room × (best past h.queue ≡ Some m)
-got_says past p (MqOpen flags attr) m a n says = absurd says
 got_says past p (MqClose d) m a n says = absurd says.0
-got_says past p MqUnlink m a n says = absurd says
 got_says past p (MqSend d prio len) m a n says = absurd says.3
 got_says past p (MqTimedSend d prio len until now) m a n says = absurd says.3
 got_says past p (MqReceive d room) m a n says = (d, room, says.0, (refl, refl), says.1, says.2, says.3.0)
 got_says past p (MqTimedReceive d room until now) m a n says = (d, room, says.0, (refl, refl), says.1, says.2, says.3.0)
-got_says past p (MqGetattr d) m a n says = absurd says
-got_says past p (MqSetattr d nonblock) m a n says = absurd says
-got_says past p (MqNotify d value) m a n says = absurd says
 got_says past p NextNotice m a n says = absurd (cc)
 got_says past p Collect m a n says = absurd (cc)
 got_says past p (Withdraw now) m a n says = absurd (cc)
+got_says past p call m a n says = absurd says

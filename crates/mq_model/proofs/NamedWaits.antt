@@ -71,17 +71,8 @@ not-both Collect h g = cc
 not-both (Withdraw now) h g = cc
 
 not-both-blocked : (call : Call) (reply : Reply) → blocks_send call reply ≡ true → blocks_receive call reply ≡ true → ⊥
-not-both-blocked call (Opened d created) h g = cc
-not-both-blocked call (Queued n) h g = cc
-not-both-blocked call (Handed w) h g = cc
 not-both-blocked call Waits h g = not-both call h g
-not-both-blocked call (Got m a n) h g = cc
-not-both-blocked call (Collected b) h g = cc
-not-both-blocked call (Withdrawn b) h g = cc
-not-both-blocked call (Attrs s) h g = cc
-not-both-blocked call (Notice v) h g = cc
-not-both-blocked call Done h g = cc
-not-both-blocked call (Refused x) h g = cc
+not-both-blocked call reply h g = cc
 
 kind-of : (s t : WaitKind) (call : Call) (reply : Reply) → blocks s call reply ≡ true → blocks t call reply ≡ true → s ≡ t
 kind-of Send Send call reply h g = refl
@@ -124,16 +115,7 @@ ends_receive-below past r k legal e = by r.entry.call r.entry.reply (legal_says 
     by : (call : Call) (reply : Reply) → Says past r.entry.process call reply → may_call past r.entry.process call ≡ true → ends_receive reply ≡ Some k → k < length past
     by (MqSend d prio len) (Handed w) says turn e = let same : w ≡ k = cc in waits says.0.queue (says.3 ∙ ap Some same)
     by (MqTimedSend d prio len until now) (Handed w) says turn e = let same : w ≡ k = cc in waits says.0.queue (says.3 ∙ ap Some same)
-    by call (Opened d created) says turn e = absurd (cc)
-    by call (Queued n) says turn e = absurd (cc)
-    by call Waits says turn e = absurd (cc)
-    by call (Got m a n) says turn e = absurd (cc)
-    by call (Collected b) says turn e = absurd (cc)
     by call (Withdrawn b) says turn e = let same : b ≡ k = cc in open_wait-below past r.entry.process k ((withdrawn-open past r.entry.process call b says turn).0 ∙ ap Some same)
-    by call (Attrs s) says turn e = absurd (cc)
-    by call (Notice v) says turn e = absurd (cc)
-    by call Done says turn e = absurd (cc)
-    by call (Refused f) says turn e = absurd (cc)
     by (MqReceive d room) (Handed w) says turn e = absurd says.3
     by (MqTimedReceive d room until now) (Handed w) says turn e = absurd says.3
     by (MqOpen flags attr) (Handed w) says turn e = absurd says
@@ -145,6 +127,7 @@ ends_receive-below past r k legal e = by r.entry.call r.entry.reply (legal_says 
     by NextNotice (Handed w) says turn e = absurd (cc)
     by Collect (Handed w) says turn e = absurd (cc)
     by (Withdraw now) (Handed w) says turn e = absurd (cc)
+    by call reply says turn e = absurd (cc)
 
 ended_receives-below : (past : Past) → Legal past → Below (length past) (ended_receives past)
 ended_receives-below [] legal = λ m h. absurd (cc)
@@ -173,28 +156,12 @@ unended-receive (r ∷ past) legal p w e a = split (r.entry.process == p)
     own-case true is e = let place : length past ≡ w = cc in waits r.entry.reply is (rw (← place) (not-below (length past) (ended_receives past) (ended_receives-below past legal.0)))
       where
         waits : (reply : Reply) → is_wait reply ≡ true → is_in (ended_receives past) w ≡ false → is_in (with_place (ends_receive reply) (ended_receives past)) w ≡ false
-        waits Waits is f = f
         waits (Handed k) is f = absurd (cc)
-        waits (Opened d created) is f = f
-        waits (Queued n) is f = f
-        waits (Got m a n) is f = f
-        waits (Collected b) is f = f
         waits (Withdrawn b) is f = absurd (cc)
-        waits (Attrs s) is f = f
-        waits (Notice v) is f = f
-        waits Done is f = f
-        waits (Refused x) is f = f
+        waits reply is f = f
     own-case false is e = absurd (cc)
 
     unlisted : (reply : Reply) → ((k : ℕ) → reply ≡ Withdrawn k → (k == w) ≡ false) → names_wait reply (Some w) ≡ false → is_in (ended_receives past) w ≡ false → is_in (with_place (ends_receive reply) (ended_receives past)) w ≡ false
     unlisted (Handed k) gone f g = rw (f, g) refl
-    unlisted Waits gone f g = g
-    unlisted (Opened d created) gone f g = g
-    unlisted (Queued n) gone f g = g
-    unlisted (Got m a n) gone f g = g
-    unlisted (Collected b) gone f g = g
     unlisted (Withdrawn b) gone f g = rw (gone b refl, g) refl
-    unlisted (Attrs s) gone f g = g
-    unlisted (Notice v) gone f g = g
-    unlisted Done gone f g = g
-    unlisted (Refused x) gone f g = g
+    unlisted reply gone f g = g

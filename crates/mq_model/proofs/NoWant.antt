@@ -89,9 +89,7 @@ reply-other past p (MqTimedReceive d room until now) name = timed-other until no
 reply-other past p (MqGetattr d) name = attributes-other past (held past p d)
 reply-other past p (MqSetattr d nonblock) name = attributes-other past (held past p d)
 reply-other past p (MqNotify d value) name = notify-other past p (held past p d) value
-reply-other past p NextNotice name = tt
-reply-other past p Collect name = tt
-reply-other past p (Withdraw now) name = tt
+reply-other past p call name = tt
 
 -- a definition's reply is never that memory was wanting
 pub replies-other : (past : Past) (p : ℕ) (call : Call) (name : List ℕ) (reply : Reply) → reply ≡ reply_to past p call name → reply ≢ Refused NoMemory

@@ -31,32 +31,11 @@ made-older past r n x = record { place = let lt = x.place in omega (arith, lt); 
 made-by : (p here : ℕ) (call : Call) (n : Registration) → registration_by here p call ≡ Some n → (n.place ≡ here) × (n.process ≡ p) × (value_of_notify call ≡ Some n.value)
 made-by p here (MqNotify d (Some v)) n e = let same : record { place = here; process = p; d = d; value = v } ≡ n = cc in
     (ap (λ (x : Registration). x.place) (sym same), ap (λ (x : Registration). x.process) (sym same), ap (λ (x : Registration). Some x.value) same)
-made-by p here (MqNotify d None) n e = absurd (cc)
-made-by p here (MqOpen flags attr) n e = absurd (cc)
-made-by p here (MqClose d) n e = absurd (cc)
-made-by p here MqUnlink n e = absurd (cc)
-made-by p here (MqSend d prio len) n e = absurd (cc)
-made-by p here (MqTimedSend d prio len until now) n e = absurd (cc)
-made-by p here (MqReceive d room) n e = absurd (cc)
-made-by p here (MqTimedReceive d room until now) n e = absurd (cc)
-made-by p here (MqGetattr d) n e = absurd (cc)
-made-by p here (MqSetattr d nonblock) n e = absurd (cc)
-made-by p here NextNotice n e = absurd (cc)
-made-by p here Collect n e = absurd (cc)
-made-by p here (Withdraw now) n e = absurd (cc)
+made-by p here call n e = absurd (cc)
 
 pub made-of : (p here : ℕ) (call : Call) (reply : Reply) (n : Registration) → registration_of here p call reply ≡ Some n → (n.place ≡ here) × (n.process ≡ p) × (value_of_notify call ≡ Some n.value)
 made-of p here call Done n e = made-by p here call n e
-made-of p here call (Opened d created) n e = absurd (cc)
-made-of p here call (Queued m) n e = absurd (cc)
-made-of p here call (Handed w) n e = absurd (cc)
-made-of p here call Waits n e = absurd (cc)
-made-of p here call (Got m a k) n e = absurd (cc)
-made-of p here call (Collected b) n e = absurd (cc)
-made-of p here call (Withdrawn b) n e = absurd (cc)
-made-of p here call (Attrs s) n e = absurd (cc)
-made-of p here call (Notice v) n e = absurd (cc)
-made-of p here call (Refused f) n e = absurd (cc)
+made-of p here call reply n e = absurd (cc)
 
 pub only-some : (b : Bool) (o : Option Registration) (n : Registration) → only_if b o ≡ Some n → o ≡ Some n
 only-some b None n e = absurd (cc)
@@ -118,29 +97,15 @@ given-few (r ∷ past) legal p =
       where
         notice-of : (call : Call) → Says past r.entry.process call (Notice (Some v)) → slice_get (notices past r.entry.process) 0 ≡ Some v
         notice-of NextNotice says = let same : Notice (Some v) ≡ Notice (slice_get (notices past r.entry.process) 0) = says in cc
-        notice-of (MqOpen flags attr) says = absurd says
         notice-of (MqClose d) says = absurd says.0
-        notice-of MqUnlink says = absurd says
         notice-of (MqSend d prio len) says = absurd says.3
         notice-of (MqTimedSend d prio len until now) says = absurd says.3
         notice-of (MqReceive d room) says = absurd says.3
         notice-of (MqTimedReceive d room until now) says = absurd says.3
-        notice-of (MqGetattr d) says = absurd says
-        notice-of (MqSetattr d nonblock) says = absurd says
-        notice-of (MqNotify d value) says = absurd says
         notice-of Collect says = absurd (cc)
         notice-of (Withdraw now) says = absurd (cc)
-    given (Notice None) is says t longer before = absurd (let bad : false ≡ true = rw is at t in cc)
-    given (Opened d created) is says t longer before = absurd (let bad : false ≡ true = rw is at t in cc)
-    given (Queued m) is says t longer before = absurd (let bad : false ≡ true = rw is at t in cc)
-    given (Handed w) is says t longer before = absurd (let bad : false ≡ true = rw is at t in cc)
-    given Waits is says t longer before = absurd (let bad : false ≡ true = rw is at t in cc)
-    given (Got m a k) is says t longer before = absurd (let bad : false ≡ true = rw is at t in cc)
-    given (Collected b) is says t longer before = absurd (let bad : false ≡ true = rw is at t in cc)
-    given (Withdrawn b) is says t longer before = absurd (let bad : false ≡ true = rw is at t in cc)
-    given (Attrs s) is says t longer before = absurd (let bad : false ≡ true = rw is at t in cc)
-    given Done is says t longer before = absurd (let bad : false ≡ true = rw is at t in cc)
-    given (Refused f) is says t longer before = absurd (let bad : false ≡ true = rw is at t in cc)
+        notice-of call says = absurd says
+    given reply is says t longer before = absurd (let bad : false ≡ true = rw is at t in cc)
 
 -- a record that notifies no process and takes no notice
 pub notices-same : (past : Past) (r : Record) (p : ℕ) → notified r.entry.reply ≡ None → gives_notice r.entry.reply ≡ false → notices (r ∷ past) p ≡ notices past p

@@ -75,18 +75,14 @@ withdrawn-open past p (Withdraw now) k says turn =
     let here : Withdrawn k ≡ Withdrawn x.0 = rw x.1 at same in
     let at : x.0 ≡ k = cc in
     (x.1 ∙ ap Some at, is-none (answered_by past p) parts.0)
-withdrawn-open past p (MqOpen flags attr) k says turn = absurd says
 withdrawn-open past p (MqClose d) k says turn = absurd says.0
-withdrawn-open past p MqUnlink k says turn = absurd says
 withdrawn-open past p (MqSend d prio len) k says turn = absurd says.3
 withdrawn-open past p (MqReceive d room) k says turn = absurd says.3
 withdrawn-open past p (MqTimedSend d prio len until now) k says turn = absurd says.3
 withdrawn-open past p (MqTimedReceive d room until now) k says turn = absurd says.3
-withdrawn-open past p (MqGetattr d) k says turn = absurd says
-withdrawn-open past p (MqSetattr d nonblock) k says turn = absurd says
-withdrawn-open past p (MqNotify d value) k says turn = absurd says
 withdrawn-open past p NextNotice k says turn = absurd (cc)
 withdrawn-open past p Collect k says turn = absurd (cc)
+withdrawn-open past p call k says turn = absurd says
 
 -- a withdrawal of one process does not end the open wait of another
 pub withdrawn-other : (past : Past) (r : Record) (p w k : ℕ) → IsLegalNext past r → (r.entry.process == p) ≡ false → open_wait past p ≡ Some w → r.entry.reply ≡ Withdrawn k → (k == w) ≡ false

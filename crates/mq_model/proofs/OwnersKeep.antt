@@ -171,19 +171,15 @@ blocked-newest past p call payload q on (inl e) = absurd (cc)
 blocked-newest past p call payload q on (inr e) = absurd (cc)
 
 waits-kind : (past : Past) (p : ℕ) (call : Call) → Says past p call Waits → (is_send call ≡ true) ⊎ (is_receive call ≡ true)
-waits-kind past p (MqOpen flags attr) says = absurd says
 waits-kind past p (MqClose d) says = absurd says.0
-waits-kind past p MqUnlink says = absurd says
 waits-kind past p (MqSend d prio len) says = inl refl
 waits-kind past p (MqTimedSend d prio len until now) says = inl refl
 waits-kind past p (MqReceive d room) says = inr refl
 waits-kind past p (MqTimedReceive d room until now) says = inr refl
-waits-kind past p (MqGetattr d) says = absurd says
-waits-kind past p (MqSetattr d nonblock) says = absurd says
-waits-kind past p (MqNotify d value) says = absurd says
 waits-kind past p NextNotice says = absurd (cc)
 waits-kind past p Collect says = absurd (cc)
 waits-kind past p (Withdraw now) says = absurd (cc)
+waits-kind past p call says = absurd says
 
 keep-waits : (past : Past) (owners : List Owner) → OwnersMirror past owners → (p : ℕ) (call : Call) (payload : List ℕ) (q : ℕ) → Says past p call Waits → open_wait past p ≡ None → called_queue past p call ≡ Some q → p < length owners →
     OwnersMirror (rec p call Waits payload ∷ past) (with_wait owners p (Some (record { place = length past; queue = q; kind = wait_kind call; until = deadline_of call })))
@@ -378,17 +374,14 @@ noted-fits past owners m p call (Opened d created) payload is = opened call is (
     opened : (call : Call) → Opened d created ≡ reply_to past p call payload → Says past p call (Opened d created) → d < 16
     opened (MqOpen flags attr) is says = (lowest_free-is past p d (opened-says past p flags attr payload d created is).free).1
     opened (MqClose e) is says = absurd says.0
-    opened MqUnlink is says = absurd says
     opened (MqSend e prio len) is says = absurd says.3
     opened (MqTimedSend e prio len until now) is says = absurd says.3
     opened (MqReceive e room) is says = absurd says.3
     opened (MqTimedReceive e room until now) is says = absurd says.3
-    opened (MqGetattr e) is says = absurd says
-    opened (MqSetattr e nonblock) is says = absurd says
-    opened (MqNotify e value) is says = absurd says
     opened NextNotice is says = absurd (cc)
     opened Collect is says = absurd (cc)
     opened (Withdraw now) is says = absurd (cc)
+    opened call is says = absurd says
 noted-fits past owners m p (MqClose d) Done payload is = held-small past owners m p d (close-held past p d payload Done (sym is))
 noted-fits past owners m p call Done payload is = tt
 noted-fits past owners m p (MqSetattr d nonblock) (Attrs s) payload is = held-small past owners m p d (setattr-held past p d nonblock payload s (sym is))

@@ -40,16 +40,7 @@ reply_at-newest past r = rw (eq-eqb (length past) (length past) refl) refl
 
 blocks-reply : (call : Call) (reply : Reply) → blocks_send call reply ≡ true → reply ≡ Waits
 blocks-reply call Waits e = refl
-blocks-reply call (Opened d created) e = absurd (cc)
-blocks-reply call (Queued n) e = absurd (cc)
-blocks-reply call (Handed w) e = absurd (cc)
-blocks-reply call (Got m a n) e = absurd (cc)
-blocks-reply call (Collected b) e = absurd (cc)
-blocks-reply call (Withdrawn b) e = absurd (cc)
-blocks-reply call (Attrs s) e = absurd (cc)
-blocks-reply call (Notice v) e = absurd (cc)
-blocks-reply call Done e = absurd (cc)
-blocks-reply call (Refused f) e = absurd (cc)
+blocks-reply call reply e = absurd (cc)
 
 -- a blocked send is on its queue, and has the reply Waits
 pub record IsBlockedOn (past : Past) (q w : ℕ) : Type 0 where
@@ -75,16 +66,7 @@ blocked-on (r ∷ past) q w h = split (blocks_send r.entry.call r.entry.reply &&
 
 queues-reply : (call : Call) (reply : Reply) → queues call reply ≡ true → (n : Option ℕ) × (reply ≡ Queued n)
 queues-reply call (Queued n) e = (n, refl)
-queues-reply call (Opened d created) e = absurd (cc)
-queues-reply call (Handed w) e = absurd (cc)
-queues-reply call Waits e = absurd (cc)
-queues-reply call (Got m a n) e = absurd (cc)
-queues-reply call (Collected b) e = absurd (cc)
-queues-reply call (Withdrawn b) e = absurd (cc)
-queues-reply call (Attrs s) e = absurd (cc)
-queues-reply call (Notice v) e = absurd (cc)
-queues-reply call Done e = absurd (cc)
-queues-reply call (Refused f) e = absurd (cc)
+queues-reply call reply e = absurd (cc)
 
 -- a reply that admits a waiting send ends its wait
 pub admits-ends : (reply : Reply) (m : ℕ) → admits reply ≡ Some m → ends_send reply ≡ Some m
@@ -164,15 +146,7 @@ taken-cases (r ∷ past) legal m h = by (taken_by (length past) r.entry.reply) r
         let there : P m = subst P same (present-admitted past got.2.queue k inside) in
         inr (got.2.queue, with-more (entered past r.entry got.2.queue) (admitted past got.2.queue) m there)
     here (Handed w) is says e = let same : length past ≡ m = cc in inl (w, rw (← same) (reply_at-newest past r ∙ ap Some is))
-    here (Opened d created) is says e = absurd (cc)
-    here (Queued n) is says e = absurd (cc)
-    here Waits is says e = absurd (cc)
-    here (Collected b) is says e = absurd (cc)
-    here (Withdrawn b) is says e = absurd (cc)
-    here (Attrs s) is says e = absurd (cc)
-    here (Notice v) is says e = absurd (cc)
-    here Done is says e = absurd (cc)
-    here (Refused f) is says e = absurd (cc)
+    here reply is says e = absurd (cc)
 
     by : (o : Option ℕ) → taken_by (length past) r.entry.reply ≡ o → is_in (with_place (taken_by (length past) r.entry.reply) (taken past)) m ≡ true → (is_in (taken past) m ≡ true → ((w : ℕ) × (reply_at past m ≡ Some (Handed w))) ⊎ ((q : ℕ) × (is_in (admitted past q) m ≡ true))) →
         ((w : ℕ) × (reply_at (r ∷ past) m ≡ Some (Handed w))) ⊎ ((q : ℕ) × (is_in (admitted (r ∷ past) q) m ≡ true))

@@ -79,16 +79,7 @@ creates-within past r legal e = by r.entry.call r.entry.reply refl refl e
     by NextNotice (Opened d true) c is e = absurd (let bad : false ≡ true = e in cc)
     by Collect (Opened d true) c is e = absurd (let bad : false ≡ true = e in cc)
     by (Withdraw now) (Opened d true) c is e = absurd (let bad : false ≡ true = e in cc)
-    by call (Queued n) c is e = absurd (cc)
-    by call (Handed w) c is e = absurd (cc)
-    by call Waits c is e = absurd (cc)
-    by call (Got m a n) c is e = absurd (cc)
-    by call (Collected b) c is e = absurd (cc)
-    by call (Withdrawn b) c is e = absurd (cc)
-    by call (Attrs s) c is e = absurd (cc)
-    by call (Notice v) c is e = absurd (cc)
-    by call Done c is e = absurd (cc)
-    by call (Refused f) c is e = absurd (cc)
+    by call reply c is e = absurd (cc)
 
 -- a queue created is an older one, or the newest record created it
 pub created-cases : {C : Type 0} (past : Past) (r : Record) (q : ℕ) → is_in (created (r ∷ past)) q ≡ true →
@@ -132,11 +123,7 @@ called-created past legal p q call e = by call e
     by (MqGetattr d) e = on d e
     by (MqSetattr d nonblock) e = on d e
     by (MqNotify d value) e = on d e
-    by (MqOpen flags attr) e = absurd (cc)
-    by MqUnlink e = absurd (cc)
-    by NextNotice e = absurd (cc)
-    by Collect e = absurd (cc)
-    by (Withdraw now) e = absurd (cc)
+    by call e = absurd (cc)
 
 pub sent-created : (past : Past) → Legal past → (m q : ℕ) → sent_to past m ≡ Some q → is_in (created past) q ≡ true
 sent-created [] legal m q e = absurd (cc)
@@ -203,17 +190,13 @@ few-got : (past : Past) → Legal past → (p : ℕ) (call : Call) (m : ℕ) (a 
     length (present (rec p call (Got m a n) payload ∷ past) q) ≤ length (present past q)
 few-got past legal p (MqReceive d room) m a n payload says q = few-given past legal p (MqReceive d room) m a n payload says.0.queue (got-facts past says.0 m a n says.3) q
 few-got past legal p (MqTimedReceive d room until now) m a n payload says q = few-given past legal p (MqTimedReceive d room until now) m a n payload says.0.queue (got-facts past says.0 m a n says.3) q
-few-got past legal p (MqOpen flags attr) m a n payload says q = absurd says
 few-got past legal p (MqClose d) m a n payload says q = absurd says.0
-few-got past legal p MqUnlink m a n payload says q = absurd says
 few-got past legal p (MqSend d prio len) m a n payload says q = absurd says.3
 few-got past legal p (MqTimedSend d prio len until now) m a n payload says q = absurd says.3
-few-got past legal p (MqGetattr d) m a n payload says q = absurd says
-few-got past legal p (MqSetattr d nonblock) m a n payload says q = absurd says
-few-got past legal p (MqNotify d value) m a n payload says q = absurd says
 few-got past legal p NextNotice m a n payload says q = absurd (cc)
 few-got past legal p Collect m a n payload says q = absurd (cc)
 few-got past legal p (Withdraw now) m a n payload says q = absurd (cc)
+few-got past legal p call m a n payload says q = absurd says
 
 -- the descriptor of a call is of the queue that the call is made on
 pub called-on : (past : Past) (p d q : ℕ) (h : Description) → held past p d ≡ Some h → is_place q (option_map (λ h. h.queue) (held past p d)) ≡ true → h.queue ≡ q
@@ -232,17 +215,13 @@ few-sent past legal p d call h n payload sends calls is free q lt before =
 few-queued : (past : Past) → Legal past → (p : ℕ) (call : Call) (n : Option ℕ) (payload : List ℕ) → Says past p call (Queued n) → (q : ℕ) → q < length past → Few past q → Few (rec p call (Queued n) payload ∷ past) q
 few-queued past legal p (MqSend d prio len) n payload says q lt before = few-sent past legal p d (MqSend d prio len) says.0 n payload refl refl says.1 says.3.1 q lt before
 few-queued past legal p (MqTimedSend d prio len until now) n payload says q lt before = few-sent past legal p d (MqTimedSend d prio len until now) says.0 n payload refl refl says.1 says.3.1 q lt before
-few-queued past legal p (MqOpen flags attr) n payload says q lt before = absurd says
 few-queued past legal p (MqClose d) n payload says q lt before = absurd says.0
-few-queued past legal p MqUnlink n payload says q lt before = absurd says
 few-queued past legal p (MqReceive d room) n payload says q lt before = absurd says.3
 few-queued past legal p (MqTimedReceive d room until now) n payload says q lt before = absurd says.3
-few-queued past legal p (MqGetattr d) n payload says q lt before = absurd says
-few-queued past legal p (MqSetattr d nonblock) n payload says q lt before = absurd says
-few-queued past legal p (MqNotify d value) n payload says q lt before = absurd says
 few-queued past legal p NextNotice n payload says q lt before = absurd (cc)
 few-queued past legal p Collect n payload says q lt before = absurd (cc)
 few-queued past legal p (Withdraw now) n payload says q lt before = absurd (cc)
+few-queued past legal p call n payload says q lt before = absurd says
 
 few-next : (past : Past) → Legal past → (p : ℕ) (call : Call) (reply : Reply) (payload : List ℕ) → Says past p call reply → (q : ℕ) → q < length past → Few past q → Few (rec p call reply payload ∷ past) q
 few-next past legal p call (Queued n) payload says q lt before = few-queued past legal p call n payload says q lt before
@@ -261,16 +240,7 @@ few-next past legal p call (Refused f) payload says q lt before = not-more past 
 creates-opened : (call : Call) (reply : Reply) → creates call reply ≡ true → (d : ℕ) × (reply ≡ Opened d true)
 creates-opened call (Opened d true) e = (d, refl)
 creates-opened call (Opened d false) e = absurd (let bad : false ≡ true = e in cc)
-creates-opened call (Queued n) e = absurd (cc)
-creates-opened call (Handed w) e = absurd (cc)
-creates-opened call Waits e = absurd (cc)
-creates-opened call (Got m a n) e = absurd (cc)
-creates-opened call (Collected b) e = absurd (cc)
-creates-opened call (Withdrawn b) e = absurd (cc)
-creates-opened call (Attrs s) e = absurd (cc)
-creates-opened call (Notice v) e = absurd (cc)
-creates-opened call Done e = absurd (cc)
-creates-opened call (Refused f) e = absurd (cc)
+creates-opened call reply e = absurd (cc)
 
 first-two : (a b c d : Bool) → (a && b && c && d) ≡ true → (a ≡ true) × (b ≡ true)
 first-two true true c d e = (refl, refl)

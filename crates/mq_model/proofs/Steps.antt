@@ -70,15 +70,7 @@ taken_by-below past r legal k e = by_reply r.entry.reply (legal_says past r lega
         let inside = (is_in-filter (λ j. not (is_in (taken past) j)) (admitted past got.2.queue) m (find-in _ (present past got.2.queue) m got.6).0).0 in
         omega (arith, admitted-below past got.2.queue m inside)
     by_reply (Handed w) says e = let same : length past ≡ k = cc in omega arith
-    by_reply (Opened d created) says e = absurd (cc)
-    by_reply (Queued n) says e = absurd (cc)
-    by_reply Waits says e = absurd (cc)
-    by_reply (Collected by) says e = absurd (cc)
-    by_reply (Withdrawn by) says e = absurd (cc)
-    by_reply (Attrs s) says e = absurd (cc)
-    by_reply (Notice v) says e = absurd (cc)
-    by_reply Done says e = absurd (cc)
-    by_reply (Refused f) says e = absurd (cc)
+    by_reply reply says e = absurd (cc)
 
 pub taken-below : (past : Past) → Legal past → Below (length past) (taken past)
 taken-below [] legal = λ m h. absurd (cc)

@@ -40,48 +40,25 @@ in-filter t (x ∷ xs) m h passes = split (x == m)
 
 -- a process with an open wait that is not answered may only withdraw it
 no-call : (past : Past) (p w : ℕ) (call : Call) (reply : Reply) → Says past p call reply → may_call past p call ≡ true → open_wait past p ≡ Some w → answered_by past p ≡ None → (reply ≡ Withdrawn w → ⊥) → ⊥
-no-call past p w (MqOpen flags attr) reply says h e a not = let none : false ≡ true = rw e at h in cc
-no-call past p w (MqClose d) reply says h e a not = let none : false ≡ true = rw e at h in cc
-no-call past p w MqUnlink reply says h e a not = let none : false ≡ true = rw e at h in cc
-no-call past p w (MqSend d prio len) reply says h e a not = let none : false ≡ true = rw e at h in cc
-no-call past p w (MqTimedSend d prio len until now) reply says h e a not = let none : false ≡ true = rw e at h in cc
-no-call past p w (MqReceive d room) reply says h e a not = let none : false ≡ true = rw e at h in cc
-no-call past p w (MqTimedReceive d room until now) reply says h e a not = let none : false ≡ true = rw e at h in cc
-no-call past p w (MqGetattr d) reply says h e a not = let none : false ≡ true = rw e at h in cc
-no-call past p w (MqSetattr d nonblock) reply says h e a not = let none : false ≡ true = rw e at h in cc
-no-call past p w (MqNotify d value) reply says h e a not = let none : false ≡ true = rw e at h in cc
-no-call past p w NextNotice reply says h e a not = let none : false ≡ true = rw e at h in cc
 no-call past p w Collect reply says h e a not = let none : false ≡ true = rw a at h in cc
 no-call past p w (Withdraw now) reply says h e a not = not (rw e at says)
+no-call past p w call reply says h e a not = let none : false ≡ true = rw e at h in cc
 
 blocks-wait : (call : Call) (reply : Reply) → blocks_receive call reply ≡ true → is_wait reply ≡ true
 blocks-wait call Waits h = refl
-blocks-wait call (Opened d created) h = absurd (cc)
-blocks-wait call (Queued n) h = absurd (cc)
-blocks-wait call (Handed w) h = absurd (cc)
-blocks-wait call (Got m a n) h = absurd (cc)
-blocks-wait call (Collected b) h = absurd (cc)
-blocks-wait call (Withdrawn b) h = absurd (cc)
-blocks-wait call (Attrs s) h = absurd (cc)
-blocks-wait call (Notice v) h = absurd (cc)
-blocks-wait call Done h = absurd (cc)
-blocks-wait call (Refused f) h = absurd (cc)
+blocks-wait call reply h = absurd (cc)
 
 -- a Got admits the first waiting send of a queue
 pub admits-least : (past : Past) (p : ℕ) (call : Call) (m : ℕ) (a n : Option ℕ) → Says past p call (Got m a n) → (q : ℕ) × (a ≡ least (waiting_sends past q))
 admits-least past p (MqReceive d room) m a n says = (says.0.queue, says.3.1)
 admits-least past p (MqTimedReceive d room until now) m a n says = (says.0.queue, says.3.1)
-admits-least past p (MqOpen flags attr) m a n says = absurd says
 admits-least past p (MqClose d) m a n says = absurd says.0
-admits-least past p MqUnlink m a n says = absurd says
 admits-least past p (MqSend d prio len) m a n says = absurd says.3
 admits-least past p (MqTimedSend d prio len until now) m a n says = absurd says.3
-admits-least past p (MqGetattr d) m a n says = absurd says
-admits-least past p (MqSetattr d nonblock) m a n says = absurd says
-admits-least past p (MqNotify d value) m a n says = absurd says
 admits-least past p NextNotice m a n says = absurd (cc)
 admits-least past p Collect m a n says = absurd (cc)
 admits-least past p (Withdraw now) m a n says = absurd (cc)
+admits-least past p call m a n says = absurd says
 
 -- a receive that still waits is named by no reply
 not-named : (past : Past) (p q w : ℕ) (call : Call) (reply : Reply) → Says past p call reply → is_in (blocked_receives past q) w ≡ true → not (is_in (with_place (ends_receive reply) (ended_receives past)) w) ≡ true → names_wait reply (Some w) ≡ false
@@ -95,15 +72,7 @@ not-named past p q w call (Got m (Some v) n) says stands free = split (v == w)
     let both = blocked-once past Send Receive got.0 q w (subst P same inside.0) stands in
     let bad : Send ≡ Receive = both.0 in absurd (cc))
     (λ f. f)
-not-named past p q w call (Opened d created) says stands free = refl
-not-named past p q w call (Queued n) says stands free = refl
-not-named past p q w call Waits says stands free = refl
-not-named past p q w call (Collected b) says stands free = refl
-not-named past p q w call (Withdrawn b) says stands free = refl
-not-named past p q w call (Attrs s) says stands free = refl
-not-named past p q w call (Notice v) says stands free = refl
-not-named past p q w call Done says stands free = refl
-not-named past p q w call (Refused f) says stands free = refl
+not-named past p q w call reply says stands free = refl
 
 -- a wait that a reply ends is among those that ended
 ended-now : (w : ℕ) (ended : List ℕ) (o : Option ℕ) → o ≡ Some w → not (is_in (with_place o ended) w) ≡ true → ⊥
@@ -135,15 +104,11 @@ hands-least past p (MqSend d prio len) k says = (says.0.queue, says.3)
 hands-least past p (MqTimedSend d prio len until now) k says = (says.0.queue, says.3)
 hands-least past p (MqReceive d room) k says = absurd says.3
 hands-least past p (MqTimedReceive d room until now) k says = absurd says.3
-hands-least past p (MqOpen flags attr) k says = absurd says
 hands-least past p (MqClose d) k says = absurd says.0
-hands-least past p MqUnlink k says = absurd says
-hands-least past p (MqGetattr d) k says = absurd says
-hands-least past p (MqSetattr d nonblock) k says = absurd says
-hands-least past p (MqNotify d value) k says = absurd says
 hands-least past p NextNotice k says = absurd (cc)
 hands-least past p Collect k says = absurd (cc)
 hands-least past p (Withdraw now) k says = absurd (cc)
+hands-least past p call k says = absurd says
 
 -- a send that still waits is named by no reply
 not-named-send : (past : Past) (p q w : ℕ) (call : Call) (reply : Reply) → Says past p call reply → is_in (blocked_sends past q) w ≡ true → not (is_in (with_place (ends_send reply) (ended_sends past)) w) ≡ true → names_wait reply (Some w) ≡ false
@@ -157,28 +122,11 @@ not-named-send past p q w call (Handed v) says stands free = split (v == w)
     let both = blocked-once past Receive Send least_one.0 q w (subst P same inside.0) stands in
     let bad : Receive ≡ Send = both.0 in absurd (cc))
     (λ f. f)
-not-named-send past p q w call (Opened d created) says stands free = refl
-not-named-send past p q w call (Queued n) says stands free = refl
-not-named-send past p q w call Waits says stands free = refl
-not-named-send past p q w call (Collected b) says stands free = refl
-not-named-send past p q w call (Withdrawn b) says stands free = refl
-not-named-send past p q w call (Attrs s) says stands free = refl
-not-named-send past p q w call (Notice v) says stands free = refl
-not-named-send past p q w call Done says stands free = refl
-not-named-send past p q w call (Refused f) says stands free = refl
+not-named-send past p q w call reply says stands free = refl
 
 blocks-wait-send : (call : Call) (reply : Reply) → blocks_send call reply ≡ true → is_wait reply ≡ true
 blocks-wait-send call Waits h = refl
-blocks-wait-send call (Handed w) h = absurd (cc)
-blocks-wait-send call (Got m a n) h = absurd (cc)
-blocks-wait-send call (Opened d created) h = absurd (cc)
-blocks-wait-send call (Queued n) h = absurd (cc)
-blocks-wait-send call (Collected b) h = absurd (cc)
-blocks-wait-send call (Withdrawn b) h = absurd (cc)
-blocks-wait-send call (Attrs s) h = absurd (cc)
-blocks-wait-send call (Notice v) h = absurd (cc)
-blocks-wait-send call Done h = absurd (cc)
-blocks-wait-send call (Refused f) h = absurd (cc)
+blocks-wait-send call reply h = absurd (cc)
 
 waiter-send : (past : Past) → Legal past → (q w : ℕ) → is_in (waiting_sends past q) w ≡ true → (p : ℕ) × (open_wait past p ≡ Some w) × (answered_by past p ≡ None)
 waiter-send [] legal q w h = absurd (cc)
@@ -206,16 +154,8 @@ ends_send-below past r k legal e = by r.entry.reply (legal_says past r legal) e
     by (Got m a n) says e =
         let least_one = admits-least past r.entry.process r.entry.call m a n says in
         blocked-below past Send least_one.0 k (is_in-filter _ (blocked_sends past least_one.0) k (least-in (waiting_sends past least_one.0) k (sym least_one.1 ∙ e))).0
-    by (Handed w) says e = absurd (cc)
-    by (Opened d created) says e = absurd (cc)
-    by (Queued n) says e = absurd (cc)
-    by Waits says e = absurd (cc)
-    by (Collected b) says e = absurd (cc)
     by (Withdrawn b) says e = let same : b ≡ k = cc in open_wait-below past r.entry.process k ((withdrawn-open past r.entry.process r.entry.call b says legal.turn).0 ∙ ap Some same)
-    by (Attrs s) says e = absurd (cc)
-    by (Notice v) says e = absurd (cc)
-    by Done says e = absurd (cc)
-    by (Refused f) says e = absurd (cc)
+    by reply says e = absurd (cc)
 
 ended_sends-below : (past : Past) → Legal past → Below (length past) (ended_sends past)
 ended_sends-below [] legal = λ m h. absurd (cc)
@@ -243,17 +183,9 @@ unended-send (r ∷ past) legal p w e a = split (r.entry.process == p)
     own-case true is e = let place : length past ≡ w = cc in waits r.entry.reply is (rw (← place) (not-below (length past) (ended_sends past) (ended_sends-below past legal.0)))
       where
         waits : (reply : Reply) → is_wait reply ≡ true → is_in (ended_sends past) w ≡ false → is_in (with_place (ends_send reply) (ended_sends past)) w ≡ false
-        waits Waits is f = f
-        waits (Handed k) is f = f
-        waits (Opened d created) is f = f
-        waits (Queued n) is f = f
         waits (Got m a n) is f = absurd (cc)
-        waits (Collected b) is f = f
         waits (Withdrawn b) is f = absurd (cc)
-        waits (Attrs s) is f = f
-        waits (Notice v) is f = f
-        waits Done is f = f
-        waits (Refused x) is f = f
+        waits reply is f = f
     own-case false is e = absurd (cc)
 
     unlisted : (reply : Reply) → ((k : ℕ) → reply ≡ Withdrawn k → (k == w) ≡ false) → names_wait reply (Some w) ≡ false → is_in (ended_sends past) w ≡ false → is_in (with_place (ends_send reply) (ended_sends past)) w ≡ false
