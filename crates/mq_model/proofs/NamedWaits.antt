@@ -75,10 +75,9 @@ not-both-blocked call Waits h g = not-both call h g
 not-both-blocked call reply h g = cc
 
 kind-of : (s t : WaitKind) (call : Call) (reply : Reply) → blocks s call reply ≡ true → blocks t call reply ≡ true → s ≡ t
-kind-of Send Send call reply h g = refl
-kind-of Receive Receive call reply h g = refl
 kind-of Send Receive call reply h g = absurd (not-both-blocked call reply h g)
 kind-of Receive Send call reply h g = absurd (not-both-blocked call reply g h)
+kind-of other it call reply h g = refl
 
 same_queue : (o : Option ℕ) (q k : ℕ) → is_place q o ≡ true → is_place k o ≡ true → q ≡ k
 same_queue None q k h g = absurd (cc)

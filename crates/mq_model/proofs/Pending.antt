@@ -26,10 +26,9 @@ record IsPending (owners : List Owner) (p q : ℕ) (kind : WaitKind) (w : ℕ) :
   of_kind : wait.kind ≡ kind
 
 is_kind-same : (s t : WaitKind) → is_kind s t ≡ true → t ≡ s
-is_kind-same Send Send e = refl
 is_kind-same Send Receive e = absurd (cc)
 is_kind-same Receive Send e = absurd (cc)
-is_kind-same Receive Receive e = refl
+is_kind-same other it e = refl
 
 is_pending : (owners : List Owner) (p q : ℕ) (kind : WaitKind) (w : ℕ) → pending_in owners p q kind ≡ Some w → IsPending owners p q kind w
 unfolding pending_in
