@@ -10,7 +10,7 @@ use Rattle.mq_model.specs.declared.entries.Deadline.{Deadline}
 use Rattle.mq_model.specs.declared.faults.Fault.TheVariants.{Invalid, TimedOut}
 use Rattle.mq_model.specs.declared.entries.Call.TheVariants.{MqSend, MqReceive, MqTimedSend, MqTimedReceive, MqGetattr, Collect, Withdraw}
 use Rattle.mq_model.specs.declared.entries.Reply.TheVariants.{Opened, Queued, Handed, Waits, Got, Collected, Attrs, Refused, Withdrawn}
-use Rattle.mq_laws.proofs.WorkedJournals.{made, opening, opening_with}
+use Rattle.mq_laws.proofs.WorkedJournals.{legal-by-replies, made, opening, opening_with}
 
 -- a time of whole seconds
 abbrev second : ℕ → Deadline
@@ -40,43 +40,7 @@ deadlines_pass =
 
 pub deadlines_pass-legal : Legal deadlines_pass
 unfolding descriptor_numbers
-deadlines_pass-legal = (
-  (
-    (
-      (
-        (
-          (
-            (
-              (
-                (
-                  (
-                    (
-                      (
-                        tt,
-                        record { process = refl; turn = refl; payload = refl; reply = refl },
-                      ),
-                      record { process = refl; turn = refl; payload = refl; reply = refl },
-                    ),
-                    record { process = refl; turn = refl; payload = refl; reply = refl },
-                  ),
-                  record { process = refl; turn = refl; payload = refl; reply = refl },
-                ),
-                record { process = refl; turn = refl; payload = refl; reply = refl },
-              ),
-              record { process = refl; turn = refl; payload = refl; reply = refl },
-            ),
-            record { process = refl; turn = refl; payload = refl; reply = refl },
-          ),
-          record { process = refl; turn = refl; payload = refl; reply = refl },
-        ),
-        record { process = refl; turn = refl; payload = refl; reply = refl },
-      ),
-      record { process = refl; turn = refl; payload = refl; reply = refl },
-    ),
-    record { process = refl; turn = refl; payload = refl; reply = refl },
-  ),
-  record { process = refl; turn = refl; payload = refl; reply = refl },
-)
+deadlines_pass-legal = legal-by-replies deadlines_pass refl refl
 
 -- a withdrawal before the deadline
 pub early_withdrawal-refused : IsLegalNext send_waits (made 2 (Withdraw (second 9)) (Withdrawn 5) []) → ⊥

@@ -1,9 +1,10 @@
 -- Worked journals, latest entry first: each is legal, by computation.
 use Rattle.std.proofs.Common.{ℕ, ℤ, List, [], ◌∷◌, refl, Bool, true, false, Some, None}
-use Rattle.std.specs.Prelude.{pos, negsuc, codes, replicate}
+use Rattle.std.specs.Prelude.{◌≡◌, ◌&&◌, nat_le, pos, negsuc, codes, replicate}
+use Rattle.mq_model.specs.Limits.{most_processes}
 use Rattle.mq_model.specs.Record.{Record, Past}
 use Rattle.mq_model.specs.Descriptors.{descriptor_numbers}
-use Rattle.mq_model.specs.Legality.{Legal}
+use Rattle.mq_model.specs.Legality.{Legal, is_payload, may_call, reply_to}
 use Rattle.mq_model.specs.declared.entries.Access.{Access}
 use Rattle.mq_model.specs.declared.entries.Access.TheVariants.{Read, Write, Both}
 use Rattle.mq_model.specs.declared.entries.Status.{Status}
@@ -28,6 +29,35 @@ opening_with access create excl nonblock maxmsg msgsize = MqOpen (record { acces
 abbrev pub status : Bool → ℕ → ℕ → ℕ → Status
 status nonblock maxmsg msgsize curmsgs = record { nonblock = nonblock; maxmsg = pos maxmsg; msgsize = pos msgsize; curmsgs = pos curmsgs }
 
+-- Legality by two computations: each record but for its reply, and the list of all replies.
+abbrev pub are_made : Past → Bool
+are_made [] = true
+are_made (r ∷ past) =
+    are_made past
+    && nat_le 1 r.entry.process && nat_le r.entry.process most_processes
+    && may_call past r.entry.process r.entry.call
+    && is_payload r.entry.call r.entry.reply r.payload
+
+abbrev pub replies : Past → List Reply
+replies [] = []
+replies (r ∷ past) = r.entry.reply ∷ replies past
+
+abbrev pub due_replies : Past → List Reply
+due_replies [] = []
+due_replies (r ∷ past) = reply_to past r.entry.process r.entry.call r.payload ∷ due_replies past
+
+all-of-five : (a b c d e : Bool) → (a && b && c && d && e) ≡ true → (a ≡ true) × ((b && c) ≡ true) × (d ≡ true) × (e ≡ true)
+all-of-five true true true true true h = (refl, refl, refl, refl)
+all-of-five a b c d e h = absurd (cc)
+
+pub legal-by-replies : (past : Past) → are_made past ≡ true → replies past ≡ due_replies past → Legal past
+legal-by-replies [] made due = tt
+legal-by-replies (r ∷ past) made due =
+    let all = all-of-five (are_made past) (nat_le 1 r.entry.process) (nat_le r.entry.process most_processes) (may_call past r.entry.process r.entry.call) (is_payload r.entry.call r.entry.reply r.payload) made in
+    let reply : r.entry.reply ≡ reply_to past r.entry.process r.entry.call r.payload = cc in
+    let before : replies past ≡ due_replies past = cc in
+    (legal-by-replies past all.0 before, record { process = all.1; turn = all.2; payload = all.3; reply = reply })
+
 -- two messages of one priority leave in the order in which they were sent
 abbrev two_of_one_priority : Past
 two_of_one_priority =
@@ -40,22 +70,7 @@ two_of_one_priority =
 
 pub two_of_one_priority-legal : Legal two_of_one_priority
 unfolding descriptor_numbers
-two_of_one_priority-legal = (
-  (
-    (
-      (
-        (
-          tt,
-          record { process = refl; turn = refl; payload = refl; reply = refl },
-        ),
-        record { process = refl; turn = refl; payload = refl; reply = refl },
-      ),
-      record { process = refl; turn = refl; payload = refl; reply = refl },
-    ),
-    record { process = refl; turn = refl; payload = refl; reply = refl },
-  ),
-  record { process = refl; turn = refl; payload = refl; reply = refl },
-)
+two_of_one_priority-legal = legal-by-replies two_of_one_priority refl refl
 
 -- the highest priority leaves first; 32,768 is not a priority
 abbrev highest_priority_first : Past
@@ -72,31 +87,7 @@ highest_priority_first =
 
 pub highest_priority_first-legal : Legal highest_priority_first
 unfolding descriptor_numbers
-highest_priority_first-legal = (
-  (
-    (
-      (
-        (
-          (
-            (
-              (
-                tt,
-                record { process = refl; turn = refl; payload = refl; reply = refl },
-              ),
-              record { process = refl; turn = refl; payload = refl; reply = refl },
-            ),
-            record { process = refl; turn = refl; payload = refl; reply = refl },
-          ),
-          record { process = refl; turn = refl; payload = refl; reply = refl },
-        ),
-        record { process = refl; turn = refl; payload = refl; reply = refl },
-      ),
-      record { process = refl; turn = refl; payload = refl; reply = refl },
-    ),
-    record { process = refl; turn = refl; payload = refl; reply = refl },
-  ),
-  record { process = refl; turn = refl; payload = refl; reply = refl },
-)
+highest_priority_first-legal = legal-by-replies highest_priority_first refl refl
 
 -- messages of 0 to msgsize bytes; a receive with a shorter buffer fails
 abbrev message_sizes : Past
@@ -113,31 +104,7 @@ message_sizes =
 
 pub message_sizes-legal : Legal message_sizes
 unfolding descriptor_numbers
-message_sizes-legal = (
-  (
-    (
-      (
-        (
-          (
-            (
-              (
-                tt,
-                record { process = refl; turn = refl; payload = refl; reply = refl },
-              ),
-              record { process = refl; turn = refl; payload = refl; reply = refl },
-            ),
-            record { process = refl; turn = refl; payload = refl; reply = refl },
-          ),
-          record { process = refl; turn = refl; payload = refl; reply = refl },
-        ),
-        record { process = refl; turn = refl; payload = refl; reply = refl },
-      ),
-      record { process = refl; turn = refl; payload = refl; reply = refl },
-    ),
-    record { process = refl; turn = refl; payload = refl; reply = refl },
-  ),
-  record { process = refl; turn = refl; payload = refl; reply = refl },
-)
+message_sizes-legal = legal-by-replies message_sizes refl refl
 
 -- with a nonblocking descriptor a call fails when it would wait; setattr returns the attributes
 -- from before
@@ -154,28 +121,7 @@ nonblocking =
 
 pub nonblocking-legal : Legal nonblocking
 unfolding descriptor_numbers
-nonblocking-legal = (
-  (
-    (
-      (
-        (
-          (
-            (
-              tt,
-              record { process = refl; turn = refl; payload = refl; reply = refl },
-            ),
-            record { process = refl; turn = refl; payload = refl; reply = refl },
-          ),
-          record { process = refl; turn = refl; payload = refl; reply = refl },
-        ),
-        record { process = refl; turn = refl; payload = refl; reply = refl },
-      ),
-      record { process = refl; turn = refl; payload = refl; reply = refl },
-    ),
-    record { process = refl; turn = refl; payload = refl; reply = refl },
-  ),
-  record { process = refl; turn = refl; payload = refl; reply = refl },
-)
+nonblocking-legal = legal-by-replies nonblocking refl refl
 
 -- access modes, closed descriptors, and the lowest free number
 abbrev access_modes : Past
@@ -194,37 +140,7 @@ access_modes =
 
 pub access_modes-legal : Legal access_modes
 unfolding descriptor_numbers
-access_modes-legal = (
-  (
-    (
-      (
-        (
-          (
-            (
-              (
-                (
-                  (
-                    tt,
-                    record { process = refl; turn = refl; payload = refl; reply = refl },
-                  ),
-                  record { process = refl; turn = refl; payload = refl; reply = refl },
-                ),
-                record { process = refl; turn = refl; payload = refl; reply = refl },
-              ),
-              record { process = refl; turn = refl; payload = refl; reply = refl },
-            ),
-            record { process = refl; turn = refl; payload = refl; reply = refl },
-          ),
-          record { process = refl; turn = refl; payload = refl; reply = refl },
-        ),
-        record { process = refl; turn = refl; payload = refl; reply = refl },
-      ),
-      record { process = refl; turn = refl; payload = refl; reply = refl },
-    ),
-    record { process = refl; turn = refl; payload = refl; reply = refl },
-  ),
-  record { process = refl; turn = refl; payload = refl; reply = refl },
-)
+access_modes-legal = legal-by-replies access_modes refl refl
 
 -- an unlinked queue exists while it is held, beside a new one of the same name
 abbrev unlinked_queue : Past
@@ -243,37 +159,7 @@ unlinked_queue =
 
 pub unlinked_queue-legal : Legal unlinked_queue
 unfolding descriptor_numbers
-unlinked_queue-legal = (
-  (
-    (
-      (
-        (
-          (
-            (
-              (
-                (
-                  (
-                    tt,
-                    record { process = refl; turn = refl; payload = refl; reply = refl },
-                  ),
-                  record { process = refl; turn = refl; payload = refl; reply = refl },
-                ),
-                record { process = refl; turn = refl; payload = refl; reply = refl },
-              ),
-              record { process = refl; turn = refl; payload = refl; reply = refl },
-            ),
-            record { process = refl; turn = refl; payload = refl; reply = refl },
-          ),
-          record { process = refl; turn = refl; payload = refl; reply = refl },
-        ),
-        record { process = refl; turn = refl; payload = refl; reply = refl },
-      ),
-      record { process = refl; turn = refl; payload = refl; reply = refl },
-    ),
-    record { process = refl; turn = refl; payload = refl; reply = refl },
-  ),
-  record { process = refl; turn = refl; payload = refl; reply = refl },
-)
+unlinked_queue-legal = legal-by-replies unlinked_queue refl refl
 
 -- attributes are checked only if a queue is created
 abbrev attributes_given : Past
@@ -295,46 +181,7 @@ attributes_given =
 
 pub attributes_given-legal : Legal attributes_given
 unfolding descriptor_numbers
-attributes_given-legal = (
-  (
-    (
-      (
-        (
-          (
-            (
-              (
-                (
-                  (
-                    (
-                      (
-                        (
-                          tt,
-                          record { process = refl; turn = refl; payload = refl; reply = refl },
-                        ),
-                        record { process = refl; turn = refl; payload = refl; reply = refl },
-                      ),
-                      record { process = refl; turn = refl; payload = refl; reply = refl },
-                    ),
-                    record { process = refl; turn = refl; payload = refl; reply = refl },
-                  ),
-                  record { process = refl; turn = refl; payload = refl; reply = refl },
-                ),
-                record { process = refl; turn = refl; payload = refl; reply = refl },
-              ),
-              record { process = refl; turn = refl; payload = refl; reply = refl },
-            ),
-            record { process = refl; turn = refl; payload = refl; reply = refl },
-          ),
-          record { process = refl; turn = refl; payload = refl; reply = refl },
-        ),
-        record { process = refl; turn = refl; payload = refl; reply = refl },
-      ),
-      record { process = refl; turn = refl; payload = refl; reply = refl },
-    ),
-    record { process = refl; turn = refl; payload = refl; reply = refl },
-  ),
-  record { process = refl; turn = refl; payload = refl; reply = refl },
-)
+attributes_given-legal = legal-by-replies attributes_given refl refl
 
 -- a queue without descriptors exists until its unlink
 abbrev queue_outlives_descriptors : Past
@@ -354,40 +201,7 @@ queue_outlives_descriptors =
 
 pub queue_outlives_descriptors-legal : Legal queue_outlives_descriptors
 unfolding descriptor_numbers
-queue_outlives_descriptors-legal = (
-  (
-    (
-      (
-        (
-          (
-            (
-              (
-                (
-                  (
-                    (
-                      tt,
-                      record { process = refl; turn = refl; payload = refl; reply = refl },
-                    ),
-                    record { process = refl; turn = refl; payload = refl; reply = refl },
-                  ),
-                  record { process = refl; turn = refl; payload = refl; reply = refl },
-                ),
-                record { process = refl; turn = refl; payload = refl; reply = refl },
-              ),
-              record { process = refl; turn = refl; payload = refl; reply = refl },
-            ),
-            record { process = refl; turn = refl; payload = refl; reply = refl },
-          ),
-          record { process = refl; turn = refl; payload = refl; reply = refl },
-        ),
-        record { process = refl; turn = refl; payload = refl; reply = refl },
-      ),
-      record { process = refl; turn = refl; payload = refl; reply = refl },
-    ),
-    record { process = refl; turn = refl; payload = refl; reply = refl },
-  ),
-  record { process = refl; turn = refl; payload = refl; reply = refl },
-)
+queue_outlives_descriptors-legal = legal-by-replies queue_outlives_descriptors refl refl
 
 -- which process may register and remove, and what a close ends
 abbrev registrations : Past
@@ -414,61 +228,7 @@ registrations =
 
 pub registrations-legal : Legal registrations
 unfolding descriptor_numbers
-registrations-legal = (
-  (
-    (
-      (
-        (
-          (
-            (
-              (
-                (
-                  (
-                    (
-                      (
-                        (
-                          (
-                            (
-                              (
-                                (
-                                  (
-                                    tt,
-                                    record { process = refl; turn = refl; payload = refl; reply = refl },
-                                  ),
-                                  record { process = refl; turn = refl; payload = refl; reply = refl },
-                                ),
-                                record { process = refl; turn = refl; payload = refl; reply = refl },
-                              ),
-                              record { process = refl; turn = refl; payload = refl; reply = refl },
-                            ),
-                            record { process = refl; turn = refl; payload = refl; reply = refl },
-                          ),
-                          record { process = refl; turn = refl; payload = refl; reply = refl },
-                        ),
-                        record { process = refl; turn = refl; payload = refl; reply = refl },
-                      ),
-                      record { process = refl; turn = refl; payload = refl; reply = refl },
-                    ),
-                    record { process = refl; turn = refl; payload = refl; reply = refl },
-                  ),
-                  record { process = refl; turn = refl; payload = refl; reply = refl },
-                ),
-                record { process = refl; turn = refl; payload = refl; reply = refl },
-              ),
-              record { process = refl; turn = refl; payload = refl; reply = refl },
-            ),
-            record { process = refl; turn = refl; payload = refl; reply = refl },
-          ),
-          record { process = refl; turn = refl; payload = refl; reply = refl },
-        ),
-        record { process = refl; turn = refl; payload = refl; reply = refl },
-      ),
-      record { process = refl; turn = refl; payload = refl; reply = refl },
-    ),
-    record { process = refl; turn = refl; payload = refl; reply = refl },
-  ),
-  record { process = refl; turn = refl; payload = refl; reply = refl },
-)
+registrations-legal = legal-by-replies registrations refl refl
 
 -- no send works with a closed descriptor
 abbrev closed_descriptor : Past
@@ -483,25 +243,7 @@ closed_descriptor =
 
 pub closed_descriptor-legal : Legal closed_descriptor
 unfolding descriptor_numbers
-closed_descriptor-legal = (
-  (
-    (
-      (
-        (
-          (
-            tt,
-            record { process = refl; turn = refl; payload = refl; reply = refl },
-          ),
-          record { process = refl; turn = refl; payload = refl; reply = refl },
-        ),
-        record { process = refl; turn = refl; payload = refl; reply = refl },
-      ),
-      record { process = refl; turn = refl; payload = refl; reply = refl },
-    ),
-    record { process = refl; turn = refl; payload = refl; reply = refl },
-  ),
-  record { process = refl; turn = refl; payload = refl; reply = refl },
-)
+closed_descriptor-legal = legal-by-replies closed_descriptor refl refl
 
 -- a message that arrives at a queue that is not empty leaves the registration, and two notices come
 -- oldest first
@@ -525,49 +267,7 @@ pending_notices =
 
 pub pending_notices-legal : Legal pending_notices
 unfolding descriptor_numbers
-pending_notices-legal = (
-  (
-    (
-      (
-        (
-          (
-            (
-              (
-                (
-                  (
-                    (
-                      (
-                        (
-                          (
-                            tt,
-                            record { process = refl; turn = refl; payload = refl; reply = refl },
-                          ),
-                          record { process = refl; turn = refl; payload = refl; reply = refl },
-                        ),
-                        record { process = refl; turn = refl; payload = refl; reply = refl },
-                      ),
-                      record { process = refl; turn = refl; payload = refl; reply = refl },
-                    ),
-                    record { process = refl; turn = refl; payload = refl; reply = refl },
-                  ),
-                  record { process = refl; turn = refl; payload = refl; reply = refl },
-                ),
-                record { process = refl; turn = refl; payload = refl; reply = refl },
-              ),
-              record { process = refl; turn = refl; payload = refl; reply = refl },
-            ),
-            record { process = refl; turn = refl; payload = refl; reply = refl },
-          ),
-          record { process = refl; turn = refl; payload = refl; reply = refl },
-        ),
-        record { process = refl; turn = refl; payload = refl; reply = refl },
-      ),
-      record { process = refl; turn = refl; payload = refl; reply = refl },
-    ),
-    record { process = refl; turn = refl; payload = refl; reply = refl },
-  ),
-  record { process = refl; turn = refl; payload = refl; reply = refl },
-)
+pending_notices-legal = legal-by-replies pending_notices refl refl
 
 -- a removal on one queue leaves a registration on another, and works through any descriptor for its
 -- queue
@@ -587,37 +287,7 @@ removal_of_one_queue =
 
 pub removal_of_one_queue-legal : Legal removal_of_one_queue
 unfolding descriptor_numbers
-removal_of_one_queue-legal = (
-  (
-    (
-      (
-        (
-          (
-            (
-              (
-                (
-                  (
-                    tt,
-                    record { process = refl; turn = refl; payload = refl; reply = refl },
-                  ),
-                  record { process = refl; turn = refl; payload = refl; reply = refl },
-                ),
-                record { process = refl; turn = refl; payload = refl; reply = refl },
-              ),
-              record { process = refl; turn = refl; payload = refl; reply = refl },
-            ),
-            record { process = refl; turn = refl; payload = refl; reply = refl },
-          ),
-          record { process = refl; turn = refl; payload = refl; reply = refl },
-        ),
-        record { process = refl; turn = refl; payload = refl; reply = refl },
-      ),
-      record { process = refl; turn = refl; payload = refl; reply = refl },
-    ),
-    record { process = refl; turn = refl; payload = refl; reply = refl },
-  ),
-  record { process = refl; turn = refl; payload = refl; reply = refl },
-)
+removal_of_one_queue-legal = legal-by-replies removal_of_one_queue refl refl
 
 -- a name has up to 255 bytes after its slash
 abbrev longest_name : Past
@@ -628,10 +298,4 @@ longest_name =
 
 pub longest_name-legal : Legal longest_name
 unfolding descriptor_numbers
-longest_name-legal = (
-  (
-    tt,
-    record { process = refl; turn = refl; payload = refl; reply = refl },
-  ),
-  record { process = refl; turn = refl; payload = refl; reply = refl },
-)
+longest_name-legal = legal-by-replies longest_name refl refl

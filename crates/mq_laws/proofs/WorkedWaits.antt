@@ -7,7 +7,7 @@ use Rattle.mq_model.specs.Legality.{Legal}
 use Rattle.mq_model.specs.declared.entries.Access.TheVariants.{Read, Write, Both}
 use Rattle.mq_model.specs.declared.entries.Call.TheVariants.{MqSend, MqReceive, MqNotify, NextNotice, Collect}
 use Rattle.mq_model.specs.declared.entries.Reply.TheVariants.{Opened, Queued, Handed, Waits, Got, Collected, Notice, Done}
-use Rattle.mq_laws.proofs.WorkedJournals.{made, opening, opening_with}
+use Rattle.mq_laws.proofs.WorkedJournals.{legal-by-replies, made, opening, opening_with}
 
 -- the receive that has waited longest is served first, and no process is notified
 abbrev oldest_receive_first : Past
@@ -30,49 +30,7 @@ oldest_receive_first =
 
 pub oldest_receive_first-legal : Legal oldest_receive_first
 unfolding descriptor_numbers
-oldest_receive_first-legal = (
-  (
-    (
-      (
-        (
-          (
-            (
-              (
-                (
-                  (
-                    (
-                      (
-                        (
-                          (
-                            tt,
-                            record { process = refl; turn = refl; payload = refl; reply = refl },
-                          ),
-                          record { process = refl; turn = refl; payload = refl; reply = refl },
-                        ),
-                        record { process = refl; turn = refl; payload = refl; reply = refl },
-                      ),
-                      record { process = refl; turn = refl; payload = refl; reply = refl },
-                    ),
-                    record { process = refl; turn = refl; payload = refl; reply = refl },
-                  ),
-                  record { process = refl; turn = refl; payload = refl; reply = refl },
-                ),
-                record { process = refl; turn = refl; payload = refl; reply = refl },
-              ),
-              record { process = refl; turn = refl; payload = refl; reply = refl },
-            ),
-            record { process = refl; turn = refl; payload = refl; reply = refl },
-          ),
-          record { process = refl; turn = refl; payload = refl; reply = refl },
-        ),
-        record { process = refl; turn = refl; payload = refl; reply = refl },
-      ),
-      record { process = refl; turn = refl; payload = refl; reply = refl },
-    ),
-    record { process = refl; turn = refl; payload = refl; reply = refl },
-  ),
-  record { process = refl; turn = refl; payload = refl; reply = refl },
-)
+oldest_receive_first-legal = legal-by-replies oldest_receive_first refl refl
 
 -- a waiting message that enters an emptied queue gives a notice
 abbrev admission_notifies : Past
@@ -90,34 +48,7 @@ admission_notifies =
 
 pub admission_notifies-legal : Legal admission_notifies
 unfolding descriptor_numbers
-admission_notifies-legal = (
-  (
-    (
-      (
-        (
-          (
-            (
-              (
-                (
-                  tt,
-                  record { process = refl; turn = refl; payload = refl; reply = refl },
-                ),
-                record { process = refl; turn = refl; payload = refl; reply = refl },
-              ),
-              record { process = refl; turn = refl; payload = refl; reply = refl },
-            ),
-            record { process = refl; turn = refl; payload = refl; reply = refl },
-          ),
-          record { process = refl; turn = refl; payload = refl; reply = refl },
-        ),
-        record { process = refl; turn = refl; payload = refl; reply = refl },
-      ),
-      record { process = refl; turn = refl; payload = refl; reply = refl },
-    ),
-    record { process = refl; turn = refl; payload = refl; reply = refl },
-  ),
-  record { process = refl; turn = refl; payload = refl; reply = refl },
-)
+admission_notifies-legal = legal-by-replies admission_notifies refl refl
 
 -- the send that has waited longest is admitted first, whatever its priority
 abbrev oldest_send_first : Past
@@ -140,49 +71,7 @@ oldest_send_first =
 
 pub oldest_send_first-legal : Legal oldest_send_first
 unfolding descriptor_numbers
-oldest_send_first-legal = (
-  (
-    (
-      (
-        (
-          (
-            (
-              (
-                (
-                  (
-                    (
-                      (
-                        (
-                          (
-                            tt,
-                            record { process = refl; turn = refl; payload = refl; reply = refl },
-                          ),
-                          record { process = refl; turn = refl; payload = refl; reply = refl },
-                        ),
-                        record { process = refl; turn = refl; payload = refl; reply = refl },
-                      ),
-                      record { process = refl; turn = refl; payload = refl; reply = refl },
-                    ),
-                    record { process = refl; turn = refl; payload = refl; reply = refl },
-                  ),
-                  record { process = refl; turn = refl; payload = refl; reply = refl },
-                ),
-                record { process = refl; turn = refl; payload = refl; reply = refl },
-              ),
-              record { process = refl; turn = refl; payload = refl; reply = refl },
-            ),
-            record { process = refl; turn = refl; payload = refl; reply = refl },
-          ),
-          record { process = refl; turn = refl; payload = refl; reply = refl },
-        ),
-        record { process = refl; turn = refl; payload = refl; reply = refl },
-      ),
-      record { process = refl; turn = refl; payload = refl; reply = refl },
-    ),
-    record { process = refl; turn = refl; payload = refl; reply = refl },
-  ),
-  record { process = refl; turn = refl; payload = refl; reply = refl },
-)
+oldest_send_first-legal = legal-by-replies oldest_send_first refl refl
 
 -- a receive that waits and a send that waits, each with its collect
 abbrev blocked_calls : Past
@@ -200,31 +89,4 @@ blocked_calls =
 
 pub blocked_calls-legal : Legal blocked_calls
 unfolding descriptor_numbers
-blocked_calls-legal = (
-  (
-    (
-      (
-        (
-          (
-            (
-              (
-                (
-                  tt,
-                  record { process = refl; turn = refl; payload = refl; reply = refl },
-                ),
-                record { process = refl; turn = refl; payload = refl; reply = refl },
-              ),
-              record { process = refl; turn = refl; payload = refl; reply = refl },
-            ),
-            record { process = refl; turn = refl; payload = refl; reply = refl },
-          ),
-          record { process = refl; turn = refl; payload = refl; reply = refl },
-        ),
-        record { process = refl; turn = refl; payload = refl; reply = refl },
-      ),
-      record { process = refl; turn = refl; payload = refl; reply = refl },
-    ),
-    record { process = refl; turn = refl; payload = refl; reply = refl },
-  ),
-  record { process = refl; turn = refl; payload = refl; reply = refl },
-)
+blocked_calls-legal = legal-by-replies blocked_calls refl refl
