@@ -118,9 +118,8 @@ call-size (call.MqTimedReceive d room until now) fits = omega (
 call-size (call.MqGetattr d) fits = omega (arith, small-length d fits)
 call-size (call.MqSetattr d nonblock) fits = omega (arith, small-length d fits, flag-length nonblock)
 call-size (call.MqNotify d value) fits = omega (arith, small-length d fits.0, number_or-length (codes "-") value (omega arith) fits.1)
-call-size call.NextNotice fits = omega arith
-call-size call.Collect fits = omega arith
 call-size (call.Withdraw now) fits = omega (arith, moment-size (codes "at") now (omega arith) fits)
+call-size call fits = omega arith
 
 -- ---- replies
 

@@ -171,7 +171,6 @@ pub call_again : (c : Call) (ws : List Word) → CallFits c → IsNoLimit ws →
 unfolding call_at word_at verb_written
 call_again (call.MqOpen flags attr) ws fits other = open_again flags attr ws fits other
 call_again (call.MqClose d) ws fits other = close_again d ws fits
-call_again call.MqUnlink ws fits other = refl
 call_again (call.MqSend d prio len) ws fits other = send_again d prio len ws fits.0 fits.1 fits.2
 call_again (call.MqReceive d room) ws fits other = receive_again d room ws fits.0 fits.1
 call_again (call.MqTimedSend d prio len until now) ws fits other = timed_send_again d prio len until now ws fits.0 fits.1 fits.2 fits.3 fits.4
@@ -179,9 +178,8 @@ call_again (call.MqTimedReceive d room until now) ws fits other = timed_receive_
 call_again (call.MqGetattr d) ws fits other = getattr_again d ws fits
 call_again (call.MqSetattr d nonblock) ws fits other = setattr_again d nonblock ws fits
 call_again (call.MqNotify d value) ws fits other = notify_again d value ws fits.0 fits.1
-call_again call.NextNotice ws fits other = refl
-call_again call.Collect ws fits other = refl
 call_again (call.Withdraw now) ws fits other = withdraw_again now ws fits
+call_again call ws fits other = refl
 
 -- ---- the words of a call are words
 
@@ -232,6 +230,5 @@ call-words (call.MqTimedReceive d room until now) fits = (
 call-words (call.MqGetattr d) fits = (refl, (word-small d fits, tt))
 call-words (call.MqSetattr d nonblock) fits = (refl, (word-small d fits, (flag-word nonblock, tt)))
 call-words (call.MqNotify d value) fits = (refl, (word-small d fits.0, (number_or-word (codes "-") value refl fits.1, tt)))
-call-words call.NextNotice fits = (refl, tt)
-call-words call.Collect fits = (refl, tt)
 call-words (call.Withdraw now) fits = (refl, (refl, (word-signed now.sec fits.0, (word-signed now.nsec fits.1, tt))))
+call-words call fits = (refl, tt)

@@ -100,14 +100,13 @@ unfolding reply_at word_at kind_written
 reply_again (reply.Opened d created) fits = opened_again d created fits
 reply_again (reply.Queued notified) fits = queued_again notified fits
 reply_again (reply.Handed wait) fits = handed_again wait fits
-reply_again reply.Waits fits = refl
 reply_again (reply.Got place admitted notified) fits = got_again place admitted notified fits.0 fits.1 fits.2
 reply_again (reply.Collected by) fits = collected_again by fits
 reply_again (reply.Withdrawn wait) fits = withdrawn_again wait fits
 reply_again (reply.Attrs status) fits = attrs_again status fits
 reply_again (reply.Notice value) fits = notice_again value fits
-reply_again reply.Done fits = refl
 reply_again (reply.Refused f) fits = refused_again f
+reply_again reply fits = refl
 
 -- ---- the words of a reply are words
 
@@ -139,11 +138,10 @@ reply-words (reply.Opened d true) fits = (refl, (word-decimal d (omega (arith, f
 reply-words (reply.Opened d false) fits = (refl, (word-decimal d (omega (arith, fits)), tt))
 reply-words (reply.Queued notified) fits = (refl, place-words (codes "notified") notified refl fits)
 reply-words (reply.Handed wait) fits = (refl, (word-decimal wait fits, tt))
-reply-words reply.Waits fits = (refl, tt)
 reply-words (reply.Got place admitted notified) fits = (refl, (word-decimal place fits.0, places-words admitted notified fits.1 fits.2))
 reply-words (reply.Collected by) fits = (refl, (word-decimal by fits, tt))
 reply-words (reply.Withdrawn wait) fits = (refl, (word-decimal wait fits, tt))
 reply-words (reply.Attrs status) fits = (refl, (flag-word status.nonblock, (word-signed status.maxmsg fits.0, (word-signed status.msgsize fits.1, (word-signed status.curmsgs fits.2, tt)))))
 reply-words (reply.Notice value) fits = (refl, (number_or-word (codes "none") value refl fits, tt))
-reply-words reply.Done fits = (refl, tt)
 reply-words (reply.Refused f) fits = (fault-word f, tt)
+reply-words reply fits = (refl, tt)
