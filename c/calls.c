@@ -316,6 +316,8 @@ static __attribute__((noinline)) outcome go_on(uint32_t d, const request *asked,
     found.count = 0;
     if (answer == YAK_DONE)
         handed = program_record(d, asked);
+    if (answer == YAK_AGAIN && !asked->is_send)
+        the_program.is_empty[the_program.tables.descriptions[d].queue] = !the_program.is_stored;
     if (answer == YAK_AGAIN && !the_program.nonblock[d])
         end = program_wait(&process, d, asked, message, &cancelling);
     if (end.fate < LOST) {

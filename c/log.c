@@ -448,6 +448,7 @@ unsigned did_hand(uint32_t d, const uint8_t *bytes, size_t len, uint32_t prio)
         note(head, &waiter, sizeof waiter, bytes);
         apply_keep(waiter, &message);
         show_hand(waiter);
+        the_program.is_empty[it->queue] = true;
     } else if (the_program.is_logged) {
         /* The message stays in the queue, where the receiver finds it when it wakes. */
         log_message(true, d, bytes, len, prio);
@@ -734,6 +735,7 @@ bool log_replay(void)
     arena_turn();
     memset(the_program.processes, 0, sizeof the_program.processes);
     memset(&the_program.tables, 0, sizeof the_program.tables);
+    memset(the_program.is_empty, 0, sizeof the_program.is_empty);
     the_program.tables.waiters = the_program.tables.idle = UINT32_MAX & ~(1u << DISPATCHER);
     if (make(the_program.processes, PROCESSES) != YAK_DONE)
         return false;

@@ -9,6 +9,9 @@
  * of messages, which wait is served, and every error. If the program has more than 16 open
  * descriptions, waiters become dispatchers, from process 32 down.
  *
+ * While a queue is known to be empty, a receive is not tried by the dispatcher before it waits: the
+ * library would only say that it would wait (program_finds_empty).
+ *
  * A receive that waits alone is one that nobody else could be served before or behind: no other
  * call waits on its queue, and no notification is registered. Its waiter does not begin the call in
  * the library yet. The next send to the queue makes both calls, first its own and then the receive
@@ -242,6 +245,9 @@ typedef struct program {
     yak_process processes[PROCESSES];
     tables tables;
     bool nonblock[DESCRIPTIONS];
+    /* Whether the library has said that a queue is empty, and nothing was sent to it since. Never if
+       the journal is stored, since that has an entry for each call. */
+    bool is_empty[QUEUES];
     /* The names of the queues for the reports, also of unlinked ones. */
     size_t lens[QUEUES];
     uint8_t names[QUEUES][LONGEST_NAME];
@@ -488,6 +494,15 @@ static inline bool program_is_same_queue(uint32_t one, uint32_t other)
     return first->made != 0 && second->made != 0 && first->queue == second->queue;
 }
 
+/* Whether the library is sure to answer YAK_AGAIN to a receive of a dispatcher: the queue is empty,
+ * the access is right, and the buffer is long enough. */
+static inline bool program_finds_empty(uint32_t d, size_t len)
+{
+    const description *by = &the_program.tables.descriptions[d % DESCRIPTIONS];
+    return the_program.is_empty[by->queue] && d < DESCRIPTIONS && by->access != 1 &&
+           len >= (size_t)the_program.tables.queues[by->queue].msgsize;
+}
+
 /* A send or a receive by a dispatcher, which never waits: YAK_AGAIN if it would. */
 static inline __attribute__((always_inline)) uint32_t program_try(bool is_send, uint32_t d,
                                                                   uint8_t *bytes, size_t len,
@@ -497,10 +512,14 @@ static inline __attribute__((always_inline)) uint32_t program_try(bool is_send, 
     yak_process *dispatcher = &the_program.processes[program_dispatcher_of(d)];
     const uint32_t there = program_there(d);
     uint32_t answer;
-    if (is_send)
+    if (is_send) {
+        the_program.is_empty[the_program.tables.descriptions[d % DESCRIPTIONS].queue] = false;
         MADE(answer, yak_proved_start_send(dispatcher, there, bytes, len, prio));
-    else
+    } else if (program_finds_empty(d, len)) {
+        return YAK_AGAIN;
+    } else {
         MADE(answer, yak_proved_start_receive(dispatcher, there, bytes, len, message));
+    }
     program_count(is_send && answer == YAK_DONE ? len : 0);
     return answer;
 }
