@@ -371,6 +371,8 @@ static inline __attribute__((always_inline)) int make(const char *call, bool is_
                                   the_program.polls |
                                   the_program.processes[program_dispatcher_of(d)].answered) == 0,
                              1)) {
+            if (is_send)
+                the_program.is_empty[the_program.tables.descriptions[d].queue] = false;
             program_leave();
             program_thread.has_sent = is_send;
             explored_moved(is_send, d, 0, bytes, is_send ? len : message->len);

@@ -347,8 +347,10 @@ uint32_t did_start(unsigned process, pending *it, const request *asked, yak_mess
     uint32_t answer;
     if (kept == 0)
         return YAK_NOMEMORY;
-    if (it->is_send)
+    if (it->is_send) {
         memcpy(kept, asked->bytes, asked->len);
+        the_program.is_empty[it->queue] = false;
+    }
     answer = start(process, it, asked->bytes, asked->len, message);
     if (answer != YAK_DONE && answer != YAK_WAITS)
         return answer;
@@ -448,10 +450,11 @@ unsigned did_hand(uint32_t d, const uint8_t *bytes, size_t len, uint32_t prio)
         note(head, &waiter, sizeof waiter, bytes);
         apply_keep(waiter, &message);
         show_hand(waiter);
-        the_program.is_empty[it->queue] = true;
-    } else if (the_program.is_logged) {
+    } else {
         /* The message stays in the queue, where the receiver finds it when it wakes. */
-        log_message(true, d, bytes, len, prio);
+        the_program.is_empty[it->queue] = false;
+        if (the_program.is_logged)
+            log_message(true, d, bytes, len, prio);
     }
     atomic_fetch_add(&the_program.news[waiter], 1);
     return waiter;

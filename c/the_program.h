@@ -245,8 +245,8 @@ typedef struct program {
     yak_process processes[PROCESSES];
     tables tables;
     bool nonblock[DESCRIPTIONS];
-    /* Whether the library has said that a queue is empty, and nothing was sent to it since. Never if
-       the journal is stored, since that has an entry for each call. */
+    /* Whether the library has said that a queue is empty, and no message has entered it since.
+       Never if the journal is stored, since that has an entry for each call. */
     bool is_empty[QUEUES];
     /* The names of the queues for the reports, also of unlinked ones. */
     size_t lens[QUEUES];
@@ -512,14 +512,12 @@ static inline __attribute__((always_inline)) uint32_t program_try(bool is_send, 
     yak_process *dispatcher = &the_program.processes[program_dispatcher_of(d)];
     const uint32_t there = program_there(d);
     uint32_t answer;
-    if (is_send) {
-        the_program.is_empty[the_program.tables.descriptions[d % DESCRIPTIONS].queue] = false;
+    if (is_send)
         MADE(answer, yak_proved_start_send(dispatcher, there, bytes, len, prio));
-    } else if (program_finds_empty(d, len)) {
+    else if (program_finds_empty(d, len))
         return YAK_AGAIN;
-    } else {
+    else
         MADE(answer, yak_proved_start_receive(dispatcher, there, bytes, len, message));
-    }
     program_count(is_send && answer == YAK_DONE ? len : 0);
     return answer;
 }
