@@ -7,6 +7,8 @@ from importlib.util import module_from_spec, spec_from_loader
 TOP = os.path.dirname(os.path.dirname(os.path.abspath(__file__)))
 MQRUN = f"{TOP}/crates/mqrun/out/mqrun"
 MQLOG = f"{TOP}/crates/mqlog/out/mqlog"
+# What says which schedule of a program is run next.
+ENGINE = os.environ.get("YAK_ENGINE", f"{TOP}/crates/mqexplore/out/mqexplore")
 PROGRAMS = {"mqrun": MQRUN, "mqlog": MQLOG}
 
 

@@ -1,0 +1,36 @@
+"""Random programs of threads.
+
+A program is a list of words: how many messages a queue can hold, and for each thread a word of its
+operations, each a letter and the digit of its object. c/tests/explored/interpret.c runs them:
+
+  s S   a send of priority 0, of priority 1
+  N T   a send that does not block, or has a deadline
+  r     a receive
+  n t   a receive that does not block, or has a deadline
+  g     how many messages the queue holds
+  l u   a lock of a mutex, and its unlock
+  y     a try to lock a mutex, and the unlock if it succeeds
+  w p q a wait on a semaphore, a post, and a try to wait
+  c k b a wait on a condition variable, a signal, and a broadcast
+"""
+# What a thread may do while it holds a mutex, but lock the other one.
+HELD = ["s0", "r0", "s1", ""]
+
+
+def random_word(dice, letters, most):
+    """One to `most` operations. An L is a mutex that is held during another operation."""
+    word = ""
+    for _ in range(dice.randint(1, most)):
+        letter, i = dice.choice(letters), dice.randint(0, 1)
+        if letter == "L":
+            word += f"l{i}" + dice.choice([*HELD, f"l{1 - i}u{1 - i}"]) + f"u{i}"
+        else:
+            word += f"{letter}{0 if letter in 'ckb' else i}"
+    return word
+
+
+def random_program(dice, letters):
+    """A program of two or three threads with operations of these letters."""
+    threads = dice.choice([2, 2, 3])
+    room = str(dice.choice([1, 2, 3]))
+    return [room, *(random_word(dice, letters, 4 if threads == 2 else 3) for _ in range(threads))]
