@@ -1,7 +1,8 @@
 """Random programs of threads.
 
 A program is a list of words: how many messages a queue can hold, and for each thread a word of its
-operations, each a letter and the digit of its object. c/tests/explored/interpret.c runs them:
+operations, each a letter and the digit of its object. c/tests/explored/interpret.c runs them, and
+simulated_programs.py simulates some of them:
 
   s S   a send of priority 0, of priority 1
   N T   a send that does not block, or has a deadline
@@ -29,8 +30,9 @@ def random_word(dice, letters, most):
     return word
 
 
-def random_program(dice, letters):
-    """A program of two or three threads with operations of these letters."""
+def random_program(dice, letters, most=(4, 3)):
+    """A program of two or three threads with operations of these letters: each has at most
+    `most[0]` if there are two threads, and `most[1]` if there are three."""
     threads = dice.choice([2, 2, 3])
     room = str(dice.choice([1, 2, 3]))
-    return [room, *(random_word(dice, letters, 4 if threads == 2 else 3) for _ in range(threads))]
+    return [room, *(random_word(dice, letters, most[threads - 2]) for _ in range(threads))]
