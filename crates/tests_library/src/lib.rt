@@ -1,7 +1,7 @@
 //! Tests of the library, through the public items of its crates: Lamport's machine and the locks,
-//! the laws of journals, the messages of a queue, the queues of one thread, and the processes. They
-//! are in a crate of their own, so that none of those crates is proved again for them.
-//! `checks/cases/legality` has worked journals.
+//! the laws of journals, the queues of one thread, and the processes. They are in a crate of their
+//! own, so that none of those crates is proved again for them. Which reply a call gets, contracts
+//! say; `checks/cases` has worked journals and scripts.
 #![tactic(auto)]
 
 #[cfg(test)]
@@ -21,4 +21,4 @@ mod refusals;
 #[cfg(test)]
 mod same;
 #[cfg(test)]
-mod slots;
+mod steps;

@@ -3,6 +3,7 @@ ghost use Rattle.std.specs.Prelude.{◌≡◌, ◌≤◌, ℕ, List, [], ◌∷�
 ghost use Rattle.fast_mutex.specs.Items.{Grows, tickets_from};
 
 use crate::refusals::{refuse_all, say_refused};
+use crate::same::same;
 use fast_mutex::{Enter, FastMutex, Lock, Logged, Path, WordLock};
 use std::alloc::{AllocError, Global};
 use std::io::Print;
@@ -128,15 +129,17 @@ fn expect_turns<L: Lock<Notes>, R: Wait + Print + Abort>(
     let one = seats.pop().expect(rt, "two seats");
     let (one, first) = add(rt, &lock, one, 10);
     let (two, second) = add(rt, &lock, two, 20);
-    assert!(rt; first == Ok((None, path, steps)), "the first note");
-    assert!(rt;
-        second == Ok((Some((1, 10)), path, steps)),
-        "the second note"
+    same(rt, first.ok(), Some((None, path, steps)), "the first note");
+    same(
+        rt,
+        second.ok(),
+        Some((Some((1, 10)), path, steps)),
+        "the second note",
     );
     seats.push(one).ok().expect(rt, "room for two seats");
     seats.push(two).ok().expect(rt, "room for two seats");
     let notes = lock.finish(seats).ok().expect(rt, "all seats");
-    assert_eq!(rt; notes.title, 7);
+    same(rt, notes.title, 7, "the title");
     assert_eq!(rt; notes.items.as_slice(), [(1, 10), (2, 20)].as_slice());
 }
 
@@ -163,7 +166,7 @@ fn expect_made<L: Lock<Notes>, R: Print + Abort>(rt: &R, alloc: Global) {
     for n in 1..=32 {
         let notes = no_notes(rt, alloc, 7, 0).expect(rt, "memory");
         let (_lock, seats) = lock_for::<L, R>(rt, alloc, n, notes).expect(rt, "memory");
-        assert_eq!(rt; seats.len(), n as usize);
+        same(rt, seats.len(), n as usize, "the seats");
     }
 }
 

@@ -34,22 +34,7 @@ type Seen = (At, bool, u64);
 type Row = (&'static [u32], &'static [Seen], (u32, u32, Option<u32>));
 
 // In the last row process 2 sets y to 0 while process 1 is at its test of x.
-static ROWS: [Row; 6] = [
-    (
-        &[],
-        &[(At::Rest, false, 0), (At::Rest, false, 0)],
-        (0, 0, None),
-    ),
-    (
-        &[1, 1, 1, 1, 1, 1, 1],
-        &[(At::Rest, false, 7)],
-        (1, 0, None),
-    ),
-    (
-        &[2, 2],
-        &[(At::Rest, false, 0), (At::TestY, true, 2)],
-        (2, 0, None),
-    ),
+static ROWS: [Row; 3] = [
     (
         &[1, 1, 1, 2, 2, 1, 1, 2, 2, 1, 1, 1, 1],
         &[(At::Slow, false, 9), (At::AwaitY, false, 4)],
@@ -90,9 +75,15 @@ fn expect_row<A: Abort + Print>(
     }
     for i in 1..=n {
         let found = (world.at(i), world.b(i), world.steps(i));
-        assert_eq!(rt; Some(&found), wanted.get((i - 1) as usize), "process {i}");
+        let seen = wanted.get((i - 1) as usize).copied();
+        same(rt, Some(found), seen, "a process");
     }
-    assert_eq!(rt; (world.x(), world.y(), world.inside()), words);
+    same(
+        rt,
+        (world.x(), world.y(), world.inside()),
+        words,
+        "the words",
+    );
     Ok(())
 }
 
@@ -102,25 +93,15 @@ fn worked_schedules_lead_where_the_algorithm_says(rt: HostRuntime) -> Result<(),
     world.run(&[1, 1, 1, 1, 1]);
     same(&rt, world.inside(), Some(1), "the process inside");
     for (k, row) in ROWS.iter().enumerate() {
-        expect_row(&rt, rt.alloc(), *row, k == 5)?;
+        expect_row(&rt, rt.alloc(), *row, k == 2)?;
     }
     Ok(())
 }
 
-fn expect_way<A: Abort>(rt: &A, steps: &Vec<u32>, wanted: &[u32]) {
-    assert_eq!(rt; steps.as_slice(), wanted);
-}
-
-// One process is alone; y names the process that is about to scan; the process in its scan waits
-// for the flag of one that has not yet seen that y is not 0; a process is inside.
+// The process in its scan waits for the flag of one that has not yet seen that y is not 0.
 #[test]
-fn ways_lead_inside(rt: HostRuntime) -> Result<(), Fail> {
-    let alloc = rt.alloc();
-    expect_way(&rt, &way_inside(alloc, 3, &[])?, &[1, 1, 1, 1, 1]);
-    let scans = [1, 1, 1, 2, 2, 1, 1, 2, 2];
-    expect_way(&rt, &way_inside(alloc, 2, &scans)?, &[1, 1, 1, 1]);
-    let waits = [1, 1, 1, 2, 2, 1, 1, 1, 1];
-    expect_way(&rt, &way_inside(alloc, 2, &waits)?, &[2, 2, 1, 1]);
-    expect_way(&rt, &way_inside(alloc, 2, &[2, 2, 2, 2, 2, 1])?, &[]);
+fn a_way_leads_inside(rt: HostRuntime) -> Result<(), Fail> {
+    let way = way_inside(rt.alloc(), 2, &[1, 1, 1, 2, 2, 1, 1, 1, 1])?;
+    assert!(rt; way.as_slice() == [2, 2, 1, 1].as_slice());
     Ok(())
 }

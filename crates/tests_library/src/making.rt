@@ -34,3 +34,8 @@ fn memory_of_is_what_the_making_asks_for(rt: HostRuntime) {
         make(&rt, rt.alloc(), n, entries, bytes);
     }
 }
+
+#[test]
+fn bounds_beyond_all_memory_are_refused(rt: HostRuntime) {
+    assert!(rt; Books::bounded(rt.alloc(), 1, u64::MAX, u64::MAX).is_err());
+}

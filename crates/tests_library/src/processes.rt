@@ -1,65 +1,57 @@
-//! Processes over a lock, by functions that are generic over it. What calls in one thread return is
-//! a table of steps.
+//! Processes over Lamport's lock. What calls in one thread return is a table of steps.
 ghost use Rattle.std.specs.Prelude.{◌≡◌, [], IfOk};
 ghost use Rattle.mq.specs.Calls.{IsFree};
 ghost use Rattle.fast_mutex.specs.Items.{tickets_from};
 
+use crate::books::expect_legal;
 use crate::refusals::{refuse_all, say_refused};
-use fast_mutex::{FastMutex, Look};
-use mq::{Guarded, Mq, Process};
-use mq_checker::checker::check_history;
-use mq_model::entries::{Received, Reply};
-use mq_model::faults::Fault;
-use mq_model::journals::Journal;
-use mq_state::collected::Collected;
+use crate::steps::{
+    Ask, CALLS, CREATE, EXACT, KINDS, Kind, LATER, NONE, ONE, OPEN, Outcome, START, Step, WAITING,
+    WITHOUT_MEMORY, ZERO,
+};
+use calls::take;
+use mq::{FastMq, FastProcess, Fault, Journal, Monotonic};
+use mq_model::clock::Clock as Moments;
 use std::alloc::Global;
 use std::io::Print;
 use std::process::Abort;
 use std::sync::Wait;
 use std::time::Clock;
-use steps::{Ask, CREATE, Expected, OPEN, Step, expect_steps};
 
-mod blocked;
-mod bounded;
 mod calls;
-mod deadlines;
 mod ends;
-mod exits;
-mod memory;
-mod steps;
 mod threads;
 mod walks;
 
 /// A system of two processes.
 #[derive(Drop)]
-struct Pair<L: Look<Guarded>> {
-    mq: Mq<L>,
-    one: Process<L>,
-    two: Process<L>,
+struct Pair {
+    mq: FastMq,
+    one: FastProcess,
+    two: FastProcess,
 }
 
-/// The numbers of entries and of bytes of a journal, if it has bounds.
-type Bounds = Option<(u64, u64)>;
-
-fn make<L: Look<Guarded>>(alloc: Global, bounds: Bounds) -> Result<(Mq<L>, Vec<Process<L>>), Fault>
+fn make(alloc: Global, kind: Kind) -> Result<(FastMq, Vec<FastProcess>), Fault>
     ensures { IfOk result (λ made. made.1.items ≡ tickets_from made.0 1 2) }
 {
-    match bounds {
-        None => Mq::<L>::new(alloc, 2),
-        Some((entries, bytes)) => Mq::<L>::bounded(alloc, 2, entries, bytes),
+    match kind {
+        Kind::Stored => FastMq::new(alloc, 2),
+        Kind::Bounded(entries, bytes) => FastMq::bounded(alloc, 2, entries, bytes),
+        Kind::Unstored => FastMq::unstored(alloc, 2),
+        Kind::Prepaid => FastMq::prepaid(alloc, 2),
     }
 }
 
 // A system of two processes. One allocation may be made to fail from outside.
-fn make_pair<L: Look<Guarded>, R: Abort + Print>(rt: &R, alloc: Global, bounds: Bounds) -> Pair<L>
+fn make_pair<R: Abort + Print>(rt: &R, alloc: Global, kind: Kind) -> Pair
     ensures one { (result.one.lock ≡ result.mq) × IsFree result.one }
     ensures two { (result.two.lock ≡ result.mq) × IsFree result.two }
 {
-    let (mq, mut processes) = match make::<L>(alloc, bounds) {
+    let (mq, mut processes) = match make(alloc, kind) {
         Ok(made) => made,
         Err(_) => {
             say_refused(rt, "the making");
-            make::<L>(alloc, bounds).ok().expect(rt, "memory")
+            make(alloc, kind).ok().expect(rt, "memory")
         }
     };
     let two = processes.pop().unwrap();
@@ -68,7 +60,7 @@ fn make_pair<L: Look<Guarded>, R: Abort + Print>(rt: &R, alloc: Global, bounds: 
 }
 
 // Room for two processes. One allocation may be made to fail from outside.
-fn room<L: Look<Guarded>, R: Abort + Print>(rt: &R, alloc: Global) -> Vec<Process<L>>
+fn room<R: Abort + Print>(rt: &R, alloc: Global) -> Vec<FastProcess>
     ensures { result.items ≡ [] }
 {
     match Vec::with_capacity(alloc, 2) {
@@ -81,12 +73,12 @@ fn room<L: Look<Guarded>, R: Abort + Print>(rt: &R, alloc: Global) -> Vec<Proces
 }
 
 // The end with both processes, which returns the journal.
-fn finish<L: Look<Guarded>, A: Abort>(
+fn finish<A: Abort>(
     rt: &A,
-    mut processes: Vec<Process<L>>,
-    mq: Mq<L>,
-    one: Process<L>,
-    two: Process<L>,
+    mut processes: Vec<FastProcess>,
+    mq: FastMq,
+    one: FastProcess,
+    two: FastProcess,
 ) -> Journal
     requires room { processes.items ≡ [] }
     requires one { one.lock ≡ mq }
@@ -98,163 +90,96 @@ fn finish<L: Look<Guarded>, A: Abort>(
     mq.finish(processes).ok().expect(rt, "both processes")
 }
 
-// The journal after the steps of two processes in one thread. After the first steps every
-// allocation may be made to fail from outside.
-fn after<L: Look<Guarded>, R: Wait + Clock + Abort + Print>(
+// The legal journal, of this number of entries, after the steps of two processes in one thread.
+// After the first steps every allocation may be made to fail from outside.
+fn expect<R: Wait + Clock + Abort + Print>(
     rt: &R,
     alloc: Global,
-    bounds: Bounds,
-    (steps, marked): (&[Step], &[Step]),
-) -> Journal {
+    kind: Kind,
+    (first, marked): (&[Step], &[Step]),
+    entries: u64,
+) {
     let processes = room(rt, alloc);
     let Pair {
         mq,
         mut one,
         mut two,
-    } = make_pair::<L, R>(rt, alloc, bounds);
-    expect_steps(rt, &mq, &mut one, &mut two, steps);
+    } = make_pair(rt, alloc, kind);
+    take(rt, &mq, &mut one, &mut two, first);
     refuse_all(rt, alloc);
-    expect_steps(rt, &mq, &mut one, &mut two, marked);
-    finish(rt, processes, mq, one, two)
+    take(rt, &mq, &mut one, &mut two, marked);
+    expect_legal(rt, &finish(rt, processes, mq, one, two), entries);
 }
 
-// Over Lamport's lock, the journal after the steps has these processes and replies.
-fn expect<R: Wait + Clock + Abort + Print>(
-    rt: &R,
-    alloc: Global,
-    bounds: Bounds,
-    steps: (&[Step], &[Step]),
-    wanted: &[(u32, Reply)],
-) {
-    let journal = after::<FastMutex<Guarded>, R>(rt, alloc, bounds, steps);
-    expect_journal(rt, &journal, wanted);
-}
+// The calls of processes alone. A process is blocked from the call that waits to the entry that
+// answers its wait, and not until its collect.
+static BESIDE: [Step; 17] = [
+    (1, Ask::ProcessNumber, Outcome::Number(Some(1))),
+    (2, Ask::ProcessNumber, Outcome::Number(Some(2))),
+    (1, Ask::Open(b"/q", CREATE, ONE), ZERO),
+    (2, Ask::Open(b"/q", OPEN, None), ZERO),
+    (1, Ask::BlockingSend(0, b"a", 1), Outcome::Done),
+    (2, Ask::BlockingReceive(0), Outcome::Got),
+    (1, Ask::BlockingTimedSend(0, b"b", 1, 0), Outcome::Done),
+    (2, Ask::BlockingTimedReceive(0, 0), Outcome::Got),
+    (1, Ask::AreBlocked(&[1]), Outcome::Is(false)),
+    (1, Ask::Receive(0), Outcome::Waits),
+    (1, Ask::AreBlocked(&[1]), Outcome::Is(true)),
+    (2, Ask::AreBlocked(&[1, 2]), Outcome::Is(false)),
+    (2, Ask::Send(0, b"c", 0), Outcome::Done),
+    (1, Ask::AreBlocked(&[1]), Outcome::Is(false)),
+    (1, Ask::Collect, Outcome::Got),
+    (1, Ask::Exit, Outcome::Done),
+    (1, Ask::Close(0), Outcome::Refused(Fault::BadDescriptor)),
+];
 
-// The journal is legal, and has exactly these processes and replies.
-fn expect_journal<R: Abort>(rt: &R, journal: &Journal, wanted: &[(u32, Reply)]) {
-    assert_eq!(rt; journal.len(), wanted.len() as u64);
-    for (place, wanted) in (0..).zip(wanted) {
-        let entry = journal.entry(place).expect(rt, "an entry");
-        assert_eq!(rt; (entry.process, entry.reply), *wanted, "at {place}");
+#[test]
+fn every_call_is_made_if_there_is_memory(rt: HostRuntime) {
+    for kind in &KINDS {
+        let Pair {
+            mq,
+            mut one,
+            mut two,
+        } = make_pair(&rt, rt.alloc(), *kind);
+        take(&rt, &mq, &mut one, &mut two, &CALLS);
     }
-    assert_eq!(rt; check_history(journal), Ok(()));
+    expect(&rt, rt.alloc(), Kind::Stored, (&BESIDE, &[]), 11);
 }
 
-static IN_ORDER: [Step; 9] = [
-    (1, Ask::Number, Expected::Number(1)),
-    (2, Ask::Number, Expected::Number(2)),
-    (1, Ask::Open(CREATE, 2), Expected::Opened(0)),
-    (1, Ask::Send(0, b"a", 1), Expected::Done),
-    (1, Ask::Send(0, b"b", 1), Expected::Done),
-    (1, Ask::Receive(0), RECEIVED),
-    (1, Ask::Buffer, Expected::Bytes([b'a', 0, 0, 0, 0, 0, 0, 0])),
-    (1, Ask::Receive(0), RECEIVED),
-    (1, Ask::Buffer, Expected::Bytes([b'b', 0, 0, 0, 0, 0, 0, 0])),
-];
+#[test]
+fn within_bounds_no_call_takes_memory(rt: HostRuntime) {
+    expect(&rt, rt.alloc(), EXACT, (&[], &CALLS), 30);
+}
 
-const RECEIVED: Expected = Expected::Got(Received { len: 1, prio: 1 });
+#[test]
+fn processes_collect_and_queues_end_without_memory(rt: HostRuntime) {
+    let steps: (&[Step], &[Step]) = (&WAITING, &WITHOUT_MEMORY);
+    expect(&rt, rt.alloc(), Kind::Stored, steps, 6);
+}
 
-static BOTH_WAIT: [Step; 21] = [
-    (1, Ask::Open(CREATE, 1), Expected::Opened(0)),
-    (2, Ask::Open(OPEN, 1), Expected::Opened(0)),
-    (1, Ask::StartReceive(0), Expected::Waits),
-    (1, Ask::Waiting, Expected::Room(Some(8))),
-    (1, Ask::Answered, Expected::Is(false)),
-    (1, Ask::Collect, Expected::Came(None)),
-    (2, Ask::Send(0, b"hi", 4), Expected::Done),
-    (1, Ask::Answered, Expected::Is(true)),
-    (1, Ask::Answered, Expected::Is(true)),
+// Each timed call waits for 20 milliseconds.
+static LATE: [Step; 7] = [
+    (1, Ask::Open(b"/q", CREATE, ONE), ZERO),
+    (2, Ask::Open(b"/q", OPEN, None), ZERO),
     (
         1,
-        Ask::Collect,
-        Expected::Came(Some(Collected::Got(Received { len: 2, prio: 4 }))),
+        Ask::BlockingTimedReceive(0, 20),
+        Outcome::Refused(Fault::TimedOut),
     ),
-    (1, Ask::Answered, Expected::Is(false)),
+    (1, Ask::Front, ZERO),
+    (1, Ask::Send(0, b"a", 0), Outcome::Done),
     (
-        1,
-        Ask::Buffer,
-        Expected::Bytes([b'h', b'i', 0, 0, 0, 0, 0, 0]),
+        2,
+        Ask::BlockingTimedSend(0, b"b", 0, 20),
+        Outcome::Refused(Fault::TimedOut),
     ),
-    (2, Ask::StartSend(0, b"a", 0), Expected::Done),
-    (2, Ask::StartSend(0, b"b", 0), Expected::Waits),
-    (2, Ask::Waiting, Expected::Room(Some(0))),
-    (2, Ask::Send(0, b"c", 0), Expected::Nothing),
-    (1, Ask::Waiting, Expected::Room(None)),
-    (
-        1,
-        Ask::Receive(0),
-        Expected::Got(Received { len: 1, prio: 0 }),
-    ),
-    (
-        1,
-        Ask::Buffer,
-        Expected::Bytes([b'a', b'i', 0, 0, 0, 0, 0, 0]),
-    ),
-    (2, Ask::Collect, Expected::Came(Some(Collected::Sent))),
-    (2, Ask::Waiting, Expected::Room(None)),
-];
-
-const CREATED: Reply = Reply::Opened {
-    d: 0,
-    created: true,
-};
-
-const OPENED: Reply = Reply::Opened {
-    d: 0,
-    created: false,
-};
-
-const QUEUED: Reply = Reply::Queued { notified: None };
-
-// The fourth entry hands a message to a waiting receive, and the last but one admits a waiting
-// send.
-static REPLIES: [(u32, Reply); 9] = [
-    (1, CREATED),
-    (2, OPENED),
-    (1, Reply::Waits),
-    (2, Reply::Handed { wait: 2 }),
-    (1, Reply::Collected { by: 3 }),
-    (2, QUEUED),
-    (2, Reply::Waits),
-    (
-        1,
-        Reply::Got {
-            place: 5,
-            admitted: Some(6),
-            notified: None,
-        },
-    ),
-    (2, Reply::Collected { by: 7 }),
+    (1, Ask::Waiting, NONE),
 ];
 
 #[test]
-fn two_processes_in_one_thread_wait_for_each_other(rt: HostRuntime) {
-    expect(&rt, rt.alloc(), None, (&BOTH_WAIT, &[]), &REPLIES);
-}
-
-static REPLIES_IN_ORDER: [(u32, Reply); 5] = [
-    (1, CREATED),
-    (1, QUEUED),
-    (1, QUEUED),
-    (
-        1,
-        Reply::Got {
-            place: 1,
-            admitted: None,
-            notified: None,
-        },
-    ),
-    (
-        1,
-        Reply::Got {
-            place: 2,
-            admitted: None,
-            notified: None,
-        },
-    ),
-];
-
-#[test]
-fn messages_of_one_priority_leave_in_sending_order(rt: HostRuntime) {
-    expect(&rt, rt.alloc(), None, (&IN_ORDER, &[]), &REPLIES_IN_ORDER);
+fn a_wait_is_withdrawn_at_its_deadline_and_not_before(rt: HostRuntime) {
+    let clock = Monotonic::start(&rt).ok().expect(&rt, "a clock");
+    expect(&rt, rt.alloc(), Kind::Stored, (&LATE, &[]), 7);
+    let took = clock.now();
+    assert!(&rt; took.sec > 0 || took.nsec >= 40_000_000);
 }

@@ -2,31 +2,21 @@
 ghost use Rattle.std.specs.Prelude.{◌≡◌};
 ghost use Rattle.mq.specs.Calls.{IsFree};
 
-use super::steps::CREATE;
-use super::{CREATED, Pair, expect_journal, finish, make_pair, room};
+use super::{Pair, finish, make_pair, room};
+use crate::books::expect_legal;
 use crate::refusals::say_refused;
-use fast_mutex::{FastMutex, Look};
-use mq::{Acquisition, Guard, Guarded, Mq, Process};
-use mq_model::entries::{Attr, Call, Entry};
-use mq_model::faults::Fault;
-use mq_model::journals::Journal;
-use mq_model::names::Name;
-use std::alloc::Global;
+use crate::steps::{CREATE, Kind, ONE};
+use mq::{Call, FastAcquisition, FastGuard, FastMq, FastProcess, Fault, Name};
 use std::io::Print;
 use std::process::Abort;
 
-const SMALL: Attr = Attr {
-    maxmsg: 1,
-    msgsize: 8,
-};
-
 const OPEN: Call = Call::MqOpen {
     flags: CREATE,
-    attr: Some(SMALL),
+    attr: ONE,
 };
 
 // The process after it tried to open a queue, and whether memory was refused.
-fn opens<L: Look<Guarded>, A: Abort>(rt: &A, mq: &Mq<L>, guard: Guard<L>) -> (Process<L>, bool)
+fn opens<A: Abort>(rt: &A, mq: &FastMq, guard: FastGuard) -> (FastProcess, bool)
     requires made { guard.process.lock ≡ mq.now }
     requires free { IsFree guard.process }
     ensures { (result.0.lock ≡ mq.now) × IsFree result.0 }
@@ -37,7 +27,7 @@ fn opens<L: Look<Guarded>, A: Abort>(rt: &A, mq: &Mq<L>, guard: Guard<L>) -> (Pr
 }
 
 // The process after it opened a queue. An allocation may be made to fail from outside.
-fn opened<L: Look<Guarded>, R: Abort + Print>(rt: &R, mq: &Mq<L>, guard: Guard<L>) -> Process<L>
+fn opened<R: Abort + Print>(rt: &R, mq: &FastMq, guard: FastGuard) -> FastProcess
     requires made { guard.process.lock ≡ mq.now }
     requires free { IsFree guard.process }
     ensures { (result.lock ≡ mq.now) × IsFree result }
@@ -47,11 +37,11 @@ fn opened<L: Look<Guarded>, R: Abort + Print>(rt: &R, mq: &Mq<L>, guard: Guard<L
         return process;
     }
     say_refused(rt, "an open");
-    opens(rt, mq, inside(rt, mq, process)).0
+    opens(rt, mq, in_by_the_fifth(rt, mq, process)).0
 }
 
 // The process acquires the lock by its fifth step and not before.
-fn in_by_the_fifth<L: Look<Guarded>, A: Abort>(rt: &A, mq: &Mq<L>, process: Process<L>) -> Guard<L>
+fn in_by_the_fifth<A: Abort>(rt: &A, mq: &FastMq, process: FastProcess) -> FastGuard
     requires { process.lock ≡ mq.now }
     ensures { result.process ≡ process }
 {
@@ -65,7 +55,7 @@ fn in_by_the_fifth<L: Look<Guarded>, A: Abort>(rt: &A, mq: &Mq<L>, process: Proc
 }
 
 // The process does not acquire the lock.
-fn kept_out<L: Look<Guarded>, A: Abort>(rt: &A, mq: &Mq<L>, process: Process<L>) -> Acquisition<L>
+fn kept_out<A: Abort>(rt: &A, mq: &FastMq, process: FastProcess) -> FastAcquisition
     requires { process.lock ≡ mq.now }
     ensures { result.process ≡ process }
 {
@@ -76,7 +66,7 @@ fn kept_out<L: Look<Guarded>, A: Abort>(rt: &A, mq: &Mq<L>, process: Process<L>)
 }
 
 // The process acquires the lock and releases it without a call.
-fn in_and_out<L: Look<Guarded>, A: Abort>(rt: &A, mq: &Mq<L>, process: Acquisition<L>) -> Process<L>
+fn in_and_out<A: Abort>(rt: &A, mq: &FastMq, process: FastAcquisition) -> FastProcess
     requires { process.process.lock ≡ mq.now }
     ensures { result.lock ≡ mq.now }
 {
@@ -89,52 +79,13 @@ fn in_and_out<L: Look<Guarded>, A: Abort>(rt: &A, mq: &Mq<L>, process: Acquisiti
 
 // Process 1 acquires the lock by its fifth step and not before, and opens a queue. Meanwhile
 // process 2 does not acquire it; later it acquires it and releases it without a call.
-fn journal_of_walks<L: Look<Guarded>, R: Abort + Print>(rt: &R, alloc: Global) -> Journal {
-    let Pair { mq, one, two } = make_pair::<L, R>(rt, alloc, None);
-    let one = in_by_the_fifth(rt, &mq, one);
-    let two = kept_out(rt, &mq, two);
-    let one = opened(rt, &mq, one);
-    let two = in_and_out(rt, &mq, two);
-    finish(rt, room(rt, alloc), mq, one, two)
-}
-
-// The process that made the only call finds in its critical section that the journal is legal, and
-// its first entry, and no second.
-fn expect_readings<L: Look<Guarded>, R: Abort + Print>(rt: &R, alloc: Global, wanted: &Entry) {
-    let Pair { mq, one, two: _ } = make_pair::<L, R>(rt, alloc, None);
-    let one = opened(rt, &mq, inside(rt, &mq, one));
-    assert!(rt; mq.is_stored(), "the journal is stored");
-    let (one, checked) = inside(rt, &mq, one).check(alloc, &mq);
-    let (one, first) = inside(rt, &mq, one).entry(&mq, 0);
-    let (_, second) = inside(rt, &mq, one).entry(&mq, 1);
-    assert_eq!(rt; (checked, first, second), (Ok(()), Some(*wanted), None));
-}
-
-// The process in its critical section, if no other process holds the lock.
-fn inside<L: Look<Guarded>, A: Abort>(rt: &A, mq: &Mq<L>, process: Process<L>) -> Guard<L>
-    requires { process.lock ≡ mq.now }
-    ensures { result.process ≡ process }
-{
-    process
-        .acquisition(mq)
-        .advance(mq, 5)
-        .ok()
-        .expect(rt, "nobody else inside")
-}
-
-const FIRST: Entry = Entry {
-    process: 1,
-    call: OPEN,
-    reply: CREATED,
-};
-
-#[test]
-fn the_journal_is_read_from_inside(rt: HostRuntime) {
-    expect_readings::<FastMutex<Guarded>, _>(&rt, rt.alloc(), &FIRST);
-}
-
 #[test]
 fn five_steps_lead_inside_where_nobody_else_is(rt: HostRuntime) {
-    let journal = journal_of_walks::<FastMutex<Guarded>, _>(&rt, rt.alloc());
-    expect_journal(&rt, &journal, &[(1, CREATED)]);
+    let Pair { mq, one, two } = make_pair(&rt, rt.alloc(), Kind::Stored);
+    let one = in_by_the_fifth(&rt, &mq, one);
+    let two = kept_out(&rt, &mq, two);
+    let one = opened(&rt, &mq, one);
+    let two = in_and_out(&rt, &mq, two);
+    let journal = finish(&rt, room(&rt, rt.alloc()), mq, one, two);
+    expect_legal(&rt, &journal, 1);
 }

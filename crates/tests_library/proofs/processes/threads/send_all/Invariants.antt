@@ -1,5 +1,6 @@
 use Rattle.std.proofs.Common.{◌≡◌}
+use Rattle.mq.specs.Calls.{IsFree}
 use Rattle.tests_library.proofs.processes.threads.send_all.Given as goal
 
 abbrev pub invariant-numbers : goal.invariant-numbers
-invariant-numbers g l = l.p.lock ≡ l.initial.p.lock
+invariant-numbers g l = (l.p.lock ≡ l.initial.p.lock) × IsFree l.p

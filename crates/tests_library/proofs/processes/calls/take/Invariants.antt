@@ -1,5 +1,5 @@
 use Rattle.std.proofs.Common.{◌≡◌}
-use Rattle.tests_library.proofs.processes.steps.expect_steps.Given as goal
+use Rattle.tests_library.proofs.processes.calls.take.Given as goal
 
 abbrev pub invariant-steps : goal.invariant-steps
 invariant-steps g l = record {
