@@ -1,5 +1,5 @@
-//! What two processes ask, and what they are told. A check takes a third of the time if the lock is
-//! a type parameter.
+//! What two processes ask, and what they are told. The lock is a type parameter: over a known lock a
+//! check takes longer.
 ghost use Rattle.std.specs.Prelude.{◌≡◌};
 ghost use Rattle.mq.specs.Calls.{IsFree};
 
