@@ -498,8 +498,11 @@ static inline bool program_is_same_queue(uint32_t one, uint32_t other)
  * the access is right, and the buffer is long enough. */
 static inline bool program_finds_empty(uint32_t d, size_t len)
 {
-    const description *by = &the_program.tables.descriptions[d % DESCRIPTIONS];
-    return the_program.is_empty[by->queue] && d < DESCRIPTIONS && by->access != 1 &&
+    const description *by;
+    if (d >= DESCRIPTIONS)
+        return false;
+    by = &the_program.tables.descriptions[d];
+    return the_program.is_empty[by->queue] && by->access != 1 &&
            len >= (size_t)the_program.tables.queues[by->queue].msgsize;
 }
 
