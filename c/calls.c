@@ -342,10 +342,9 @@ static __attribute__((noinline)) outcome go_on(uint32_t d, const request *asked,
 }
 
 /* A send or a receive: 0, or -1 with errno. */
-static inline __attribute__((always_inline)) int make(const char *call, bool is_send, mqd_t mqdes,
-                                                      uint8_t *bytes, size_t len, uint32_t prio,
-                                                      yak_message *message,
-                                                      const struct timespec *until)
+static inline __attribute__((always_inline)) int
+make(const char *call, bool is_send, mqd_t mqdes, uint8_t *bytes, size_t len, uint32_t prio,
+     yak_message *message, const struct timespec *until, unsigned cancels)
 {
     yak_moment moment = {0};
     outcome end;
@@ -367,13 +366,17 @@ static inline __attribute__((always_inline)) int make(const char *call, bool is_
         answer = program_try(is_send, d, bytes, len, prio, message);
         if (__builtin_expect(answer == YAK_DONE && the_program.until_large >= 0 &&
                                  (the_program.is_logged | the_program.tables.registered |
-                                  the_program.tables.alone | the_program.overflow |
-                                  the_program.polls |
+                                  the_program.overflow | the_program.polls |
                                   the_program.processes[program_dispatcher_of(d)].answered) == 0,
                              1)) {
-            if (is_send)
+            unsigned waiter = DISPATCHER;
+            if (is_send && the_program.tables.alone != 0)
+                waiter = did_hand(d, bytes, len, prio);
+            if (is_send && waiter == DISPATCHER)
                 the_program.is_empty[the_program.tables.descriptions[d].queue] = false;
             program_leave();
+            if (waiter != DISPATCHER)
+                yak_wake_on_(program_news(waiter), 1);
             program_thread.has_sent = is_send;
             explored_moved(is_send, d, 0, bytes, is_send ? len : message->len);
             return 0;
@@ -384,6 +387,7 @@ static inline __attribute__((always_inline)) int make(const char *call, bool is_
                 .is_send = is_send,
                 .is_timed = until != 0,
                 .is_reply = !is_send && program_thread.has_sent,
+                .cancels = cancels,
                 .until = until != 0 ? moment : program_never,
                 .bytes = bytes,
                 .len = len,
@@ -405,17 +409,26 @@ static inline size_t at_most(size_t len, size_t most)
     return len < most ? len : most;
 }
 
+/* Where a thread may be cancelled before its call. Returns how often the process had called
+ * pthread_cancel before. */
+static inline unsigned begin_call(void)
+{
+    const unsigned cancels = atomic_load(&program_cancels);
+    pthread_testcancel();
+    return cancels;
+}
+
 static inline __attribute__((always_inline)) int send_until(const char *call, mqd_t mqdes,
                                                             const char *bytes, size_t len,
                                                             unsigned prio,
                                                             const struct timespec *until)
 {
     yak_message message = {0};
-    pthread_testcancel();
+    const unsigned cancels = begin_call();
     if (bytes == 0 && len != 0)
         return fails(EFAULT);
     return make(call, true, mqdes, (uint8_t *)(uintptr_t)(len != 0 ? bytes : ""),
-                at_most(len, MOST_BYTES + 1), prio, &message, until);
+                at_most(len, MOST_BYTES + 1), prio, &message, until, cancels);
 }
 
 int mq_send(mqd_t mqdes, const char *bytes, size_t len, unsigned prio)
@@ -436,11 +449,11 @@ static inline __attribute__((always_inline)) ssize_t receive_until(const char *c
 {
     yak_message message = {0};
     uint8_t none = 0;
-    pthread_testcancel();
+    const unsigned cancels = begin_call();
     if (buf == 0 && len != 0)
         return fails(EFAULT);
     if (make(call, false, mqdes, len != 0 ? (uint8_t *)buf : &none, at_most(len, MOST_BYTES), 0,
-             &message, until) != 0)
+             &message, until, cancels) != 0)
         return -1;
     if (prio != 0)
         *prio = message.prio;

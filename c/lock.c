@@ -224,7 +224,7 @@ int program_attend(void)
     shorten();
     if (the_program.is_torn && (error = repair()) != 0)
         return error;
-    __atomic_store_n(&program_here->seen, the_program.arena.openings, __ATOMIC_RELAXED);
+    __atomic_store_n(&program_here->seen, the_program.arena.openings, __ATOMIC_SEQ_CST);
     return 0;
 }
 

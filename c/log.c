@@ -44,18 +44,23 @@ static inline void commit(unsigned log, char *next)
 
 /* Appends and commits the record of a call. If the log has no room, logging ends, and the system
  * can't recover from a death inside the lock any more. */
-static void note(record it, const void *own, size_t own_size, const void *bytes)
+static __attribute__((noinline)) void append(record it, const void *own, size_t own_size,
+                                             const void *bytes)
 {
     const unsigned log = the_program.log;
-    char *next;
-    if (!the_program.is_logged)
-        return;
-    next = log_write(log, the_program.log_next[log], it, own, own_size, bytes);
+    char *next = log_write(log, the_program.log_next[log], it, own, own_size, bytes);
     if (next == 0) {
         the_program.is_logged = false;
         return;
     }
     commit(log, next);
+}
+
+/* The same if calls are logged. */
+static inline void note(record it, const void *own, size_t own_size, const void *bytes)
+{
+    if (__builtin_expect(the_program.is_logged, false))
+        append(it, own, own_size, bytes);
 }
 
 void log_message(bool is_send, uint32_t d, const uint8_t *bytes, size_t len, uint32_t prio)

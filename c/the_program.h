@@ -185,6 +185,7 @@ typedef struct request {
     bool is_send;
     bool is_timed;
     bool is_reply;    /* it is a receive, and the thread's last send or receive was a send */
+    unsigned cancels; /* program_cancels before the call tested for a cancellation */
     yak_moment until; /* program_never if it is not timed */
     uint8_t *bytes;
     size_t len;
@@ -209,6 +210,7 @@ typedef struct waiting {
        message without the lock is still in the list then. */
     _Atomic unsigned number;
     bool is_listed;
+    bool ends_with_thread; /* a destructor is set for it */
     request asked;
     pthread_t thread;
     pid_t tid; /* the kernel's id of its thread */
@@ -217,8 +219,8 @@ typedef struct waiting {
     bool is_cancelled;
     unsigned process; /* DISPATCHER if no waiter was left */
     const void *frame;
-    int cancelling; /* as in an ending */
-    uint8_t name[LONGEST_NAME];
+    int cancelling;             /* as in an ending */
+    uint8_t name[LONGEST_NAME]; /* of its queue, if no waiter has it */
     size_t len;
     ending ended;
     struct waiting *next;
@@ -294,6 +296,8 @@ extern _Thread_local own_thread program_thread;
 /* The wait of this thread, and those of this process. */
 extern _Thread_local waiting program_own_wait;
 extern waiting *program_waits;
+/* How often this process has called pthread_cancel. */
+extern _Atomic unsigned program_cancels;
 
 /* The word on which the wait of a process of the library sleeps. Until the first fork it is private
  * to the operating-system process, which is faster in the kernel. */
