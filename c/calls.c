@@ -304,8 +304,8 @@ static int error_of(outcome it)
 /* What is left of a send or a receive that the dispatcher has tried: its record, or the receive
  * that waited alone for it; a wait; the wakes and notices for others, and a warning. Leaves the
  * lock. */
-static __attribute__((noinline)) outcome go_on(uint32_t d, const request *asked,
-                                               yak_message *message, uint32_t answer)
+YAK_HOT static __attribute__((noinline)) outcome go_on(uint32_t d, const request *asked,
+                                                       yak_message *message, uint32_t answer)
 {
     outcome end = {.answer = answer};
     unsigned process = DISPATCHER;
@@ -431,13 +431,13 @@ static inline __attribute__((always_inline)) int send_until(const char *call, mq
                 at_most(len, MOST_BYTES + 1), prio, &message, until, cancels);
 }
 
-int mq_send(mqd_t mqdes, const char *bytes, size_t len, unsigned prio)
+YAK_HOT int mq_send(mqd_t mqdes, const char *bytes, size_t len, unsigned prio)
 {
     return send_until("mq_send", mqdes, bytes, len, prio, 0);
 }
 
-int mq_timedsend(mqd_t mqdes, const char *bytes, size_t len, unsigned prio,
-                 const struct timespec *until)
+YAK_HOT int mq_timedsend(mqd_t mqdes, const char *bytes, size_t len, unsigned prio,
+                         const struct timespec *until)
 {
     return send_until("mq_timedsend", mqdes, bytes, len, prio, until);
 }
@@ -460,13 +460,13 @@ static inline __attribute__((always_inline)) ssize_t receive_until(const char *c
     return (ssize_t)message.len;
 }
 
-ssize_t mq_receive(mqd_t mqdes, char *buf, size_t len, unsigned *prio)
+YAK_HOT ssize_t mq_receive(mqd_t mqdes, char *buf, size_t len, unsigned *prio)
 {
     return receive_until("mq_receive", mqdes, buf, len, prio, 0);
 }
 
-ssize_t mq_timedreceive(mqd_t mqdes, char *buf, size_t len, unsigned *prio,
-                        const struct timespec *until)
+YAK_HOT ssize_t mq_timedreceive(mqd_t mqdes, char *buf, size_t len, unsigned *prio,
+                                const struct timespec *until)
 {
     return receive_until("mq_timedreceive", mqdes, buf, len, prio, until);
 }

@@ -35,7 +35,7 @@ waiting *program_waits;
 static bool is_first; /* this process made the arena */
 static unsigned forks;
 
-unsigned program_forks(void)
+YAK_HOT unsigned program_forks(void)
 {
     return forks;
 }

@@ -139,6 +139,7 @@ static void apply_open(unsigned process, uint32_t d, const opened *it, const uin
     to->made = it->made;
     to->queue = it->queue;
     to->access = (uint8_t)it->opening.access;
+    to->msgsize = of->msgsize;
     the_program.tables.waiters &= ~(1u << process);
     the_program.tables.idle &= ~(1u << process);
 }
@@ -206,7 +207,7 @@ static void apply_end(unsigned process)
     all->ended &= ~(1u << process);
 }
 
-static void apply_start(unsigned process, const pending *it)
+YAK_HOT static void apply_start(unsigned process, const pending *it)
 {
     the_program.tables.waits[process] = *it;
     if (it->is_open)
@@ -399,7 +400,7 @@ static void show_hand(unsigned process)
                           memory_order_release);
 }
 
-uint32_t did_wait_alone(unsigned process, pending *it)
+YAK_HOT uint32_t did_wait_alone(unsigned process, pending *it)
 {
     const record head = {.what = DID_ALONE, .process = (uint8_t)process};
     if (program_kept(process) == 0)
@@ -427,14 +428,14 @@ static uint32_t enter(unsigned process)
     return answer;
 }
 
-uint32_t did_enter(unsigned slot)
+YAK_HOT uint32_t did_enter(unsigned slot)
 {
     const unsigned process = lone_waiter(slot);
     const uint32_t answer = process != DISPATCHER ? enter(process) : (uint32_t)YAK_WAITS;
     return answer == YAK_WAITS ? (uint32_t)YAK_DONE : answer;
 }
 
-unsigned did_hand(uint32_t d, const uint8_t *bytes, size_t len, uint32_t prio)
+YAK_HOT unsigned did_hand(uint32_t d, const uint8_t *bytes, size_t len, uint32_t prio)
 {
     const unsigned waiter = lone_waiter(the_program.tables.descriptions[d].queue);
     const pending *it = &the_program.tables.waits[waiter];
@@ -465,7 +466,7 @@ unsigned did_hand(uint32_t d, const uint8_t *bytes, size_t len, uint32_t prio)
     return waiter;
 }
 
-bool did_take(unsigned process)
+YAK_HOT bool did_take(unsigned process)
 {
     const record head = {.what = DID_COLLECT, .process = (uint8_t)process};
     if (!is_in_state(process, HAND_TAKEN))

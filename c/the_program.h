@@ -85,6 +85,7 @@ typedef struct description {
     unsigned made; /* the open of the program that made it, counted from 1; 0 if it is unused */
     uint8_t queue;
     uint8_t access;
+    int64_t msgsize; /* of the queue */
 } description;
 
 /* A registration, indexed by the description that it was made with. Its function and its attributes
@@ -119,19 +120,20 @@ typedef struct pending {
     yak_message message;
 } pending;
 
+/* What each call needs stands together, before the rest. */
 typedef struct tables {
-    queue queues[QUEUES];
-    description descriptions[DESCRIPTIONS];
-    registration registrations[DESCRIPTIONS];
-    uint8_t replicas[PROCESSES]
-                    [PER_DISPATCHER]; /* by a waiter's descriptor: its queue plus 1, or 0 */
-    uint32_t holders[QUEUES];         /* the waiters that have a queue open, by bits */
-    pending waits[PROCESSES];
     uint32_t waiters; /* the processes that are not dispatchers, by bits */
     uint32_t idle;    /* the waiters without an open wait */
     uint32_t alone;   /* those with a receive that waits alone */
     uint32_t ended;   /* those with an open wait that has ended */
     uint32_t registered;
+    uint32_t holders[QUEUES]; /* the waiters that have a queue open, by bits */
+    uint8_t replicas[PROCESSES]
+                    [PER_DISPATCHER]; /* by a waiter's descriptor: its queue plus 1, or 0 */
+    description descriptions[DESCRIPTIONS];
+    pending waits[PROCESSES];
+    queue queues[QUEUES];
+    registration registrations[DESCRIPTIONS];
 } tables;
 
 /* ---- messages that are handed over ---- */
@@ -244,24 +246,24 @@ typedef struct program {
     uint64_t serials;
     uint32_t overflow; /* how many calls wait without a waiter */
     uint32_t polls;    /* how many descriptors for poll there are, of all processes */
-    yak_process processes[PROCESSES];
-    tables tables;
-    bool nonblock[DESCRIPTIONS];
+    unsigned log;      /* which of the two logs is in use */
+    char *log_next[2];
+    size_t log_limit;                 /* in bytes: at this size a checkpoint is made */
+    _Atomic uint32_t news[PROCESSES]; /* how often there was news for the wait of a waiter; that of
+                                         the dispatcher is for overflow calls */
+    unsigned seen_closes[PROCESSES];  /* `closes` when a waiter last released what nobody holds */
     /* Whether the library has said that a queue is empty, and no message has entered it since.
        Never if the journal is stored, since that has an entry for each call. */
     bool is_empty[QUEUES];
+    bool nonblock[DESCRIPTIONS];
+    yak_process processes[PROCESSES];
+    hand hands[PROCESSES];
+    tables tables;
+    unsigned owners_used; /* slots from here on are free */
+    owner owners[OWNERS];
     /* The names of the queues for the reports, also of unlinked ones. */
     size_t lens[QUEUES];
     uint8_t names[QUEUES][LONGEST_NAME];
-    unsigned seen_closes[PROCESSES];  /* `closes` when a waiter last released what nobody holds */
-    _Atomic uint32_t news[PROCESSES]; /* how often there was news for the wait of a waiter; that of
-                                         the dispatcher is for overflow calls */
-    hand hands[PROCESSES];
-    unsigned log; /* which of the two logs is in use */
-    char *log_next[2];
-    size_t log_limit;     /* in bytes: at this size a checkpoint is made */
-    unsigned owners_used; /* slots from here on are free */
-    owner owners[OWNERS];
 } program;
 
 /* What this process knows about itself, in a page that a fork wipes. program_after_fork writes it
@@ -506,8 +508,7 @@ static inline bool program_finds_empty(uint32_t d, size_t len)
     if (d >= DESCRIPTIONS)
         return false;
     by = &the_program.tables.descriptions[d];
-    return the_program.is_empty[by->queue] && by->access != 1 &&
-           len >= (size_t)the_program.tables.queues[by->queue].msgsize;
+    return the_program.is_empty[by->queue] && by->access != 1 && len >= (size_t)by->msgsize;
 }
 
 /* A send or a receive by a dispatcher, which never waits: YAK_AGAIN if it would. */

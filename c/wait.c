@@ -56,7 +56,7 @@ static long sleep_and_restart(yak_word_ word, uint32_t value, const yak_sleep_ *
 }
 #endif
 
-int yak_sleep_on_(yak_word_ word, uint32_t value, const yak_sleep_ *sleep)
+YAK_HOT int yak_sleep_on_(yak_word_ word, uint32_t value, const yak_sleep_ *sleep)
 {
 #ifdef __linux__
     const int how = FUTEX_WAIT_BITSET | (word.is_shared ? 0 : FUTEX_PRIVATE_FLAG) |
@@ -76,7 +76,7 @@ int yak_sleep_on_(yak_word_ word, uint32_t value, const yak_sleep_ *sleep)
 #endif
 }
 
-void yak_wake_on_(yak_word_ word, int most)
+YAK_HOT void yak_wake_on_(yak_word_ word, int most)
 {
 #ifdef __linux__
     syscall(SYS_futex, word.at, FUTEX_WAKE | (word.is_shared ? 0 : FUTEX_PRIVATE_FLAG), most, 0, 0,
@@ -294,7 +294,7 @@ static yak_moment now_by(clockid_t clock)
     return moment;
 }
 
-yak_moment yak_now(void)
+YAK_HOT yak_moment yak_now(void)
 {
     return now_by(CLOCK_REALTIME);
 }

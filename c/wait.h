@@ -61,6 +61,10 @@ typedef struct yak_turns_ {
     struct timespec (*now)(void);
 } yak_turns_;
 
+/* For the functions that a message to a waiting receiver passes: they stand together, on few pages.
+ */
+#define YAK_HOT __attribute__((hot))
+
 #pragma GCC visibility push(hidden)
 
 /* Sleeps while the word has the value. Returns 0, possibly spuriously, or EINTR if a signal handler
