@@ -70,7 +70,7 @@ static bool is_good(const struct mq_attr *attr, bool is_written)
 /* A dispatcher with room for another description; PROCESSES if there is none. */
 static unsigned roomy_dispatcher(void)
 {
-    program_close_taken();
+    program_close_taken(UINT32_MAX);
     for (unsigned round = 0; round < 2; ++round) {
         for (uint32_t d = 0; d < DESCRIPTIONS; ++d)
             if (the_program.tables.descriptions[d].made == 0 &&

@@ -202,6 +202,7 @@ static void apply_end(unsigned process)
     tables *all = &the_program.tables;
     all->waits[process].is_open = false;
     all->waits[process].has_ended = false;
+    all->waits_on[all->waits[process].queue] &= ~(1u << process);
     all->idle |= 1u << process;
     all->alone &= ~(1u << process);
     all->ended &= ~(1u << process);
@@ -209,9 +210,12 @@ static void apply_end(unsigned process)
 
 YAK_HOT static void apply_start(unsigned process, const pending *it)
 {
-    the_program.tables.waits[process] = *it;
-    if (it->is_open)
-        the_program.tables.idle &= ~(1u << process);
+    tables *all = &the_program.tables;
+    all->waits[process] = *it;
+    if (!it->is_open)
+        return;
+    all->idle &= ~(1u << process);
+    all->waits_on[it->queue] |= 1u << process;
 }
 
 static void apply_alone(unsigned process, const pending *it)
@@ -226,6 +230,7 @@ static void apply_keep(unsigned process, const yak_message *message)
     pending *it = &the_program.tables.waits[process];
     it->has_ended = true;
     it->message = *message;
+    the_program.tables.waits_on[it->queue] &= ~(1u << process);
     the_program.tables.alone &= ~(1u << process);
     the_program.tables.ended |= 1u << process;
 }
@@ -377,11 +382,8 @@ static bool is_alone(unsigned process)
 /* The waiter with the receive that waits alone on a queue; DISPATCHER if there is none. */
 static unsigned lone_waiter(unsigned slot)
 {
-    const tables *all = &the_program.tables;
-    for (uint32_t left = all->alone & all->holders[slot]; left != 0; left &= left - 1)
-        if (all->waits[__builtin_ctz(left)].queue == slot)
-            return (unsigned)__builtin_ctz(left);
-    return DISPATCHER;
+    const uint32_t lone = the_program.tables.alone & the_program.tables.waits_on[slot];
+    return lone != 0 ? (unsigned)__builtin_ctz(lone) : (unsigned)DISPATCHER;
 }
 
 static bool is_in_state(unsigned process, unsigned state)

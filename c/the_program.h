@@ -127,7 +127,8 @@ typedef struct tables {
     uint32_t alone;   /* those with a receive that waits alone */
     uint32_t ended;   /* those with an open wait that has ended */
     uint32_t registered;
-    uint32_t holders[QUEUES]; /* the waiters that have a queue open, by bits */
+    uint32_t holders[QUEUES];  /* the waiters that have a queue open, by bits */
+    uint32_t waits_on[QUEUES]; /* those with an open wait on it that has not ended */
     uint8_t replicas[PROCESSES]
                     [PER_DISPATCHER]; /* by a waiter's descriptor: its queue plus 1, or 0 */
     description descriptions[DESCRIPTIONS];
@@ -538,8 +539,8 @@ uint32_t program_record(uint32_t d, const request *asked);
 unsigned program_choose(uint32_t d, uint32_t *there);
 /* Makes a waiter whose wait has ended close the queues that nobody has open any more. */
 void program_release(unsigned process);
-/* Closes the waits whose threads have taken their messages without the lock. */
-void program_close_taken(void);
+/* Closes the waits of these waiters whose threads have taken their messages without the lock. */
+void program_close_taken(uint32_t among);
 /* Makes all idle waiters open the queue with this name, before it is unlinked. */
 void program_replicate_all(const uint8_t *name, size_t len);
 /* Makes a waiter a dispatcher: false if it has an open wait, or keeps a descriptor. */
