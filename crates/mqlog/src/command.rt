@@ -21,18 +21,32 @@ Exit status:
 
 /// The command line, as `clap` describes it.
 pub fn command<'a>(alloc: Global) -> Result<Command<'a>, AllocError> {
-    Command::new(alloc, "mqlog")
+    let command = Command::new(alloc, "mqlog")
         .version(VERSION)
         .about("Writes, checks, draws, searches and judges journals of message queue calls")
         .after_help(STATUSES)
-        .subcommand_required(true)
+        .subcommand_required(true);
+    let command = with_runs(alloc, command)?;
+    let command = with_checks(alloc, command)?;
+    let command = with_views(alloc, command)?;
+    with_searches(alloc, command)
+}
+
+// Adds the tasks that run scripts.
+fn with_runs<'a>(alloc: Global, command: Command<'a>) -> Result<Command<'a>, AllocError> {
+    command
         .subcommand(task(alloc, "run", "Runs a script, and writes its journal")?)?
         .subcommand(resume(alloc)?)?
         .subcommand(task(
             alloc,
             "history",
             "Runs a script, and writes the history of its calls",
-        )?)?
+        )?)
+}
+
+// Adds the tasks that check a journal, or shorten it.
+fn with_checks<'a>(alloc: Global, command: Command<'a>) -> Result<Command<'a>, AllocError> {
+    command
         .subcommand(task(
             alloc,
             "check",
@@ -42,14 +56,24 @@ pub fn command<'a>(alloc: Global) -> Result<Command<'a>, AllocError> {
             alloc,
             "compact",
             "Writes a short journal that leaves the same state",
-        )?)?
+        )?)
+}
+
+// Adds the tasks that show a journal.
+fn with_views<'a>(alloc: Global, command: Command<'a>) -> Result<Command<'a>, AllocError> {
+    command
         .subcommand(windowed(
             alloc,
             "draw",
             "Writes a picture (SVG) of a journal, of at most 2000 entries",
         )?)?
         .subcommand(view(alloc)?)?
-        .subcommand(state(alloc)?)?
+        .subcommand(state(alloc)?)
+}
+
+// Adds the tasks that search.
+fn with_searches<'a>(alloc: Global, command: Command<'a>) -> Result<Command<'a>, AllocError> {
+    command
         .subcommand(judge(alloc)?)?
         .subcommand(orders(alloc)?)
 }
