@@ -24,7 +24,8 @@ enum {
     LEAST_OPENED = 1 << 20,
     MOST_OPENED = 64 << 20,
     /* An abandoned space keeps the pages of this many bytes. */
-    KEPT_PAGES = 1 << 20
+    KEPT_PAGES = 1 << 20,
+    TOUCHED = 1 << 17
 };
 
 arena *arena_here;
@@ -146,6 +147,20 @@ bool arena_return(char *at, char *again, size_t tables)
     tables = whole_pages(tables);
     memset(followed, 0, sizeof followed);
     return mprotect(at + tables, size - tables, PROT_NONE) == 0;
+}
+
+void arena_touch(void *from, size_t size)
+{
+    for (char *at = from; at < (char *)from + size; at += PAGE)
+        __atomic_fetch_or(at, 0, __ATOMIC_RELAXED);
+}
+
+void arena_touch_space(void)
+{
+    const unsigned space = arena_here->space;
+    const arena_part *part = &arena_here->parts[ARENA_SPACE + space];
+    char *from = arena_here->spaces[space].next;
+    arena_touch(from, least_of(TOUCHED, (size_t)(part->from + part->open - from)));
 }
 
 void arena_turn(void)

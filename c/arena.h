@@ -66,6 +66,11 @@ static inline bool arena_reaches(unsigned part, size_t wanted)
     return wanted <= arena_here->parts[part].open || arena_open(part, wanted);
 }
 
+/* Touches pages, so that they are present, and changes nothing. */
+void arena_touch(void *from, size_t size);
+/* The same for the next 128 KiB of the space, as far as it is open. */
+void arena_touch_space(void);
+
 /* Switches to the other space, which is empty. All blocks of the old one are lost. */
 void arena_turn(void);
 
