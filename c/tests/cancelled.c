@@ -1,11 +1,14 @@
 /* A thread that writes the journal (if it is stored) or a report to a full pipe delays no other
- * thread, and can be cancelled there. */
+ * thread, and can be cancelled there. A receive can be cancelled at each moment from its beginning
+ * on. */
 #define _GNU_SOURCE
 #include <errno.h>
 #include <fcntl.h>
 #include <mqueue.h>
 #include <pthread.h>
+#include <sched.h>
 #include <signal.h>
+#include <stdatomic.h>
 #include <stdio.h>
 #include <stdlib.h>
 #include <string.h>
@@ -16,7 +19,7 @@
 #include "stored.h"
 #include "want.h"
 
-enum { CALLS = 2500 };
+enum { CALLS = 2500, MOMENTS = 4000, LAST_MOMENT = 500 };
 
 static mqd_t queue;
 static int ends[2];
@@ -81,6 +84,32 @@ static void cancel_writer(void *(*run)(void *))
     fclose(to);
 }
 
+static atomic_bool begins;
+
+static void *receive_until_cancelled(void *of)
+{
+    char buf[8];
+    atomic_store(&begins, true);
+    mq_receive(*(const mqd_t *)of, buf, sizeof buf, 0);
+    return 0;
+}
+
+static void cancel_at_each_moment(mqd_t empty)
+{
+    for (int i = 0; i < MOMENTS; ++i) {
+        pthread_t thread;
+        void *ended;
+        atomic_store(&begins, false);
+        WANT(pthread_create(&thread, 0, receive_until_cancelled, &empty) == 0);
+        while (!atomic_load(&begins))
+            sched_yield();
+        for (volatile int turns = 0; turns < i % LAST_MOMENT; ++turns)
+            ;
+        WANT(pthread_cancel(thread) == 0);
+        WANT(pthread_join(thread, &ended) == 0 && ended == PTHREAD_CANCELED);
+    }
+}
+
 int main(void)
 {
     struct mq_attr attr = room_for(4);
@@ -100,6 +129,7 @@ int main(void)
         WANT(mq_send(reported, "y", 1, 0) == 0);
     for (int i = 0; i < 4; ++i)
         WANT(pthread_join(waiting[i], 0) == 0);
+    cancel_at_each_moment(reported);
     WANT(is_checked());
     puts("well");
     return 0;
