@@ -25,6 +25,7 @@ enum {
     MOST_OPENED = 64 << 20,
     /* An abandoned space keeps the pages of this many bytes. */
     KEPT_PAGES = 1 << 20,
+    /* So many bytes of the space are touched at the first call. */
     TOUCHED = 1 << 17
 };
 
