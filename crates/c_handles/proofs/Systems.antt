@@ -9,7 +9,6 @@ use Rattle.mq_model.specs.Waits.{wait_deadline}
 use Rattle.mq_model.specs.declared.entries.Deadline.{Deadline}
 use Rattle.mq.specs.Calls.{bounds_in, stored_in}
 use Rattle.c_handles.specs.declared.handle.Handle.{Handle}
-use Rattle.c_handles.specs.Handles.{process_in}
 use Rattle.c_handles.specs.Systems.{Fills, HandsOut, IsDeadlineOf, is_empty}
 
 -- tickets are of their lock

@@ -1,6 +1,5 @@
 //! What the threads of a program do in a run.
-ghost use Rattle.std.specs.Prelude.{◌≡◌, ◌&&◌, ◌==◌, Bool, nat_lt, not};
-ghost use Rattle.std.specs.List.{list_any};
+ghost use Rattle.std.specs.Prelude.{◌≡◌, ◌&&◌, ◌==◌, not};
 ghost use Rattle.exploration.specs.Choices.{can_choose, can_go_on, takes};
 
 use crate::kind::Kind;

@@ -1,6 +1,6 @@
 //! What a search learns from a trace, and what it picks next. It is proved only that it picks a
 //! choice that is still open. That it leaves out nothing that matters is tested.
-ghost use Rattle.std.specs.Prelude.{◌≡◌, ◌<◌, ◌≤◌, IfOk, IfSome, length};
+ghost use Rattle.std.specs.Prelude.{◌<◌, ◌≤◌, IfOk, IfSome, length};
 
 use crate::advice::{Advice, cost};
 use crate::deed::Deed;

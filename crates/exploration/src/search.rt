@@ -1,5 +1,5 @@
 //! A depth-first search through the schedules of a program.
-ghost use Rattle.std.specs.Prelude.{◌≡◌, ◌+◌, ◌*◌, ◌-◌, ◌^◌, ◌<◌, ◌≤◌, suc, true, Bool, ℕ, List, [], ◌∷◌, ◌++◌, All, IfOk, IfSome, OnOk, length, take};
+ghost use Rattle.std.specs.Prelude.{◌≡◌, ◌+◌, ◌*◌, ◌-◌, ◌^◌, ◌<◌, ◌≤◌, suc, true, Bool, List, [], ◌∷◌, ◌++◌, All, IfOk, IfSome, OnOk, length};
 ghost use Rattle.exploration.specs.Choices.{can_choose};
 ghost use Rattle.exploration.specs.Shown.{IsOpen, Possible, Shows, runs_left, runs_of};
 ghost use Rattle.exploration.specs.declared.operation.Choice.{Choice};

@@ -5,7 +5,7 @@ use mathlib.Core.Logic.{dite}
 use mathlib.Core.Option.{none, some, some-injective, some-ne-none}
 use native.Mathlib.Decide.{ℕ_discrete}
 use lib.ListN.{get_elem?}
-use Rattle.std.proofs.lemmas.Bool.{eqb-true}
+use Rattle.std.proofs.lemmas.Bool.{eqb-true, false_from_ne_true}
 use Rattle.atomic_table.specs.Table.{State, Me, step, keeps, takes, gives, opening, Allows, Splits, Joins, Final, Seen}
 use Rattle.atomic_table.proofs.Lists.{set_here, set_else, at_longer, at_snoc}
 use Rattle.lamport_core.specs.State.{IsProcess}
@@ -22,7 +22,7 @@ use Rattle.fast_mutex.specs.declared.fast.view.View.{View}
 use Rattle.fast_mutex.specs.Fast.{is_inside, IsSafeWorld, seat_view, plan_of, no_plan, number_in, view_told, view_planned, view_marked, list_in, Comes, MayCome, Shows, IsReady, IsLook, IsMark, resting, Stands, Fits, KeepsRule, stores_line, loads_line, tests_line, after_store, after_load, point_admitted, point_refused, word_stored, value_stored, word_loaded, IsStore, IsLoad, IsTest, view_left, IsLeave, slots_at}
 use Rattle.fast_mutex.proofs.Sums.{views_stay, in_length, once_same, total_same, sum_over-set, one_in_sum, two_in_sum, times_here, times_other, sum_over-append, times-append, each-append, new_claims_once, length-new_claims, grows_none}
 use Rattle.fast_mutex.proofs.WordKeeps.{good_new_claims, good_more, good_grows}
-use Rattle.fast_mutex.proofs.FastWorld.{moved_here, moved_else, inside_point, not_true, raises_rest, raises_start, lowers_back, lowers_slow, lowers_leaving, sets_x, sets_y, leaves_world, loads_test_y, loads_await_y, loads_slow_await, loads_flag, admits_fast, refuses_fast, admits_slow, refuses_slow, others_outside, found_nobody, starting_world, sets_mark, mark_loaded}
+use Rattle.fast_mutex.proofs.FastWorld.{moved_here, moved_else, inside_point, raises_rest, raises_start, lowers_back, lowers_slow, lowers_leaving, sets_x, sets_y, leaves_world, loads_test_y, loads_await_y, loads_slow_await, loads_flag, admits_fast, refuses_fast, admits_slow, refuses_slow, others_outside, found_nobody, starting_world, sets_mark, mark_loaded}
 use Rattle.fast_mutex.proofs.MarksKeep.{course_marked, course_left, marks_stored, marks_left, marks_new, shown_now, shown_left, shown_on, Done, done_none, done_same, done_stored, done_all}
 
 module _ {S I : Type 0} (shows : S → List I) (fixes : S → List ℕ) (author : I → ℕ) (answered : ℕ → List I → Bool) (about : About S) where
@@ -513,7 +513,7 @@ module _ {S I : Type 0} (shows : S → List I) (fixes : S → List ℕ) (author 
       let at : get_elem? s.views id ≡ some v = fin.1.1 in
       let r : Rule s = fin.1.0 in
       let mine : Fit r.at r.course v = r.seats id v at in
-      let nobody : (i : ℕ) → is_inside (r.at i) ≡ false = λ i. not_true (is_inside (r.at i)) (λ z.
+      let nobody : (i : ℕ) → is_inside (r.at i) ≡ false = λ i. false_from_ne_true (is_inside (r.at i)) (λ z.
       let a = r.away i z in
       let f : Fit r.at r.course a.2 = r.seats a.1 a.2 a.3 in
       let one : 1 ≤ length a.2.claims = some_claim r.at a.2.at a.2.claims f.stands a.4 in

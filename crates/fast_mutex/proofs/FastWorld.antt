@@ -1,6 +1,6 @@
 -- Each line of Lamport's algorithm, applied to the words. If words and points form a world that
 -- satisfies the invariant, they do so after the line. Each lemma cites the law of its line.
-use Rattle.std.proofs.Common.{◌≡◌, ◌≢◌, ◌<◌, ◌≤◌, ◌+◌, ◌-◌, ℕ, zero, suc, eqb, cond, Bool, true, false, List, [], ◌∷◌, ◌++◌, set, take, drop, get_or, length, length-set, refl, sym, ap, ◌∙◌, subst, inl, inr, ⊎_elim, arith, get_or-set_same, get_or-set_other, eq-eqb, ne_eqb}
+use Rattle.std.proofs.Common.{◌≡◌, ◌≢◌, ◌<◌, ◌≤◌, ◌+◌, ◌-◌, ℕ, zero, suc, eqb, cond, Bool, true, false, List, [], ◌∷◌, ◌++◌, set, take, drop, get_or, length, length-set, refl, sym, ap, ◌∙◌, subst, ⊎_elim, arith, get_or-set_same, get_or-set_other, eq-eqb, ne_eqb}
 use Rattle.std.specs.List.{AllByRecursion as Each}
 use Rattle.std.proofs.lemmas.List.{set-append_left, set-append_right, get_or_append_left, get_or-append_right, take-append-drop, length-take-le}
 use Rattle.lamport_core.specs.State.{IsProcess, IsInsidePoint, after_TestX, after_SlowY}
@@ -12,6 +12,7 @@ use Rattle.lamport_core.specs.declared.At.{At}
 use Rattle.lamport_core.specs.declared.At.TheVariants.{Rest, Start, SetX, TestY, BackB, AwaitY, SetY, TestX, SlowB, Scan, SlowY, SlowAwait, Fast, Slow, Leaving}
 use Rattle.fast_mutex.specs.Marks.{mark_in, ShowAnswers}
 use Rattle.fast_mutex.specs.Fast.{is_inside, flag_in, IsSafeWorld, after_store, after_load}
+use Rattle.std.proofs.lemmas.Bool.{false_from_ne_true}
 
 pub moved_here : (at : ℕ → At) (k : ℕ) (q : At) → moved_to at k q k ≡ q
 moved_here at k q = (moves_to at k (at k) q refl).to
@@ -20,52 +21,21 @@ pub moved_else : (at : ℕ → At) (k j : ℕ) (q : At) → j ≢ k → moved_to
 moved_else at k j q ne = (moves_to at k (at k) q refl).others j ne
 
 pub inside_point : (p : At) → is_inside p ≡ true → IsInsidePoint p
-inside_point Fast e = inl refl
-inside_point Slow e = inr refl
-inside_point Rest e = absurd (cc)
-inside_point Start e = absurd (cc)
-inside_point SetX e = absurd (cc)
-inside_point TestY e = absurd (cc)
-inside_point BackB e = absurd (cc)
-inside_point AwaitY e = absurd (cc)
-inside_point SetY e = absurd (cc)
-inside_point TestX e = absurd (cc)
-inside_point SlowB e = absurd (cc)
-inside_point (Scan j) e = absurd (cc)
-inside_point SlowY e = absurd (cc)
-inside_point SlowAwait e = absurd (cc)
-inside_point Leaving e = absurd (cc)
+inside_point p e = grind arith
 
 point_inside : (p : At) → IsInsidePoint p → is_inside p ≡ true
 point_inside p h = ⊎_elim (λ e. ap is_inside e) (λ e. ap is_inside e) h
 
-outside_point : (p : At) → is_inside p ≡ false → IsInsidePoint p → ⊥
-outside_point p o h = let i = point_inside p h in let e : true ≡ false = sym i ∙ o in cc
-
-pub not_true : (t : Bool) → (t ≡ true → ⊥) → t ≡ false
-not_true true h = absurd (h refl)
-not_true false h = refl
-
 -- a store to the flag of process k, whose word is at k + 1
 flag_sets : (flags : List ℕ) (k v : ℕ) (t : Bool) → 0 < k → k ≤ length flags → eqb v 1 ≡ t → Sets k t (flag_in flags) (flag_in (set flags (k - 1) v))
-flag_sets flags zero v t some wide is = absurd (omega arith)
-flag_sets flags (suc m) v t some wide is = let place : suc m - 1 ≡ m = omega arith in
-    let P : ℕ → Type 0 = λ i. Sets (suc m) t (flag_in flags) (flag_in (set flags i v)) in
-    subst P (sym place) (record { to = ap (λ w. eqb w 1) (get_or-set_same flags m v 0 (omega arith)) ∙ is; others = there flags m v })
-  where
-    there : (flags : List ℕ) (m v j : ℕ) → j ≢ suc m → flag_in (set flags m v) j ≡ flag_in flags j
-    there flags m v zero ne = refl
-    there flags m v (suc l) ne = let other : l ≢ m = (λ e. ne (omega arith)) in ap (λ w. eqb w 1) (get_or-set_other flags m l v 0 other)
+flag_sets flags k v t some wide is = grind (arith, get_or-set_same, get_or-set_other)
 
 set_flag_word : (x y : ℕ) (flags marks : List ℕ) (k v : ℕ) → 0 < k → k ≤ length flags → set (x ∷ y ∷ flags ++ marks) (k + 1) v ≡ x ∷ y ∷ set flags (k - 1) v ++ marks
-set_flag_word x y flags marks k v some wide = let e : k + 1 ≡ suc (suc (k - 1)) = omega arith in
-    ap (λ i. set (x ∷ y ∷ flags ++ marks) i v) e ∙ ap (λ l. x ∷ y ∷ l) (set-append_left flags marks (k - 1) v (omega arith))
+set_flag_word x y flags marks k v some wide = grind (arith, set-append_left)
 
 -- the flag of process j as the word that is loaded
 flag_loaded : (x y : ℕ) (flags marks : List ℕ) (j v : ℕ) → 0 < j → j ≤ length flags → get_or (x ∷ y ∷ flags ++ marks) (j + 1) 0 ≡ v → flag_in flags j ≡ eqb v 1
-flag_loaded x y flags marks zero v some wide is = absurd (omega arith)
-flag_loaded x y flags marks (suc m) v some wide is = let place : suc m + 1 ≡ suc (suc m) = omega arith in
-    let word : get_or flags m 0 ≡ v = sym (get_or_append_left flags marks 0 m (omega arith)) ∙ ap (λ i. get_or (x ∷ y ∷ flags ++ marks) i 0) (sym place) ∙ is in ap (λ w. eqb w 1) word
+flag_loaded x y flags marks j v some wide is = grind (arith, get_or_append_left)
 
 -- a store to the word s of process p, which is after all flags
 set_mark_word : (x y n : ℕ) (flags marks : List ℕ) (p v : ℕ) → length flags ≡ n → 1 ≤ p → set (x ∷ y ∷ flags ++ marks) (n + 1 + p) v ≡ x ∷ y ∷ flags ++ set marks (p - 1) v
@@ -76,11 +46,7 @@ set_mark_word x y n flags marks p v wide some =
 
 -- the word s of process p as the word that is loaded
 mark_word : (x y n : ℕ) (flags marks : List ℕ) (p : ℕ) → length flags ≡ n → 1 ≤ p → get_or (x ∷ y ∷ flags ++ marks) (n + 1 + p) 0 ≡ mark_in marks p
-mark_word x y n flags marks zero wide some = absurd (omega arith)
-mark_word x y n flags marks (suc m) wide some =
-    let e : n + 1 + suc m ≡ suc (suc (n + m)) = omega arith in
-    let d : n + m - n ≡ m = omega arith in
-    ap (λ i. get_or (x ∷ y ∷ flags ++ marks) i 0) e ∙ (get_or-append_right flags marks n (n + m) 0 wide (omega arith) ∙ ap (λ i. get_or marks i 0) d)
+mark_word x y n flags marks p wide some = grind (arith, get_or-append_right)
 
 module _ (n : ℕ) (words marks : List ℕ) (at : ℕ → At) (w : IsSafeWorld n words marks at) (k : ℕ) where
   -- b[k] := v
@@ -195,7 +161,7 @@ module _ (n : ℕ) (words marks : List ℕ) (at : ℕ → At) (w : IsSafeWorld n
 
   -- at most one process is in its critical section
   pub others_outside : is_inside (at k) ≡ true → (j : ℕ) → j ≢ k → is_inside (at j) ≡ false
-  others_outside i j ne = not_true (is_inside (at j)) (λ h. ne (one_inside_at n w.x w.y _ at w.safe j k (inside_point (at j) h) (inside_point (at k) i)))
+  others_outside i j ne = false_from_ne_true (is_inside (at j)) (λ h. ne (one_inside_at n w.x w.y _ at w.safe j k (inside_point (at j) h) (inside_point (at k) i)))
 
 -- the words s are no part of the condition
 module _ (n : ℕ) (words marks : List ℕ) (at : ℕ → At) (w : IsSafeWorld n words marks at) where
@@ -214,8 +180,7 @@ module _ (n : ℕ) (words marks : List ℕ) (at : ℕ → At) (w : IsSafeWorld n
 
 -- a process that a step takes into its critical section found no other there
 pub found_nobody : (n : ℕ) (words marks : List ℕ) (at : ℕ → At) (k : ℕ) (P Q : At) → IsSafeWorld n words marks (moved_to at k Q) → at k ≡ P → is_inside P ≡ false → is_inside Q ≡ true → (j : ℕ) → is_inside (at j) ≡ false
-found_nobody n words marks at k P Q w e out i j = not_true (is_inside (at j)) (λ h.
-    admitted_alone n w.x w.y _ at _ k P Q w.safe (moves_to at k P Q e) (outside_point P out) (inside_point Q i) j (inside_point (at j) h))
+found_nobody n words marks at k P Q w e out i j = grind (arith, false_from_ne_true, admitted_alone, moves_to, inside_point)
 
 -- at the start x, y and the flags are 0 and each process is at rest
 module _ where

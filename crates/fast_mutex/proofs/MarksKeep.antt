@@ -16,12 +16,10 @@ use Rattle.fast_mutex.proofs.Sums.{each_weaker}
 use Rattle.fast_mutex.proofs.FastWorld.{mark_loaded}
 
 split : (b : Bool) (P : Bool → Type 0) → (b ≡ true → P true) → (b ≡ false → P false) → P b
-split true P f g = f refl
-split false P f g = g refl
+split b P f g = grind arith
 
 flag_up : (b : Bool) → flag b ≡ 1 → b ≡ true
-flag_up true e = refl
-flag_up false e = absurd (omega arith)
+flag_up b e = grind arith
 
 has_here : (p : ℕ) (qs : List ℕ) → has p (p ∷ qs) ≡ true
 has_here p qs = ap (λ b. cond b true (has p qs)) (eq-eqb p p refl)
@@ -30,15 +28,10 @@ has_else : (p q : ℕ) (qs : List ℕ) → p ≢ q → has p (q ∷ qs) ≡ has 
 has_else p q qs ne = ap (λ b. cond b true (has p qs)) (ne_eqb p q ne)
 
 set_mark_here : (marks : List ℕ) (p v : ℕ) → 1 ≤ p → p ≤ length marks → mark_in (set marks (p - 1) v) p ≡ v
-set_mark_here marks zero v low high = absurd (omega arith)
-set_mark_here marks (suc m) v low high = let e : suc m - 1 ≡ m = omega arith in
-    ap (λ i. mark_in (set marks i v) (suc m)) e ∙ get_or-set_same marks m v 0 (omega arith)
+set_mark_here marks p v low high = grind (arith, get_or-set_same)
 
 set_mark_else : (marks : List ℕ) (p q v : ℕ) → 1 ≤ p → q ≢ p → mark_in (set marks (p - 1) v) q ≡ mark_in marks q
-set_mark_else marks zero q v low ne = absurd (omega arith)
-set_mark_else marks (suc m) zero v low ne = refl
-set_mark_else marks (suc m) (suc l) v low ne = let e : suc m - 1 ≡ m = omega arith in let other : l ≢ m = (λ d. ne (ap suc d)) in
-    ap (λ i. mark_in (set marks i v) (suc l)) e ∙ get_or-set_other marks m l v 0 other
+set_mark_else marks p q v low ne = grind (arith, get_or-set_other)
 
 module _ {I : Type 0} (answered : ℕ → List I → Bool) (n : ℕ) where
   -- the course after a store of the word of p, which fixes the list to come
@@ -134,10 +127,7 @@ module _ {I : Type 0} (answered : ℕ → List I → Bool) (n : ℕ) where
 
 -- answers as the bits of one number
 bit_low : (a b : Bool) (x y : ℕ) → flag a + 2 * x ≡ flag b + 2 * y → (a ≡ b) × (x ≡ y)
-bit_low true true x y e = (refl, omega arith)
-bit_low true false x y e = absurd (omega arith)
-bit_low false true x y e = absurd (omega arith)
-bit_low false false x y e = (refl, omega arith)
+bit_low a b x y e = grind arith
 
 pub bits_same : (f g : ℕ → Bool) (k m : ℕ) → answer_bits f k m ≡ answer_bits g k m → (q : ℕ) → k ≤ q → q < k + m → f q ≡ g q
 unfolding answer_bits
@@ -147,8 +137,7 @@ bits_same f g k (suc m) e q low high = let b = bit_low (f k) (g k) _ _ e in dite
     (λ ne. bits_same f g (suc k) m b.1 q (omega arith) (omega arith))
 
 bit_parts : (b : Bool) (x w : ℕ) → w ≡ flag b + 2 * x → (w % 2 ≡ flag b) × (w / 2 ≡ x)
-bit_parts true x w e = (omega arith, omega arith)
-bit_parts false x w e = (omega arith, omega arith)
+bit_parts b x w e = grind arith
 
 -- the lowest bit, and the others
 pub bits_step : (f : ℕ → Bool) (k m n w : ℕ) → n ≡ suc m → w ≡ answer_bits f k n → (w % 2 ≡ flag (f k)) × (w / 2 ≡ answer_bits f (suc k) m)
@@ -168,8 +157,7 @@ unfolding answer_bits
 bits_empty f k = refl
 
 pub flag_small : (b : Bool) → flag b ≤ 1
-flag_small true = omega arith
-flag_small false = omega arith
+flag_small b = grind arith
 
 pub bits_small : (f : ℕ → Bool) (k m : ℕ) → answer_bits f k m < 2 ^ m
 unfolding answer_bits
@@ -190,10 +178,7 @@ module _ (f : ℕ → Bool) (k bits : ℕ) (one : 0 < k) (few : k ≤ 32) (is : 
   bits_room = let h = bits_small f (k + 1) (32 - k) in let m : 2 ^ (32 - k) ≤ 2 ^ 31 = pow_mono {i = 32 - k} {j = 31} (omega arith) in omega arith
 
 pub flag_same : (a b : Bool) → flag a ≡ flag b → a ≡ b
-flag_same true true e = refl
-flag_same true false e = absurd (omega (arith, e))
-flag_same false true e = absurd (omega (arith, e))
-flag_same false false e = refl
+flag_same a b e = grind arith
 
 -- The words up to that of process k are done. `stored` has those that differ.
 module _ {I : Type 0} (answered : ℕ → List I → Bool) (found given : List I) where

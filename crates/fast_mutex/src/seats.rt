@@ -1,6 +1,6 @@
 //! The seats of a lock: dealt out when it is made, joined again when it ends. Every lock does both
 //! in the same way.
-ghost use Rattle.std.specs.Prelude.{◌≡◌, ◌<◌, ◌≤◌, ◌+◌, ◌-◌, [], map, length, suc, vec_len, vec_capacity};
+ghost use Rattle.std.specs.Prelude.{◌≡◌, ◌<◌, ◌≤◌, ◌+◌, ◌-◌, [], map, suc, vec_len, vec_capacity};
 ghost use Rattle.std.specs.List.{All};
 ghost use Rattle.fast_mutex.specs.Items.{ticket_with, tickets_with, Grows};
 ghost use Rattle.fast_mutex.specs.Seats.{Resting, Deals, IsAlone, first_view, fresh, claim_of, new_claims, made_with, lock_id, ticket_of};

@@ -1,25 +1,23 @@
 -- The message of a send that succeeded is accepted before the send returns.
-use Rattle.std.proofs.Common.{◌≡◌, ℕ, ◌+◌, ◌≤◌, ◌<◌, ◌==◌, Bool, true, false, not, ◌&&◌, ◌||◌, List, [], ◌∷◌, length, Option, Some, None, inl, inr, refl, sym, ◌∙◌, ap, subst, arith, if◌then◌else◌, eqb-true, eq-eqb}
-use Rattle.std.specs.Option.{unwrap_or}
-use Rattle.std.specs.Str.{bytes_eq}
-use Rattle.std.proofs.lemmas.Bool.{and_parts, cases_lt}
+use Rattle.std.proofs.lemmas.Bool.Decides.{nat_tests}
+use Rattle.std.proofs.Common.{◌≡◌, ℕ, ◌+◌, ◌≤◌, ◌<◌, ◌==◌, true, false, not, List, [], ◌∷◌, length, Option, Some, None, inl, inr, refl, sym, ◌∙◌, ap, subst, arith, eqb-true, eq-eqb, unwrap_or}
+use Rattle.std.proofs.lemmas.Bool.{and_parts, cases_lt, or_right, or_left}
 use Rattle.std.proofs.lemmas.Slice.Eq.{bytes_eq-Decides}
 use Rattle.mq_model.specs.Record.{Record, Past, Process, record_at}
-use Rattle.mq_model.specs.Descriptors.{called_queue, is_on}
-use Rattle.mq_model.specs.Messages.{admits, admitted, blocked_sends, entered, handed, hands_over, if_in, is_accepted, is_in, is_send, priority_given, queues, waiting_sends}
+use Rattle.mq_model.specs.Descriptors.{called_queue}
+use Rattle.mq_model.specs.Messages.{admits, admitted, blocked_sends, entered, is_accepted, is_in, is_send, priority_given, waiting_sends}
 use Rattle.mq_model.specs.Waits.{is_wait, named_wait, open_wait, answered_by}
 use Rattle.mq_model.specs.Legality.{IsLegalNext, Legal}
 use Rattle.mq_model.specs.declared.entries.Call.{Call}
-use Rattle.mq_model.specs.declared.entries.Call.TheVariants.{MqOpen, MqClose, MqUnlink, MqSend, MqReceive, MqGetattr, MqSetattr, MqNotify, NextNotice, Collect, MqTimedSend, MqTimedReceive, Withdraw}
+use Rattle.mq_model.specs.declared.entries.Call.TheVariants.{MqSend, Collect, MqTimedSend, Withdraw}
 use Rattle.mq_model.specs.declared.entries.Reply.{Reply}
 use Rattle.mq_model.specs.declared.entries.Reply.TheVariants as reply
 use Rattle.mq_model.proofs.Cases.{Says}
 use Rattle.mq_model.proofs.Frames.{record_at-older}
 use Rattle.mq_model.proofs.LegalReplies.{legal_says}
 use Rattle.mq_model.proofs.NamedWaits.{least-in}
-use Rattle.mq_model.proofs.Places.{split, is_in-filter}
+use Rattle.mq_model.proofs.Places.{split, is_in-filter, is_in-with_place}
 use Rattle.mq_model.proofs.Prefixes.{record_at-below}
-use Rattle.mq_model.proofs.Presence.{with-more}
 use Rattle.mq_model.proofs.Waiters.{admits-least}
 use Rattle.mq_laws.specs.Laws.{cause, Has}
 use Rattle.mq_laws.proofs.GivenOnce.{answered-named, collected}
@@ -28,12 +26,12 @@ use Rattle.mq_laws.proofs.SentMessages.{is_sent}
 use Rattle.histories.specs.OwnCalls.{ends_wait}
 use Rattle.histories.specs.declared.operation.Operation.{Operation}
 use Rattle.histories.specs.declared.operation.Outcome.{Outcome}
-use Rattle.histories.specs.declared.operation.Outcome.TheVariants.{Pending, Done, Opened, Got, Attributes, Notice, Refused}
+use Rattle.histories.specs.declared.operation.Outcome.TheVariants.{Done, Opened, Got, Notice, Refused}
 use Rattle.histories.specs.Histories.{Histories, completed, current_of}
 use Rattle.histories.specs.Linearizations.{ComesFrom, IsCallOf, IsLinearization}
 use Rattle.histories.specs.Outcomes.{completes, fits, is_handed}
 use Rattle.histories.specs.RealTime.{operation_at}
-use Rattle.histories.specs.Passed.{has_sent, is_done}
+use Rattle.histories.specs.Passed.{has_sent}
 use Rattle.histories.proofs.Completing.{completed-other, completed-own, added, sent-payload}
 use Rattle.histories.proofs.Cutting.{AreBegun, Ends}
 use Rattle.histories.proofs.Tracing.{IsCallAt, call-older, legal-linear, own-call, waits-for}
@@ -56,32 +54,11 @@ pub record HasAccepted (time : ℕ) (histories : Histories) (past : Past) (index
 pub of-older : (past : Past) (r : Record) (m prio : ℕ) (message : List ℕ) → IsOf past m prio message → IsOf (r ∷ past) m prio message
 of-older past r m prio message x = record { r = x.r; at = record_at-older past r m (record_at-below past m x.r x.at) ∙ x.at; priority = x.priority; bytes = x.bytes }
 
-pub or-left : (a b : Bool) → a ≡ true → (a || b) ≡ true
-or-left true b e = refl
-or-left false b e = absurd (let bad : false ≡ true = e in cc)
-
-pub or-right : (a b : Bool) → b ≡ true → (a || b) ≡ true
-or-right true b e = refl
-or-right false b e = e
-
-handed-more : (past : Past) (r : Record) (q m : ℕ) → is_in (handed past q) m ≡ true → is_in (handed (r ∷ past) q) m ≡ true
-handed-more past r q m h = split (hands_over r.entry.call r.entry.reply && is_on past r.entry q)
-    (λ t. rw t (or-right (length past == m) _ h))
-    (λ f. rw f h)
-
 pub accepted-more : (past : Past) (r : Record) (q m : ℕ) → is_accepted past q m ≡ true → is_accepted (r ∷ past) q m ≡ true
-accepted-more past r q m h = split (is_in (admitted past q) m)
-    (λ t. or-left _ _ (with-more (entered past r.entry q) (admitted past q) m t))
-    (λ f. let old : is_in (handed past q) m ≡ true = rw f at h in or-right (is_in (admitted (r ∷ past) q) m) _ (handed-more past r q m old))
+accepted-more past r q m h = grind (arith, or_left, is_in-with_place, or_right)
 
 has-older : (time : ℕ) (histories : Histories) (past : Past) (r : Record) (index k prio : ℕ) (message : List ℕ) → HasAccepted time histories past index k prio message → HasAccepted time histories (r ∷ past) index k prio message
-has-older time histories past r index k prio message x = record {
-  m = x.m;
-  q = x.q;
-  accepted = accepted-more past r x.q x.m x.accepted;
-  of = of-older past r x.m prio message x.of;
-  placed = call-older time histories past r index k x.m x.placed;
-}
+has-older time histories past r index k prio message x = grind (arith, accepted-more, of-older, call-older)
 
 -- the queue of a send that did not fail
 pub send-on : (past : Past) (p : Process) (call : Call) (y : Reply) → Says past p call y → is_send call ≡ true → is_sent y ≡ true → (q : ℕ) × (called_queue past p call ≡ Some q)
@@ -99,23 +76,11 @@ send-on past p call (reply.Attrs s) says send sent = absurd (let bad : false ≡
 send-on past p call (reply.Notice v) says send sent = absurd (let bad : false ≡ true = sent in cc)
 send-on past p call reply.Done says send sent = absurd (let bad : false ≡ true = sent in cc)
 send-on past p call (reply.Refused f) says send sent = absurd (let bad : false ≡ true = sent in cc)
-send-on past p (MqOpen flags attr) y says send sent = absurd (let bad : false ≡ true = send in cc)
-send-on past p (MqClose d) y says send sent = absurd (let bad : false ≡ true = send in cc)
-send-on past p MqUnlink y says send sent = absurd (let bad : false ≡ true = send in cc)
-send-on past p (MqReceive d room) y says send sent = absurd (let bad : false ≡ true = send in cc)
-send-on past p (MqTimedReceive d room until now) y says send sent = absurd (let bad : false ≡ true = send in cc)
-send-on past p (MqGetattr d) y says send sent = absurd (let bad : false ≡ true = send in cc)
-send-on past p (MqSetattr d nonblock) y says send sent = absurd (let bad : false ≡ true = send in cc)
-send-on past p (MqNotify d value) y says send sent = absurd (let bad : false ≡ true = send in cc)
-send-on past p NextNotice y says send sent = absurd (let bad : false ≡ true = send in cc)
-send-on past p Collect y says send sent = absurd (let bad : false ≡ true = send in cc)
-send-on past p (Withdraw now) y says send sent = absurd (let bad : false ≡ true = send in cc)
+send-on past p _ y says send sent = absurd (let bad : false ≡ true = send in cc)
 
 -- a collect and a withdrawal have their own replies
 pub ending-reply : (past : Past) (p : Process) (call : Call) (y : Reply) → Says past p call y → is_sent y ≡ true → ends_wait call ≡ false
-ending-reply past p Collect y says sent = absurd (let bad : false ≡ true = subst (λ (x : Reply). is_sent x ≡ true) says sent in cc)
-ending-reply past p (Withdraw now) y says sent = absurd (let bad : false ≡ true = subst (λ (x : Reply). is_sent x ≡ true) says sent in cc)
-ending-reply past p _ y says sent = refl
+ending-reply past p call y says sent = grind (arith, is_sent)
 
 -- what it means that an operation sends a message
 record Sends (o : Operation) (prio : ℕ) (message : List ℕ) : Type 0 where
@@ -124,47 +89,29 @@ record Sends (o : Operation) (prio : ℕ) (message : List ℕ) : Type 0 where
   pub bytes : o.given.items ≡ message
   pub done : o.outcome ≡ Done
 
-done-of : (x : Outcome) → is_done x ≡ true → x ≡ Done
-done-of Done e = refl
-done-of _ e = absurd (let bad : false ≡ true = e in cc)
-
 sends-of : (o : Operation) (prio : ℕ) (message : List ℕ) → has_sent prio message o ≡ true → Sends o prio message
-sends-of o prio message e =
-    let one = and_parts (is_send o.call && is_done o.outcome && priority_given o.call == prio) (bytes_eq o.given.items message) e in
-    let two = and_parts (is_send o.call && is_done o.outcome) (priority_given o.call == prio) one.0 in
-    let three = and_parts (is_send o.call) (is_done o.outcome) two.0 in
-    record { send = three.0; priority = eqb-true _ _ two.1; bytes = (bytes_eq-Decides o.given.items message).0 one.1; done = done-of o.outcome three.1 }
+sends-of o prio message e = grind (arith, and_parts, eqb-true, bytes_eq-Decides)
 
 -- a record of the operation is of its message
 call-of : (past : Past) (r : Record) (o : Operation) (m prio : ℕ) (message : List ℕ) → Sends o prio message → IsCallOf r o → is_sent r.entry.reply ≡ true → record_at past m ≡ Some r → IsOf past m prio message
-call-of past r o m prio message sends is sent at = record {
-  r = r;
-  at = at;
-  priority = ap priority_given is.call ∙ sends.priority;
-  bytes = is.payload ∙ sent-payload o.call r.entry.reply o.given.items sends.send sent ∙ sends.bytes;
-}
+call-of past r o m prio message sends is sent at = grind (arith, sent-payload)
 
 -- a send that is queued, or handed over
 newest-accepted : (past : Past) (r : Record) (q : ℕ) → is_send r.entry.call ≡ true → called_queue past r.entry.process r.entry.call ≡ Some q → (y : Reply) → r.entry.reply ≡ y → is_sent y ≡ true → is_wait y ≡ false → is_accepted (r ∷ past) q (length past) ≡ true
-newest-accepted past r q send on (reply.Queued n) is sent goes = rw (is, send, on, eq-eqb q q refl) (rw (eq-eqb (length past) (length past) refl) refl)
-newest-accepted past r q send on (reply.Handed w) is sent goes =
-    or-right (is_in (admitted (r ∷ past) q) (length past)) (is_in (handed (r ∷ past) q) (length past)) (rw (is, send, on, eq-eqb q q refl) (rw (eq-eqb (length past) (length past) refl) refl))
-newest-accepted past r q send on reply.Waits is sent goes = absurd (let bad : true ≡ false = goes in cc)
-newest-accepted past r q send on _ is sent goes = absurd (let bad : false ≡ true = sent in cc)
+newest-accepted past r q send on y is sent goes = grind (arith, eq-eqb, or_right)
 
 enters : (past : Past) (r : Record) (q w : ℕ) → entered past r.entry q ≡ Some w → is_in (admitted (r ∷ past) q) w ≡ true
 enters past r q w e = rw e (rw (eq-eqb w w refl) refl)
 
 entered-got : (past : Past) (r : Record) (q w m : ℕ) (a n : Option ℕ) → r.entry.reply ≡ reply.Got m a n → a ≡ Some w → is_in (blocked_sends past q) w ≡ true → entered past r.entry q ≡ Some w
-entered-got past r q w m a n is e blocked =
-    subst (λ (y : Reply). (if queues r.entry.call y && is_on past r.entry q then Some (length past) else if_in (blocked_sends past q) (admits y)) ≡ Some w) (sym is) (rw (e, blocked) refl)
+entered-got past r q w m a n is e blocked = grind arith
 
 -- a waiting send that a receive admits is in the queue
 admits-admitted : (past : Past) → Legal past → (k w : ℕ) → Has admits past k w → (q : ℕ) × (is_in (admitted past q) w ≡ true)
 admits-admitted [] legal k w h = absurd (let bad : None ≡ Some w = h in cc)
 admits-admitted (r ∷ past) legal k w h = has-cases admits past r k w h
     (λ here is. by r.entry.reply refl is)
-    (λ old lt. let x = admits-admitted past legal.0 k w old in (x.0, with-more (entered past r.entry x.0) (admitted past x.0) w x.1))
+    (λ old lt. let x = admits-admitted past legal.0 k w old in (x.0, is_in-with_place (entered past r.entry x.0) (admitted past x.0) w x.1))
   where
     by : (y : Reply) → r.entry.reply ≡ y → admits y ≡ Some w → (q : ℕ) × (is_in (admitted (r ∷ past) q) w ≡ true)
     by (reply.Got m a n) is e =
@@ -177,17 +124,7 @@ admits-admitted (r ∷ past) legal k w h = has-cases admits past r k w h
 
 -- an entry that serves a wait and hands nothing over admits a send
 admitting : (past : Past) (b w : ℕ) → Has named_wait past b w → not (is_handed past b) ≡ true → Has admits past b w
-admitting past b w h not_handed =
-    let x = has-record named_wait past b w h in
-    by x.r x.at x.r.entry.reply refl x.is
-  where
-    by : (r : Record) → record_at past b ≡ Some r → (y : Reply) → r.entry.reply ≡ y → named_wait r.entry.reply ≡ Some w → Has admits past b w
-    by r at (reply.Got m a n) is e = let named : a ≡ Some w = rw is at e in rw at (rw is named)
-    by r at (reply.Handed v) is e =
-        let handed_over : is_handed past b ≡ true = rw at (rw is refl) in
-        let bad : false ≡ true = rw handed_over at not_handed in
-        absurd (cc)
-    by r at y is e = absurd (cc)
+admitting past b w h not_handed = grind (arith, has-record)
 
 -- the wait of a process is for its current operation, so an admitted one is of its message
 collected-accepted : (histories : Histories) (past : Past) (linear : IsLinearization histories past) (time : ℕ) → AreBegun time histories past linear → (r : Record) → IsLegalNext past r → (index : ℕ) (o : Operation) (prio : ℕ) (message : List ℕ) →
@@ -200,18 +137,7 @@ collected-accepted histories past linear time begun r legal index o prio message
     let admits_it = admitting past b x.w x.named not_handed in
     let q = admits-admitted past legal_past b x.w admits_it in
     let y = waits-for time histories past linear begun r.entry.process x.w x.opened in
-    let at : y.index ≡ index = let p = y.process in omega (arith, p, process) in
-    let there : current_of histories past index ≡ Some y.operation = subst (λ (n : ℕ). current_of histories past n ≡ Some y.operation) at y.is in
-    let both : Some y.operation ≡ Some o = sym there ∙ is in
-    let same : y.operation ≡ o = cc in
-    let call : IsCallOf y.r o = subst (λ (x : Operation). IsCallOf y.r x) same y.call in
-    record {
-      m = x.w;
-      q = q.0;
-      accepted = or-left _ _ q.1;
-      of = call-of past y.r o x.w prio message sends call (waits-sent y.r.entry.reply y.waits) y.at;
-      placed = subst (λ (i : ℕ). IsCallAt time histories past i (completed past (i + 1)) x.w) at y.placed;
-    }
+    grind (arith, nat_tests, or_left, call-of, IsCallAt)
   where
     waits-sent : (y : Reply) → is_wait y ≡ true → is_sent y ≡ true
     waits-sent reply.Waits e = refl

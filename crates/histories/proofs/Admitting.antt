@@ -1,11 +1,10 @@
 -- A send whose message entered its queue after it waited succeeds, or has not returned.
-use Rattle.std.proofs.Common.{◌≡◌, ℕ, ◌+◌, ◌==◌, true, false, [], ◌∷◌, length, Option, Some, is_none, ◌⊎◌, inl, inr, refl, sym, ◌∙◌, ap, subst, arith, eqb-true}
-use Rattle.std.specs.Option.{option_map, unwrap_or}
+use Rattle.std.proofs.Common.{◌≡◌, ℕ, ◌+◌, ◌==◌, true, false, [], ◌∷◌, length, Option, Some, is_none, ◌⊎◌, inl, inr, refl, sym, ◌∙◌, ap, subst, arith, eqb-true, unwrap_or}
 use Rattle.mq_model.specs.Record.{Record, Past}
 use Rattle.mq_model.specs.Waits.{answered_by, named_wait, open_wait}
 use Rattle.mq_model.specs.Legality.{Legal, may_call}
 use Rattle.mq_model.specs.declared.entries.Call.{Call}
-use Rattle.mq_model.specs.declared.entries.Call.TheVariants.{MqOpen, MqClose, MqUnlink, MqSend, MqReceive, MqGetattr, MqSetattr, MqNotify, NextNotice, Collect, MqTimedSend, MqTimedReceive, Withdraw}
+use Rattle.mq_model.specs.declared.entries.Call.TheVariants.{Collect, Withdraw}
 use Rattle.mq_model.specs.declared.entries.Reply.{Reply}
 use Rattle.mq_model.specs.declared.entries.Reply.TheVariants as reply
 use Rattle.mq_model.proofs.Cases.{Says}
@@ -19,10 +18,9 @@ use Rattle.mq_laws.proofs.GivenOnce.{answered-named, collected}
 use Rattle.mq_laws.proofs.LegalPlaces.{has-here, has-record}
 use Rattle.histories.specs.declared.operation.Operation.{Operation}
 use Rattle.histories.specs.declared.operation.Outcome.{Outcome}
-use Rattle.histories.specs.declared.operation.Outcome.TheVariants.{Pending, Done, Opened, Got, Attributes, Notice, Refused}
 use Rattle.histories.specs.Histories.{Histories, current_of, is_pending, is_through}
 use Rattle.histories.specs.Linearizations.{ComesFrom, IsLinearization}
-use Rattle.histories.specs.Outcomes.{fits, has_handed, is_handed}
+use Rattle.histories.specs.Outcomes.{fits, is_handed}
 use Rattle.histories.specs.NotFull.{may_enter}
 use Rattle.histories.proofs.Cutting.{Ends}
 use Rattle.histories.proofs.Tracing.{current-other, legal-linear}
@@ -35,18 +33,13 @@ pub record IsAdmitted (histories : Histories) (past : Past) (index w m : ℕ) (o
   pub kept : is_handed past m ≡ false
 
 kept-older : (past : Past) (r : Record) (m w : ℕ) → Has named_wait past m w → is_handed past m ≡ false → is_handed (r ∷ past) m ≡ false
-kept-older past r m w named e =
-    let x = has-record named_wait past m w named in
-    ap (λ (o : Option Record). has_handed (option_map (λ (y : Record). y.entry) o)) (record_at-older past r m (record_at-below past m x.r x.at)) ∙ e
+kept-older past r m w named e = grind (arith, has-record, record_at-older, record_at-below)
 
-some-not-none : (past : Past) (p w : ℕ) → open_wait past p ≡ Some w → is_none (open_wait past p) ≡ true → ⊥
+pub some-not-none : (past : Past) (p w : ℕ) → open_wait past p ≡ Some w → is_none (open_wait past p) ≡ true → ⊥
 some-not-none past p w is none = let bad : false ≡ true = rw is at none in cc
 
 collected-enters : (past : Past) (m : ℕ) (x : Outcome) → is_handed past m ≡ false → fits past (reply.Collected m) x ≡ true → may_enter x ≡ true
-collected-enters past m Pending kept fit = refl
-collected-enters past m Done kept fit = refl
-collected-enters past m (Got p bytes) kept fit = absurd (let bad : false ≡ true = rw kept at fit in cc)
-collected-enters past m _ kept fit = absurd (let bad : false ≡ true = fit in cc)
+collected-enters past m x kept fit = grind arith
 
 admitted-step : (histories : Histories) (past : Past) (r : Record) (linear : IsLinearization histories (r ∷ past)) (index w m : ℕ) (o : Operation) → IsAdmitted histories past index w m o →
     IsAdmitted histories (r ∷ past) index w m o ⊎ (may_enter o.outcome ≡ true)
@@ -106,8 +99,7 @@ admitted-later histories base (r ∷ full) linear ends index w m o x = elim ends
 ]
 
 pending-enters : (x : Outcome) → is_pending x ≡ true → may_enter x ≡ true
-pending-enters Pending e = refl
-pending-enters _ e = absurd (let bad : false ≡ true = e in cc)
+pending-enters x e = grind arith
 
 -- in a complete linearization the operation succeeds, or has not returned
 pub admitted-enters : (histories : Histories) (base full : Past) → IsLinearization histories full → Ends base full → (index w m : ℕ) (o : Operation) → is_through (current_of histories full index) ≡ true →

@@ -1,15 +1,13 @@
 -- The messages in the queue of a name, and those that were got from it, all entered it.
-use Rattle.std.proofs.Common.{◌≡◌, ◌≢◌, ℕ, ◌+◌, ◌≤◌, ◌==◌, zero, suc, Bool, true, false, List, [], ◌∷◌, length, Option, Some, None, is_some, Vec, refl, sym, ◌∙◌, ap, subst, arith, eqb-true, slice_get}
+use Rattle.std.proofs.Common.{◌≡◌, ◌≢◌, ℕ, ◌+◌, ◌≤◌, ◌==◌, Bool, true, false, List, [], ◌∷◌, length, Option, Some, None, is_some, refl, sym, ◌∙◌, ap, subst, arith, eqb-true}
 use Rattle.std.specs.Str.{bytes_eq}
-use Rattle.std.specs.declared.alloc.Global.{Global}
 use Rattle.std.proofs.lemmas.Bool.{eqb-false}
 use Rattle.mq_model.specs.Record.{Record, Past}
 use Rattle.mq_model.specs.Descriptors.{called_queue, created, is_place}
 use Rattle.mq_model.specs.Names.{name_of}
-use Rattle.mq_model.specs.Messages.{admits, is_in, present, with_place}
+use Rattle.mq_model.specs.Messages.{admits, is_in, present}
 use Rattle.mq_model.specs.Legality.{Legal}
 use Rattle.mq_model.specs.declared.entries.Call.{Call}
-use Rattle.mq_model.specs.declared.entries.Call.TheVariants.{MqOpen, MqClose, MqUnlink, MqSend, MqReceive, MqGetattr, MqSetattr, MqNotify, NextNotice, Collect, MqTimedSend, MqTimedReceive, Withdraw}
 use Rattle.mq_model.specs.declared.entries.Description.{Description}
 use Rattle.mq_model.specs.declared.entries.Reply.{Reply}
 use Rattle.mq_model.specs.declared.entries.Reply.TheVariants as reply
@@ -22,13 +20,11 @@ use Rattle.mq_model.proofs.LegalReplies.{legal_says}
 use Rattle.mq_model.proofs.Places.{find-in, split}
 use Rattle.mq_model.proofs.Presence.{GotFacts, present-got_elsewhere, present-got_here, present-handed, without-fewer}
 use Rattle.mq_model.proofs.Steps.{present-queued, present-queued_elsewhere, without}
-use Rattle.histories.specs.declared.operation.Operation.{Operation}
 use Rattle.histories.specs.Histories.{Histories, current_of, is_through}
 use Rattle.histories.specs.Linearizations.{IsLinearization}
 use Rattle.histories.specs.Outcomes.{hands}
 use Rattle.histories.specs.OwnCalls.{ends_wait}
 use Rattle.histories.specs.Named.{has_any, unbinds}
-use Rattle.histories.specs.NotFull.{takes_out}
 use Rattle.histories.proofs.Accepting.{send-on}
 use Rattle.histories.proofs.Completing.{length-with, one_if}
 use Rattle.histories.proofs.Cutting.{AreBegun, Ends, ends-older}
@@ -58,13 +54,7 @@ HasName name past q = (k : ℕ) → is_in (created past) k ≡ true → bytes_eq
 
 got-here : (past : Past) → Legal past → (p : ℕ) (call : Call) (h : Description) (m : ℕ) (a n : Option ℕ) (payload : List ℕ) → BestReply past h (reply.Got m a n) →
     length (present (rec p call (reply.Got m a n) payload ∷ past) h.queue) + 1 ≤ length (present past h.queue) + one_if (is_some a)
-got-here past legal p call h m a n payload says =
-    let facts : GotFacts past h.queue m a = record { inside = (find-in _ (present past h.queue) m says.0).0; admitted = says.1 } in
-    let here = present-got_here past legal p call m a n payload h.queue facts in
-    let fewer = without-fewer m (present past h.queue) facts.inside in
-    let more = length-with a (without m (present past h.queue)) in
-    let count : length (present (rec p call (reply.Got m a n) payload ∷ past) h.queue) ≡ length (with_place a (without m (present past h.queue))) = ap length here in
-    omega (arith, count, fewer, more)
+got-here past legal p call h m a n payload says = grind (arith, GotFacts, find-in, present-got_here, without-fewer, length-with, without)
 
 -- what a receive does to a queue, if it is on it or not
 got-at : (past : Past) → Legal past → (p : ℕ) (call : Call) (h : Description) (m : ℕ) (a n : Option ℕ) (payload : List ℕ) → BestReply past h (reply.Got m a n) → (q : ℕ) →
@@ -80,73 +70,25 @@ got-at past legal p call h m a n payload says q = split (h.queue == q)
     let same = ap length (present-got_elsewhere past p call m a n payload h.queue q facts apart) in
     rw f (omega (arith, same)))
 
-present-got : (past : Past) → Legal past → (p : ℕ) (call : Call) (m : ℕ) (a n : Option ℕ) (payload : List ℕ) → Says past p call (reply.Got m a n) → (q : ℕ) →
-    length (present (rec p call (reply.Got m a n) payload ∷ past) q) + if_on (is_place q (called_queue past p call)) 1 ≤ length (present past q) + if_on (is_place q (called_queue past p call)) (one_if (is_some a))
-present-got past legal p (MqReceive d room) m a n payload says q = rw says.1 (got-at past legal p (MqReceive d room) says.0 m a n payload says.3 q)
-present-got past legal p (MqTimedReceive d room until now) m a n payload says q = rw says.1 (got-at past legal p (MqTimedReceive d room until now) says.0 m a n payload says.3 q)
-present-got past legal p (MqClose d) m a n payload says q = absurd says.0
-present-got past legal p (MqSend d prio len) m a n payload says q = absurd says.3
-present-got past legal p (MqTimedSend d prio len until now) m a n payload says q = absurd says.3
-present-got past legal p NextNotice m a n payload says q = absurd (cc)
-present-got past legal p Collect m a n payload says q = absurd (cc)
-present-got past legal p (Withdraw now) m a n payload says q = absurd (cc)
-present-got past legal p _ m a n payload says q = absurd says
-
 if_on-zero : (on : Bool) → if_on on 0 ≡ 0
-if_on-zero true = refl
-if_on-zero false = refl
+if_on-zero on = grind arith
 
 present-step : (past : Past) → Legal past → (p : ℕ) (call : Call) (y : Reply) (payload : List ℕ) → Says past p call y → (q : ℕ) →
     length (present (rec p call y payload ∷ past) q) + if_on (is_place q (called_queue past p call)) (gone y) ≤ length (present past q) + if_on (is_place q (called_queue past p call)) (came y)
-present-step past legal p call (reply.Queued n) payload says q = split (is_place q (called_queue past p call))
-    (λ on.
-    let e : length (present (rec p call (reply.Queued n) payload ∷ past) q) ≡ suc (length (present past q)) = ap length (present-queued past p call q n payload legal (queued-sends past p n call says) on) in
-    let none = if_on-zero (is_place q (called_queue past p call)) in
-    let one : if_on (is_place q (called_queue past p call)) 1 ≡ 1 = ap (λ (b : Bool). if_on b 1) on in
-    omega (arith, e, none, one))
-    (λ off.
-    let e : length (present (rec p call (reply.Queued n) payload ∷ past) q) ≡ length (present past q) = ap length (present-queued_elsewhere past p call q n payload off) in
-    let none = if_on-zero (is_place q (called_queue past p call)) in
-    omega (arith, e, none))
-present-step past legal p call (reply.Got m a n) payload says q = present-got past legal p call m a n payload says q
-present-step past legal p call (reply.Handed w) payload says q =
-    let e = ap length (present-handed past p call w payload q) in
-    let none = if_on-zero (is_place q (called_queue past p call)) in
-    omega (arith, e, none)
-present-step past legal p call _ payload says q = let none = if_on-zero (is_place q (called_queue past p call)) in omega (arith, none)
-
--- what a record adds on both sides
-balanced : (y : Reply) → came y + (own_gain y + one_if (hands y)) ≤ gone y + (own_come y + one_if (is_some (admits y)))
-balanced (reply.Queued n) = omega arith
-balanced (reply.Got m a n) = omega arith
-balanced (reply.Handed w) = omega arith
-balanced (reply.Opened d c) = omega arith
-balanced reply.Waits = omega arith
-balanced (reply.Collected b) = omega arith
-balanced (reply.Withdrawn b) = omega arith
-balanced (reply.Attrs s) = omega arith
-balanced (reply.Notice v) = omega arith
-balanced reply.Done = omega arith
-balanced (reply.Refused f) = omega arith
+present-step past legal p call y payload says q = grind (arith, present-queued, queued-sends, if_on-zero, if_on, present-queued_elsewhere, present-handed, rec, one_if, got-at)
 
 balanced-on : (on : Bool) (y : Reply) → if_on on (came y) + if_on on (own_gain y + one_if (hands y)) ≤ if_on on (gone y) + if_on on (own_come y + one_if (is_some (admits y)))
-balanced-on true y = balanced y
-balanced-on false y = omega arith
+balanced-on on y = grind arith
 
 -- a call that brings in or takes out a message is on the queue if and only if its operation is
 same-side : (time : ℕ) (name : List ℕ) (histories : Histories) (past : Past) (r : Record) (linear : IsLinearization histories (r ∷ past)) → AreBegun time histories (r ∷ past) linear → has_any (unbinds time name) histories ≡ false → (q : ℕ) → HasName name past q →
     ((k : ℕ) → called_queue past r.entry.process r.entry.call ≡ Some k → ends_wait r.entry.call ≡ false) → (k : ℕ) → called_queue past r.entry.process r.entry.call ≡ Some k →
     is_place q (called_queue past r.entry.process r.entry.call) ≡ record_on name histories past r linear
-same-side time name histories past r linear begun stays q named own k on =
-    let legal = legal-linear histories past linear.0 in
-    let made = called-created past legal r.entry.process k r.entry.call on in
-    ap (is_place q) on ∙ sym (named k made) ∙ sym (call-marked time name histories past r linear begun stays (own k on) k on)
+same-side time name histories past r linear begun stays q named own k on = grind (arith, legal-linear, called-created, call-marked)
 
 -- a call that names a descriptor ends no wait
 names-own : (past : Past) (p : ℕ) (call : Call) (k : ℕ) → called_queue past p call ≡ Some k → ends_wait call ≡ false
-names-own past p Collect k e = absurd (let bad : None ≡ Some k = e in cc)
-names-own past p (Withdraw now) k e = absurd (let bad : None ≡ Some k = e in cc)
-names-own past p _ k e = refl
+names-own past p call k e = grind arith
 
 -- what a record changes
 abbrev IsStep : Past → Record → ℕ → Bool → Type 0
@@ -184,18 +126,7 @@ step-on time name histories past r linear begun stays q named = by (called_queue
 pub balance : (time : ℕ) (name : List ℕ) (histories : Histories) (full past : Past) (linear : IsLinearization histories past) → AreBegun time histories past linear → has_any (unbinds time name) histories ≡ false → IsLinearization histories full → Ends past full →
     ((i : ℕ) → is_through (current_of histories full i) ≡ true) → (q : ℕ) → HasName name past q →
     length (present past q) + total (got_by name histories past) (length histories) ≤ total (entered_by time name histories past) (length histories)
-balance time name histories full [] linear begun stays whole ends through q named =
-    let none = total-le (got_by name histories []) (λ i. 0) (length histories) (λ i lt. nothing (slice_get histories i)) in
-    let zero_all = total-zero (length histories) in
-    omega (arith, none, zero_all)
-  where
-    nothing : (o : Option (Vec Operation Global)) → of_process (λ (v : Vec Operation Global). tally takes_out name v.items 0) o + 0 ≤ 0
-    nothing None = omega arith
-    nothing (Some v) = omega arith
-
-    total-zero : (n : ℕ) → total (λ i. 0) n ≡ 0
-    total-zero zero = refl
-    total-zero (suc n) = let before = total-zero n in omega (arith, before)
+balance time name histories full [] linear begun stays whole ends through q named = grind (arith, total-le, got_by, of_process, tally, total)
 balance time name histories full (r ∷ past) linear begun stays whole ends through q named =
     let older : HasName name past q = λ k old.
     ap (λ (b : List ℕ). bytes_eq b name) (sym (name_of-older past r k (created-below past k old))) ∙ named k (created-more past r k old) in

@@ -1,18 +1,16 @@
 -- How many operations are completed at each record of a linearization.
-use Rattle.std.proofs.Common.{◌≡◌, ◌≢◌, ℕ, ◌+◌, ◌≤◌, ◌==◌, zero, suc, Bool, true, false, ◌&&◌, List, [], ◌∷◌, length, take, Option, Some, None, is_some, is_none, Vec, ◌⊎◌, inl, inr, refl, sym, ◌∙◌, ap, subst, arith, if◌then◌else◌, slice_get, count_by, eq-eqb, ne_eqb, le-leb}
+use Rattle.std.proofs.Common.{◌≡◌, ◌≢◌, ℕ, ◌+◌, ◌≤◌, ◌==◌, zero, suc, Bool, true, false, List, [], ◌∷◌, length, take, Option, Some, None, is_some, Vec, ◌⊎◌, inl, inr, refl, ap, subst, arith, if◌then◌else◌, slice_get, count_by, eq-eqb, ne_eqb, le-leb, Global}
 use Rattle.std.specs.Option.{option_and_then}
-use Rattle.std.specs.Str.{bytes_eq}
-use Rattle.std.specs.declared.alloc.Global.{Global}
 use Rattle.std.proofs.lemmas.Bool.{and_parts}
 use Rattle.std.proofs.lemmas.Option.{slice_get_within}
 use Rattle.std.proofs.lemmas.Slice.Eq.{bytes_eq-Decides}
 use Rattle.mq_model.specs.Record.{Record, Past, Place, Process}
-use Rattle.mq_model.specs.Messages.{is_send, priority_given, with_place}
+use Rattle.mq_model.specs.Messages.{is_send, with_place}
 use Rattle.mq_model.specs.Waits.{is_wait, open_wait}
-use Rattle.mq_model.specs.Legality.{IsLegalNext, is_refused, payload_of}
+use Rattle.mq_model.specs.Legality.{IsLegalNext, payload_of}
 use Rattle.mq_model.proofs.Places.{split, same_place}
 use Rattle.mq_model.specs.declared.entries.Call.{Call}
-use Rattle.mq_model.specs.declared.entries.Call.TheVariants.{MqOpen, MqClose, MqUnlink, MqSend, MqReceive, MqGetattr, MqSetattr, MqNotify, NextNotice, Collect, MqTimedSend, MqTimedReceive, Withdraw}
+use Rattle.mq_model.specs.declared.entries.Call.TheVariants.{Collect}
 use Rattle.mq_model.specs.declared.entries.Reply.{Reply}
 use Rattle.mq_model.specs.declared.entries.Reply.TheVariants as reply
 use Rattle.mq_laws.proofs.SentMessages.{is_sent}
@@ -20,11 +18,10 @@ use Rattle.histories.specs.OwnCalls.{ends_wait, made}
 use Rattle.histories.proofs.OwnCalls.{turn-of-own, some-of-none}
 use Rattle.histories.specs.declared.operation.Operation.{Operation}
 use Rattle.histories.specs.declared.operation.Outcome.{Outcome}
-use Rattle.histories.specs.declared.operation.Outcome.TheVariants.{Pending, Done, Opened, Got, Attributes, Notice, Refused}
-use Rattle.histories.specs.Outcomes.{brings, fits}
+use Rattle.histories.specs.Outcomes.{fits}
 use Rattle.histories.specs.Histories.{Histories, completed, current, current_of}
 use Rattle.histories.specs.Linearizations.{ComesFrom, IsCallOf, IsLinearization, IsWithdrawalOf}
-use Rattle.histories.specs.Excess.{has_got, may_have_sent, receives, sends, sends_by}
+use Rattle.histories.specs.Excess.{may_have_sent, receives, sends, sends_by}
 use Rattle.histories.proofs.Cutting.{AreBegun}
 use Rattle.histories.proofs.Giving.{given_by, given_of, is_sending, sent_of}
 use Rattle.histories.proofs.Totals.{count-fewer, count-more, of_process, total, total-grows, total-le, total-more}
@@ -45,9 +42,7 @@ made-same past r p ends = split (r.entry.process == p) (λ t. rw (t, ends) refl)
 
 -- a process that does not wait has completed all that it has made
 pub free : (past : Past) (r : Record) (p : Process) → r.entry.process ≡ p → IsLegalNext past r → ends_wait r.entry.call ≡ false → is_some (open_wait past p) ≡ false
-free past r p mine legal own =
-    let none : is_none (open_wait past r.entry.process) ≡ true = sym (turn-of-own past r.entry.process r.entry.call own) ∙ legal.turn in
-    subst (λ (q : ℕ). is_some (open_wait past q) ≡ false) mine (some-of-none (open_wait past r.entry.process) none)
+free past r p mine legal own = grind (arith, turn-of-own, some-of-none)
 
 pub completed-free : (past : Past) (p : Process) → is_some (open_wait past p) ≡ false → completed past p ≡ made past p
 completed-free past p none = rw none refl
@@ -60,17 +55,7 @@ abbrev pub added : Reply → ℕ
 added y = if is_wait y then 0 else 1
 
 pub completed-own : (past : Past) (r : Record) (p : Process) → r.entry.process ≡ p → IsLegalNext past r → completed (r ∷ past) p ≤ completed past p + added r.entry.reply
-completed-own past r p mine legal =
-    let here = eq-eqb r.entry.process p mine in
-    split (ends_wait r.entry.call)
-    (λ ends. split (is_wait r.entry.reply)
-    (λ waits. split (is_some (open_wait past p)) (λ t. rw (here, ends, waits, t) (omega arith)) (λ f. rw (here, ends, waits, f) (omega arith)))
-    (λ quiet. split (is_some (open_wait past p)) (λ t. rw (here, ends, quiet, t) (omega arith)) (λ f. rw (here, ends, quiet, f) (omega arith))))
-    (λ own.
-    let none = free past r p mine legal own in
-    split (is_wait r.entry.reply)
-    (λ waits. rw (here, own, waits, none) (omega arith))
-    (λ quiet. rw (here, own, quiet, none) (omega arith)))
+completed-own past r p mine legal = grind (arith, eq-eqb, free)
 
 -- sends ------------------------------------------------------------------------------------------------------------------
 
@@ -80,54 +65,19 @@ begun_sends time prio message histories past index =
     of_process (λ (v : Vec Operation Global). count_by (sends_by time prio message) (take (made past (index + 1)) v.items)) (slice_get histories index)
 
 ending-sends-not : (call : Call) → ends_wait call ≡ true → is_send call ≡ false
-ending-sends-not (MqSend d prio len) e = absurd (let bad : false ≡ true = e in cc)
-ending-sends-not (MqTimedSend d prio len until now) e = absurd (let bad : false ≡ true = e in cc)
-ending-sends-not _ e = refl
+ending-sends-not call e = grind arith
 
 pub sent-may : (past : Past) (y : Reply) (outcome : Outcome) → is_sent y ≡ true → fits past y outcome ≡ true → may_have_sent outcome ≡ true
-sent-may past y Pending sent fit = refl
-sent-may past y Done sent fit = refl
-sent-may past y (Opened d) sent fit = refl
-sent-may past y (Got prio message) sent fit = refl
-sent-may past y (Attributes status) sent fit = refl
-sent-may past y (Notice value) sent fit = refl
-sent-may past (reply.Queued n) (Refused fault) sent fit = absurd (let bad : false ≡ true = fit in cc)
-sent-may past (reply.Handed w) (Refused fault) sent fit = absurd (let bad : false ≡ true = fit in cc)
-sent-may past reply.Waits (Refused fault) sent fit = fit
-sent-may past (reply.Opened d created) (Refused fault) sent fit = absurd (let bad : false ≡ true = sent in cc)
-sent-may past (reply.Got m a n) (Refused fault) sent fit = absurd (let bad : false ≡ true = sent in cc)
-sent-may past (reply.Collected b) (Refused fault) sent fit = absurd (let bad : false ≡ true = sent in cc)
-sent-may past (reply.Withdrawn b) (Refused fault) sent fit = absurd (let bad : false ≡ true = sent in cc)
-sent-may past (reply.Attrs s) (Refused fault) sent fit = absurd (let bad : false ≡ true = sent in cc)
-sent-may past (reply.Notice v) (Refused fault) sent fit = absurd (let bad : false ≡ true = sent in cc)
-sent-may past reply.Done (Refused fault) sent fit = absurd (let bad : false ≡ true = sent in cc)
-sent-may past (reply.Refused f) (Refused fault) sent fit = absurd (let bad : false ≡ true = sent in cc)
-
-sent-refuses-not : (y : Reply) → is_sent y ≡ true → is_refused y ≡ false
-sent-refuses-not (reply.Queued n) sent = refl
-sent-refuses-not (reply.Handed w) sent = refl
-sent-refuses-not reply.Waits sent = refl
-sent-refuses-not _ sent = absurd (let bad : false ≡ true = sent in cc)
+sent-may past y outcome sent fit = grind arith
 
 -- the payload of a send that did not fail is the message that it was given
 pub sent-payload : (call : Call) (y : Reply) (given : List ℕ) → is_send call ≡ true → is_sent y ≡ true → payload_of call y given ≡ given
-sent-payload (MqSend d prio len) y given send sent = rw (sent-refuses-not y sent) refl
-sent-payload (MqTimedSend d prio len until now) y given send sent = rw (sent-refuses-not y sent) refl
-sent-payload _ y given send sent = absurd (let bad : false ≡ true = send in cc)
+sent-payload call y given send sent = grind arith
 
 -- the operation of a record that sends the message sends it
 pub sending-operation : (past : Past) (r : Record) (operation : Operation) (prio : ℕ) (message : List ℕ) → IsCallOf r operation → fits past r.entry.reply operation.outcome ≡ true →
     is_sending prio message r ≡ true → sends prio message operation ≡ true
-sending-operation past r operation prio message is fit sending =
-    let one = and_parts (is_send r.entry.call && is_sent r.entry.reply && priority_given r.entry.call == prio) (bytes_eq r.payload message) sending in
-    let two = and_parts (is_send r.entry.call && is_sent r.entry.reply) (priority_given r.entry.call == prio) one.0 in
-    let three = and_parts (is_send r.entry.call) (is_sent r.entry.reply) two.0 in
-    let send : is_send operation.call ≡ true = subst (λ (c : Call). is_send c ≡ true) is.call three.0 in
-    let may = sent-may past r.entry.reply operation.outcome three.1 fit in
-    let priority : (priority_given operation.call == prio) ≡ true = subst (λ (c : Call). (priority_given c == prio) ≡ true) is.call two.1 in
-    let payload : r.payload ≡ operation.given.items = is.payload ∙ sent-payload operation.call r.entry.reply operation.given.items send three.1 in
-    let bytes : bytes_eq operation.given.items message ≡ true = subst (λ (b : List ℕ). bytes_eq b message ≡ true) payload one.1 in
-    rw (send, may, priority, bytes) refl
+sending-operation past r operation prio message is fit sending = grind (arith, and_parts, is_sent, sent-may, sent-payload)
 
 -- the operations of the process of a record
 pub record HasOperations (histories : Histories) (index n : ℕ) (operation : Operation) : Type 0 where
@@ -149,8 +99,7 @@ length-sent : (prio : ℕ) (message : List ℕ) (past : Past) (r : Record) → l
 length-sent prio message past r = split (is_sending prio message r) (λ y. rw y (omega arith)) (λ n. rw n (omega arith))
 
 pub one-le : (a b : Bool) → (a ≡ true → b ≡ true) → one_if a ≤ one_if b
-one-le true b e = rw (e refl) (omega arith)
-one-le false b e = omega arith
+one-le a b e = grind arith
 
 pub sent-begun : (time prio : ℕ) (message : List ℕ) (histories : Histories) (past : Past) (linear : IsLinearization histories past) → AreBegun time histories past linear →
     length (sent_of prio message past) ≤ total (begun_sends time prio message histories past) (length histories)
@@ -196,27 +145,8 @@ abbrev pub completed_receives : ℕ → List ℕ → Histories → Past → ℕ 
 completed_receives prio message histories past index =
     of_process (λ (v : Vec Operation Global). count_by (receives prio message) (take (completed past (index + 1)) v.items)) (slice_get histories index)
 
--- a reply that fits an operation that received the message hands it out, or is a wait
-got-given : (past : Past) (y : Reply) (prio : ℕ) (message : List ℕ) → is_wait y ≡ false → brings past y prio message ≡ true → is_some (given_by past prio message y) ≡ true
-got-given past (reply.Got m a n) prio message quiet e = rw e refl
-got-given past (reply.Collected by) prio message quiet e = rw e refl
-got-given past reply.Waits prio message quiet e = absurd (let bad : true ≡ false = quiet in cc)
-got-given past _ prio message quiet e = absurd (let bad : false ≡ true = e in cc)
-
-receives-given : (past : Past) (y : Reply) (outcome : Outcome) (prio : ℕ) (message : List ℕ) → is_wait y ≡ false → fits past y outcome ≡ true → has_got prio message outcome ≡ true →
-    is_some (given_by past prio message y) ≡ true
-receives-given past y (Got p m) prio message quiet fit got =
-    let parts = and_parts (p == prio) (bytes_eq m.items message) got in
-    let same : p ≡ prio = same_place p prio parts.0 in
-    let bytes : m.items ≡ message = (bytes_eq-Decides m.items message).0 parts.1 in
-    let P : ℕ → Type 0 = λ k. brings past y k m.items ≡ true in
-    let Q : List ℕ → Type 0 = λ b. brings past y prio b ≡ true in
-    got-given past y prio message quiet (subst Q bytes (subst P same fit))
-receives-given past y _ prio message quiet fit got = absurd (let bad : false ≡ true = got in cc)
-
 pub length-with : (o : Option Place) (xs : List ℕ) → length (with_place o xs) ≡ length xs + one_if (is_some o)
-length-with None xs = omega arith
-length-with (Some k) xs = omega arith
+length-with o xs = grind arith
 
 -- what the record of an operation adds to the receives that are completed
 abbrev gained : ℕ → List ℕ → Reply → Operation → ℕ
@@ -224,9 +154,7 @@ gained prio message y operation = if is_wait y then 0 else one_if (receives prio
 
 gained-le : (past : Past) (y : Reply) (operation : Operation) (prio : ℕ) (message : List ℕ) → fits past y operation.outcome ≡ true →
     gained prio message y operation ≤ one_if (is_some (given_by past prio message y))
-gained-le past y operation prio message fit = split (is_wait y)
-    (λ waits. rw waits (omega arith))
-    (λ quiet. rw quiet (one-le (receives prio message operation) (is_some (given_by past prio message y)) (receives-given past y operation.outcome prio message quiet fit)))
+gained-le past y operation prio message fit = grind (arith, one-le, given_by, and_parts, same_place, bytes_eq-Decides)
 
 completed-gain : (prio : ℕ) (message : List ℕ) (xs : List Operation) (n m : ℕ) (y : Reply) (operation : Operation) → slice_get xs n ≡ Some operation → m ≤ n + added y →
     count_by (receives prio message) (take m xs) ≤ count_by (receives prio message) (take n xs) + gained prio message y operation

@@ -1,10 +1,10 @@
 -- The first records of a linearization: those of what began by a time.
-use Rattle.std.proofs.Common.{◌≡◌, ℕ, ◌≤◌, ◌<◌, zero, suc, Bool, true, false, not, [], ◌∷◌, length, Option, Some, None, ◌⊎◌, inl, inr, refl, sym, arith, subst, nat_lt, ltb-false}
+use Rattle.std.proofs.lemmas.Bool.Decides.{nat_tests}
+use Rattle.std.proofs.Common.{◌≡◌, ℕ, ◌≤◌, ◌<◌, zero, suc, Bool, true, not, [], ◌∷◌, length, Option, Some, None, ◌⊎◌, inl, inr, refl, sym, arith, subst, ltb-false}
 use Rattle.std.proofs.lemmas.Bool.{and_parts, cases_lt, lt-ltb}
 use Rattle.mq_model.specs.Record.{Record, Past}
-use Rattle.mq_model.proofs.Places.{split}
 use Rattle.histories.specs.declared.operation.Operation.{Operation}
-use Rattle.histories.specs.Histories.{Histories, are_through, current_of, ended_before, is_complete, is_pending, is_through, none_ended}
+use Rattle.histories.specs.Histories.{Histories, are_through, current_of, ended_before, is_complete, is_through, none_ended}
 use Rattle.histories.specs.Linearizations.{ComesFrom, IsLinearization}
 use Rattle.histories.specs.Excess.{returns_after}
 
@@ -58,13 +58,7 @@ pub record IsCut (time : ℕ) (histories : Histories) (past : Past) : Type 0 whe
   pub through : (i : ℕ) → i < length histories → is_through_by time (current_of histories part i) ≡ true
 
 not-before : (o : Option Operation) (begin time : ℕ) → not (ended_before begin o) ≡ true → time < begin → is_through_by time o ≡ true
-not-before None begin time late less = refl
-not-before (Some o) begin time late less = split (nat_lt o.end begin)
-    (λ t. let bad : false ≡ true = rw t at late in absurd (cc))
-    (λ f.
-    let above = ltb-false o.end begin f in
-    let after = lt-ltb time o.end (omega (arith, above, less)) in
-    rw after (split (is_pending o.outcome) (λ t. rw t refl) (λ f. rw f refl)))
+not-before o begin time late less = grind (arith, ltb-false, lt-ltb)
 
 pub none-left : (histories : Histories) (past : Past) (begin time n i : ℕ) → none_ended histories past begin n ≡ true → time < begin → i < n → is_through_by time (current_of histories past i) ≡ true
 none-left histories past begin time zero i none less below = absurd (omega (arith, below))
@@ -85,13 +79,7 @@ begun-or-cut time histories (r ∷ past) linear = elim (begun-or-cut time histor
   | inl begun ↦
       let from : ComesFrom histories past r = linear.2 in
       elim (cases_lt time from.operation.begin) [
-        | inl late ↦ inr (record {
-          part = past;
-          ends = inr (ends-self past);
-          linear = linear.0;
-          begun = begun;
-          through = λ i below. none-left histories past from.operation.begin time (length histories) i from.in_time late below;
-        })
+        | inl late ↦ grind (arith, nat_tests, ends-self, none-left)
         | inr by_then ↦ inl (begun, by_then)
       ]
 ]
@@ -108,18 +96,11 @@ through-each histories past (suc n) i through below =
     ]
 
 through-by : (o : Option Operation) (time : ℕ) → is_through o ≡ true → is_through_by time o ≡ true
-through-by None time e = refl
-through-by (Some o) time e = let pending : is_pending o.outcome ≡ true = e in rw pending refl
+through-by o time e = grind arith
 
 -- each complete linearization has such a part
 pub cut : (time : ℕ) (histories : Histories) (past : Past) → IsLinearization histories past → is_complete histories past ≡ true → IsCut time histories past
 cut time histories past linear complete = elim (begun-or-cut time histories past linear) [
   | inr part ↦ part
-  | inl begun ↦ record {
-    part = past;
-    ends = ends-self past;
-    linear = linear;
-    begun = begun;
-    through = λ i below. through-by (current_of histories past i) time (through-each histories past (length histories) i complete below);
-  }
+  | inl begun ↦ grind (arith, nat_tests, ends-self, through-by, through-each)
 ]

@@ -1,6 +1,5 @@
 -- How many messages entered the queue of a name at each record of a linearization.
-use Rattle.std.proofs.Common.{◌≡◌, ℕ, ◌+◌, ◌≤◌, ◌<◌, ◌-◌, ◌==◌, Bool, true, false, ◌&&◌, List, [], ◌∷◌, length, take, Option, Some, None, is_some, Vec, refl, sym, ◌∙◌, ap, subst, arith, if◌then◌else◌, slice_get, eqb-true, eq-eqb, le-leb}
-use Rattle.std.specs.declared.alloc.Global.{Global}
+use Rattle.std.proofs.Common.{◌≡◌, ℕ, ◌+◌, ◌≤◌, ◌<◌, ◌-◌, ◌==◌, Bool, true, false, ◌&&◌, List, [], ◌∷◌, length, take, Option, Some, None, is_some, Vec, refl, sym, ◌∙◌, ap, subst, arith, if◌then◌else◌, slice_get, eqb-true, eq-eqb, le-leb, Global}
 use Rattle.std.proofs.lemmas.Bool.{eqb-false}
 use Rattle.std.proofs.lemmas.Option.{slice_get_within}
 use Rattle.mq_model.specs.Record.{Record, Past}
@@ -8,7 +7,6 @@ use Rattle.mq_model.specs.Descriptors.{called_queue, descriptor_of}
 use Rattle.mq_model.specs.Messages.{admits, blocked_sends, is_send, least, waiting_sends}
 use Rattle.mq_model.specs.Waits.{answered_by, is_answered, is_wait, named_wait, names_wait, open_wait}
 use Rattle.mq_model.specs.declared.entries.Call.{Call}
-use Rattle.mq_model.specs.declared.entries.Call.TheVariants.{MqOpen, MqClose, MqUnlink, MqSend, MqReceive, MqGetattr, MqSetattr, MqNotify, NextNotice, Collect, MqTimedSend, MqTimedReceive, Withdraw}
 use Rattle.mq_model.specs.declared.entries.Reply.{Reply}
 use Rattle.mq_model.specs.declared.entries.Reply.TheVariants as reply
 use Rattle.mq_model.specs.declared.owners.WaitKind.TheVariants.{Send}
@@ -24,7 +22,7 @@ use Rattle.mq_laws.proofs.SentMessages.{blocked-sent}
 use Rattle.histories.specs.OwnCalls.{ends_wait, made}
 use Rattle.histories.specs.declared.operation.Operation.{Operation}
 use Rattle.histories.specs.declared.operation.Outcome.{Outcome}
-use Rattle.histories.specs.declared.operation.Outcome.TheVariants.{Pending, Done, Opened, Got, Attributes, Notice, Refused}
+use Rattle.histories.specs.declared.operation.Outcome.TheVariants.{Got}
 use Rattle.histories.specs.Histories.{Histories, completed, current_of, is_through}
 use Rattle.histories.specs.Linearizations.{IsLinearization}
 use Rattle.histories.specs.Outcomes.{fits, hands, is_handed}
@@ -60,9 +58,7 @@ own_come (reply.Handed w) = 1
 own_come _ = 0
 
 answer-step : (a c : Bool) (o : Option ℕ) (k n : ℕ) → n + one_if (is_some o && c) ≤ n + one_if (is_some (if a then Some k else o) && c)
-answer-step true c None k n = omega arith
-answer-step true c (Some j) k n = omega arith
-answer-step false c o k n = omega arith
+answer-step a c o k n = grind arith
 
 other-entered : (time : ℕ) (name : List ℕ) (histories : Histories) (past : Past) (r : Record) (i : ℕ) → (r.entry.process == i + 1) ≡ false → entered_by time name histories past i ≤ entered_by time name histories (r ∷ past) i
 other-entered time name histories past r i other =
@@ -101,38 +97,10 @@ waits-made histories (r ∷ past) linear p w e = split (r.entry.process == p)
 
 -- a message is queued by a send
 pub queued-sends : (past : Past) (p : ℕ) (n : Option ℕ) (call : Call) → Says past p call (reply.Queued n) → is_send call ≡ true
-queued-sends past p n (MqSend d prio len) says = refl
-queued-sends past p n (MqTimedSend d prio len until now) says = refl
-queued-sends past p n (MqClose d) says = absurd says.0
-queued-sends past p n (MqReceive d room) says = absurd says.3
-queued-sends past p n (MqTimedReceive d room until now) says = absurd says.3
-queued-sends past p n NextNotice says = absurd (cc)
-queued-sends past p n Collect says = absurd (cc)
-queued-sends past p n (Withdraw now) says = absurd (cc)
-queued-sends past p n _ says = absurd says
+queued-sends past p n call says = grind arith
 
 done-enters : (past : Past) (y : Reply) (x : Outcome) → own_come y ≡ 1 → fits past y x ≡ true → may_enter x ≡ true
-done-enters past y Pending come fit = refl
-done-enters past y Done come fit = refl
-done-enters past (reply.Queued n) (Opened d) come fit = absurd (let bad : false ≡ true = fit in cc)
-done-enters past (reply.Queued n) (Got p m) come fit = absurd (let bad : false ≡ true = fit in cc)
-done-enters past (reply.Queued n) (Attributes s) come fit = absurd (let bad : false ≡ true = fit in cc)
-done-enters past (reply.Queued n) (Notice v) come fit = absurd (let bad : false ≡ true = fit in cc)
-done-enters past (reply.Queued n) (Refused f) come fit = absurd (let bad : false ≡ true = fit in cc)
-done-enters past (reply.Handed w) (Opened d) come fit = absurd (let bad : false ≡ true = fit in cc)
-done-enters past (reply.Handed w) (Got p m) come fit = absurd (let bad : false ≡ true = fit in cc)
-done-enters past (reply.Handed w) (Attributes s) come fit = absurd (let bad : false ≡ true = fit in cc)
-done-enters past (reply.Handed w) (Notice v) come fit = absurd (let bad : false ≡ true = fit in cc)
-done-enters past (reply.Handed w) (Refused f) come fit = absurd (let bad : false ≡ true = fit in cc)
-done-enters past (reply.Opened d c) x come fit = absurd (omega (arith, come))
-done-enters past (reply.Got m a n) x come fit = absurd (omega (arith, come))
-done-enters past reply.Waits x come fit = absurd (omega (arith, come))
-done-enters past (reply.Collected b) x come fit = absurd (omega (arith, come))
-done-enters past (reply.Withdrawn w) x come fit = absurd (omega (arith, come))
-done-enters past (reply.Attrs s) x come fit = absurd (omega (arith, come))
-done-enters past (reply.Notice v) x come fit = absurd (omega (arith, come))
-done-enters past reply.Done x come fit = absurd (omega (arith, come))
-done-enters past (reply.Refused f) x come fit = absurd (omega (arith, come))
+done-enters past y x come fit = grind arith
 
 -- what a reply of the call of an operation brings into a queue is its message
 come-le : (time : ℕ) (histories : Histories) (past : Past) (r : Record) (linear : IsLinearization histories (r ∷ past)) → linear.2.operation.begin ≤ time → ends_wait r.entry.call ≡ false →
@@ -159,22 +127,16 @@ come-le time histories past r linear begun own = by r.entry.reply refl
 
 -- a collect and a withdrawal bring in nothing
 ending-come : (past : Past) (p : ℕ) (call : Call) (y : Reply) → Says past p call y → ends_wait call ≡ true → own_come y ≡ 0
-ending-come past p Collect y says ends = ap own_come says
-ending-come past p (Withdraw now) y says ends = ap own_come says
-ending-come past p _ y says ends = absurd (let bad : false ≡ true = ends in cc)
+ending-come past p call y says ends = grind arith
 
 some-of : (o : Option ℕ) → is_some o ≡ true → (b : ℕ) × (o ≡ Some b)
-some-of None e = absurd (let bad : false ≡ true = e in cc)
-some-of (Some b) e = (b, refl)
+some-of o e = grind arith
 
 none-of : (o : Option ℕ) → is_some o ≡ false → o ≡ None
-none-of None e = refl
-none-of (Some b) e = absurd (let bad : true ≡ false = e in cc)
+none-of o e = grind arith
 
 wait-come : (y : Reply) → is_wait y ≡ true → own_come y ≡ 0
-wait-come (reply.Queued n) e = absurd (let bad : false ≡ true = e in cc)
-wait-come (reply.Handed w) e = absurd (let bad : false ≡ true = e in cc)
-wait-come _ e = refl
+wait-come y e = grind arith
 
 -- the count at a process, by the operations that it has completed
 entered-quiet : (time : ℕ) (name : List ℕ) (histories : Histories) (past : Past) (i : ℕ) (v : Vec Operation Global) → slice_get histories i ≡ Some v → is_answered past (i + 1) ≡ false →
@@ -183,21 +145,13 @@ entered-quiet time name histories past i v has quiet = rw (has, quiet) (omega ar
 
 entered-is : (time : ℕ) (name : List ℕ) (histories : Histories) (past : Past) (i : ℕ) (v : Vec Operation Global) (o : Operation) → slice_get histories i ≡ Some v → current_of histories past i ≡ Some o → is_answered past (i + 1) ≡ true →
     entered_by time name histories past i ≡ tally (enters_by time) name v.items (completed past (i + 1)) + one_if (is_marked (marks_at name histories i (completed past (i + 1))) (descriptor_of o.call) && enters_by time o)
-entered-is time name histories past i v o has is answered =
-    let marks : List Bool = marks_at name histories i (completed past (i + 1)) in
-    let now : (is_on_now name histories past i && enters_now time (current_of histories past i)) ≡ (is_marked marks (descriptor_of o.call) && enters_by time o) =
-    ap (λ (x : Option Operation). is_op_marked marks x && enters_now time x) is in
-    let one : one_if (is_answered past (i + 1) && (is_on_now name histories past i && enters_now time (current_of histories past i))) ≡ one_if (is_marked marks (descriptor_of o.call) && enters_by time o) = rw answered (ap one_if now) in
-    let count : of_process (λ (w : Vec Operation Global). tally (enters_by time) name w.items (completed past (i + 1))) (slice_get histories i) ≡ tally (enters_by time) name v.items (completed past (i + 1)) = ap (of_process (λ (w : Vec Operation Global). tally (enters_by time) name w.items (completed past (i + 1)))) has in
-    omega (arith, one, count)
+entered-is time name histories past i v o has is answered = grind (arith, marks_at, is_on_now, is_op_marked, one_if, of_process, tally)
 
 come-on : (on : Bool) (n : ℕ) (enters : Bool) → n ≤ one_if enters → if_on on n ≤ one_if (on && enters)
-come-on true n enters le = le
-come-on false n enters le = omega arith
+come-on on n enters le = grind arith
 
 if_on-zero : (on : Bool) (n : ℕ) → n ≡ 0 → if_on on n ≡ 0
-if_on-zero true n e = e
-if_on-zero false n e = refl
+if_on-zero on n e = grind arith
 
 own-entered : (time : ℕ) (name : List ℕ) (histories : Histories) (past : Past) (r : Record) (linear : IsLinearization histories (r ∷ past)) → linear.2.operation.begin ≤ time →
     entered_by time name histories past linear.2.index + if_on (record_on name histories past r linear) (own_come r.entry.reply) ≤ entered_by time name histories (r ∷ past) linear.2.index
@@ -264,21 +218,11 @@ own-entered time name histories past r linear begun =
 -- a waiting send that a receive admits ------------------------------------------------------------------------------------
 
 got-own : (past : Past) (p m : ℕ) (a n : Option ℕ) (call : Call) → Says past p call (reply.Got m a n) → ends_wait call ≡ false
-got-own past p m a n Collect says = absurd (cc)
-got-own past p m a n (Withdraw now) says = absurd (cc)
-got-own past p m a n _ says = refl
+got-own past p m a n call says = grind arith
 
 -- a receive that admits a send does so on its queue
 pub admits-on : (past : Past) (p m : ℕ) (a n : Option ℕ) (call : Call) → Says past p call (reply.Got m a n) → (q : ℕ) × (called_queue past p call ≡ Some q) × (a ≡ least (waiting_sends past q))
-admits-on past p m a n (MqReceive d room) says = (says.0.queue, rw says.1 refl, says.3.1)
-admits-on past p m a n (MqTimedReceive d room until now) says = (says.0.queue, rw says.1 refl, says.3.1)
-admits-on past p m a n (MqClose d) says = absurd says.0
-admits-on past p m a n (MqSend d prio len) says = absurd says.3
-admits-on past p m a n (MqTimedSend d prio len until now) says = absurd says.3
-admits-on past p m a n NextNotice says = absurd (cc)
-admits-on past p m a n Collect says = absurd (cc)
-admits-on past p m a n (Withdraw now) says = absurd (cc)
-admits-on past p m a n _ says = absurd says
+admits-on past p m a n call says = grind arith
 
 -- the process of the send
 record HasAdmitted (time : ℕ) (name : List ℕ) (histories : Histories) (past : Past) (r : Record) (linear : IsLinearization histories (r ∷ past)) : Type 0 where
@@ -343,8 +287,7 @@ admits-one time name histories full past r linear begun stays whole ends through
     one-on false = refl
 
 admitting-got : (y : Reply) (w : ℕ) → admits y ≡ Some w → (m : ℕ) × (n : Option ℕ) × (y ≡ reply.Got m (Some w) n)
-admitting-got (reply.Got m a n) w e = (m, n, ap (λ (b : Option ℕ). reply.Got m b n) e)
-admitting-got _ w e = absurd (let bad : None ≡ Some w = e in cc)
+admitting-got y w e = grind arith
 
 -- what one record adds to the messages that entered
 pub entered-step : (time : ℕ) (name : List ℕ) (histories : Histories) (full past : Past) (r : Record) (linear : IsLinearization histories (r ∷ past)) → AreBegun time histories (r ∷ past) linear → has_any (unbinds time name) histories ≡ false → IsLinearization histories full → Ends (r ∷ past) full →

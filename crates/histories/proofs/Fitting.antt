@@ -1,5 +1,5 @@
 -- Replies to a call after equivalent journals return what was seen, or neither does.
-use Rattle.std.proofs.Common.{◌≡◌, ℕ, ◌==◌, Bool, true, false, not, ◌&&◌, List, [], ◌∷◌, length, Option, Some, None, is_some, if◌then◌else◌, refl, ap, sym, ◌∙◌, subst, eq-eqb}
+use Rattle.std.proofs.Common.{◌≡◌, ℕ, ◌==◌, Bool, true, false, not, ◌&&◌, List, [], ◌∷◌, length, Option, Some, None, is_some, if◌then◌else◌, refl, ap, sym, ◌∙◌, subst, eq-eqb, arith}
 use Rattle.std.specs.Option.{option_map, unwrap_or}
 use Rattle.std.specs.Str.{bytes_eq}
 use Rattle.mq_model.specs.Record.{Record, Past, Place, Process, record_at}
@@ -8,7 +8,7 @@ use Rattle.mq_model.specs.Messages.{is_send}
 use Rattle.mq_model.specs.Waits.{answered_by, named_wait, names_wait, open_wait}
 use Rattle.mq_model.specs.Legality.{Legal, may_call, reply_to}
 use Rattle.mq_model.specs.declared.entries.Call.{Call}
-use Rattle.mq_model.specs.declared.entries.Call.TheVariants.{MqOpen, MqClose, MqUnlink, MqSend, MqReceive, MqTimedSend, MqTimedReceive, MqGetattr, MqSetattr, MqNotify, NextNotice, Collect, Withdraw}
+use Rattle.mq_model.specs.declared.entries.Call.TheVariants.{Collect}
 use Rattle.mq_model.specs.declared.entries.Reply.{Reply}
 use Rattle.mq_model.specs.declared.entries.Reply.TheVariants as replies
 use Rattle.mq_model.specs.declared.entries.Status.{Status}
@@ -16,29 +16,21 @@ use Rattle.mq_model.specs.declared.faults.Fault.{Fault}
 use Rattle.mq_model.proofs.Cases.{Says, reply_says}
 use Rattle.mq_model.proofs.Frames.{record_at-older}
 use Rattle.mq_model.proofs.Places.{split}
-use Rattle.mq_equivalence.specs.Views.{Message, answer, at, sent, told}
-use Rattle.mq_equivalence.specs.Steps.{message_given, record_of, shape}
+use Rattle.mq_equivalence.specs.Views.{Message, answer, at, told}
+use Rattle.mq_equivalence.specs.Steps.{message_given, shape}
 use Rattle.mq_equivalence.proofs.Calls.{is_other, message-older, never-collected}
 use Rattle.mq_equivalence.proofs.Effects.{answered-below, is_collected}
 use Rattle.mq_equivalence.specs.Equivalence.{EquivalentUnder, StepsEquivalent}
 use Rattle.mq_equivalence.proofs.Going.{shape-outline}
 use Rattle.histories.specs.declared.operation.Outcome.{Outcome}
 use Rattle.histories.specs.declared.operation.Outcome.TheVariants as outcomes
-use Rattle.histories.specs.Outcomes.{brings, completes, fits, hands, has_bytes, has_handed, has_priority, is_message, is_notice, opens, refuses, shows}
+use Rattle.histories.specs.Outcomes.{completes, fits, hands, is_notice, opens, refuses, shows}
 
 -- a reply that is no collect's --------------------------------------------------------------------------------------------
 
 abbrev is_message_of : Option Message → ℕ → List ℕ → Bool
 is_message_of None prio message = false
 is_message_of (Some m) prio message = (m.prio == prio) && bytes_eq m.bytes message
-
-message-at : (past : Past) (place : Place) (prio : ℕ) (message : List ℕ) → is_message past place prio message ≡ is_message_of (at sent past place) prio message
-message-at past place prio message =
-    let goes : (o : Option Record) → (has_priority (option_map (λ (r : Record). r.entry) o) prio && has_bytes (option_map (λ (r : Record). r.payload) o) message) ≡ is_message_of (option_map sent o) prio message =
-    λ (o : Option Record). elim o as (λ o. (has_priority (option_map (λ (r : Record). r.entry) o) prio && has_bytes (option_map (λ (r : Record). r.payload) o) message) ≡ is_message_of (option_map sent o) prio message)
-    [ None ↦ refl | Some r ↦ refl ]
-    in
-    goes (record_at past place)
 
 -- whether a reply of this shape with this message returns what was seen
 abbrev brings_of : Reply → Option Message → ℕ → List ℕ → Bool
@@ -55,100 +47,33 @@ fits_of r m (outcomes.Attributes status) = shows r status
 fits_of r m (outcomes.Notice value) = is_notice r value
 fits_of r m (outcomes.Refused fault) = refuses r fault
 
-completes-shape : (past : Past) (r : Reply) → is_collected r ≡ false → completes past r ≡ completes [] (shape r)
-completes-shape past (replies.Queued n) not = refl
-completes-shape past (replies.Handed w) not = refl
-completes-shape past (replies.Got m a n) not = refl
-completes-shape past (replies.Withdrawn w) not = refl
-completes-shape past (replies.Collected b) not = absurd (cc)
-completes-shape past _ not = refl
-
-brings-shape : (past : Past) (r : Reply) (prio : ℕ) (message : List ℕ) → is_collected r ≡ false → brings past r prio message ≡ brings_of (shape r) (message_given past r) prio message
-brings-shape past (replies.Queued n) prio message not = refl
-brings-shape past (replies.Handed w) prio message not = refl
-brings-shape past (replies.Got m a n) prio message not = message-at past m prio message
-brings-shape past (replies.Withdrawn w) prio message not = refl
-brings-shape past (replies.Collected b) prio message not = absurd (cc)
-brings-shape past _ prio message not = refl
-
 opens-shape : (r : Reply) (d : ℕ) → opens r d ≡ opens (shape r) d
-opens-shape (replies.Queued n) d = refl
-opens-shape (replies.Handed w) d = refl
-opens-shape (replies.Got m a n) d = refl
-opens-shape (replies.Withdrawn w) d = refl
-opens-shape (replies.Collected b) d = refl
-opens-shape _ d = refl
+opens-shape r d = grind arith
 
 shows-shape : (r : Reply) (status : Status) → shows r status ≡ shows (shape r) status
-shows-shape (replies.Queued n) status = refl
-shows-shape (replies.Handed w) status = refl
-shows-shape (replies.Got m a n) status = refl
-shows-shape (replies.Withdrawn w) status = refl
-shows-shape (replies.Collected b) status = refl
-shows-shape _ status = refl
+shows-shape r status = grind arith
 
 notice-shape : (r : Reply) (value : Option ℕ) → is_notice r value ≡ is_notice (shape r) value
-notice-shape (replies.Queued n) value = refl
-notice-shape (replies.Handed w) value = refl
-notice-shape (replies.Got m a n) value = refl
-notice-shape (replies.Withdrawn w) value = refl
-notice-shape (replies.Collected b) value = refl
-notice-shape _ value = refl
+notice-shape r value = grind arith
 
 refuses-shape : (r : Reply) (fault : Fault) → refuses r fault ≡ refuses (shape r) fault
-refuses-shape (replies.Queued n) fault = refl
-refuses-shape (replies.Handed w) fault = refl
-refuses-shape (replies.Got m a n) fault = refl
-refuses-shape (replies.Withdrawn w) fault = refl
-refuses-shape (replies.Collected b) fault = refl
-refuses-shape _ fault = refl
+refuses-shape r fault = grind arith
 
 fits-shape : (past : Past) (r : Reply) (outcome : Outcome) → is_collected r ≡ false → fits past r outcome ≡ fits_of (shape r) (message_given past r) outcome
-fits-shape past r outcomes.Pending not = refl
-fits-shape past r outcomes.Done not = completes-shape past r not
-fits-shape past r (outcomes.Opened d) not = opens-shape r d
-fits-shape past r (outcomes.Got prio message) not = brings-shape past r prio message.items not
-fits-shape past r (outcomes.Attributes status) not = shows-shape r status
-fits-shape past r (outcomes.Notice value) not = notice-shape r value
-fits-shape past r (outcomes.Refused fault) not = refuses-shape r fault
+fits-shape past r outcome not = grind (arith, opens-shape, shows-shape, notice-shape, refuses-shape)
 
 pub shape-same : (to : ℕ → ℕ) (x y : Past) (p : Process) (call : Call) (given : List ℕ) → StepsEquivalent to x y p call given → shape (reply_to y p call given) ≡ shape (reply_to x p call given)
 shape-same to x y p call given steps = sym (shape-outline (reply_to y p call given)) ∙ ap shape steps.reply ∙ shape-outline (reply_to x p call given)
 
 other-fits : (to : ℕ → ℕ) (x y : Past) (p : Process) (call : Call) (given : List ℕ) (outcome : Outcome) → is_other call ≡ true → StepsEquivalent to x y p call given →
     fits y (reply_to y p call given) outcome ≡ fits x (reply_to x p call given) outcome
-other-fits to x y p call given outcome other steps =
-    let a = reply_to x p call given in
-    let b = reply_to y p call given in
-    let message : message_given y b ≡ message_given x a =
-    sym (message-older y p call given (record_of y p call given)) ∙ steps.message ∙ message-older x p call given (record_of x p call given)
-    in
-    fits-shape y b outcome (never-collected y p call given other) ∙ ap (λ (r : Reply). fits_of r (message_given y b) outcome) (shape-same to x y p call given steps) ∙ ap (λ (m : Option Message). fits_of (shape a) m outcome) message
-    ∙ sym (fits-shape x a outcome (never-collected x p call given other))
+other-fits to x y p call given outcome other steps = grind (arith, message-older, fits-shape, never-collected, shape-same)
 
 -- a collect ---------------------------------------------------------------------------------------------------------------
 
 -- a send that names a wait hands its message over, and a receive that names one hands nothing over
 hands-send : (past : Past) (p : Process) (call : Call) (reply : Reply) → Says past p call reply → is_some (named_wait reply) ≡ true → hands reply ≡ is_send call
-hands-send past p call (replies.Handed w) says names = handed call says
-  where
-    handed : (call : Call) → Says past p call (replies.Handed w) → true ≡ is_send call
-    handed (MqSend d prio len) says = refl
-    handed (MqTimedSend d prio len until now) says = refl
-    handed (MqReceive d room) says = absurd says.3
-    handed (MqTimedReceive d room until now) says = absurd says.3
-    handed (MqClose d) says = absurd says.0
-    handed NextNotice says = absurd (cc)
-    handed Collect says = absurd (cc)
-    handed (Withdraw now) says = absurd (cc)
-    handed _ says = absurd says
-hands-send past p call (replies.Got m a n) says names = got call says
-  where
-    got : (call : Call) → Says past p call (replies.Got m a n) → false ≡ is_send call
-    got (MqSend d prio len) says = absurd says.3
-    got (MqTimedSend d prio len until now) says = absurd says.3
-    got _ says = refl
-hands-send past p call _ says names = cc
+hands-send past p call reply says names = grind (arith, Says)
 
 -- the record of the entry that answered a wait
 record Answers (past : Past) (by : Place) : Type 0 where
@@ -198,28 +123,11 @@ fits_answer m (outcomes.Got prio message) = is_message_of m prio message.items
 fits_answer m _ = false
 
 answer-fits : (past : Past) (by : Place) (r : Record) (outcome : Outcome) → record_at past by ≡ Some r → hands r.entry.reply ≡ is_send r.entry.call → fits past (replies.Collected by) outcome ≡ fits_answer (told r) outcome
-answer-fits past by r outcomes.Pending is handed = refl
-answer-fits past by r outcomes.Done is handed =
-    let by_send : (b : Bool) → not b ≡ not (is_some (if b then Some (sent r) else None)) = λ (b : Bool). elim b as (λ b. not b ≡ not (is_some (if b then Some (sent r) else None))) [ true ↦ refl | false ↦ refl ] in
-    ap (λ (o : Option Record). not (has_handed (option_map (λ (r : Record). r.entry) o))) is ∙ ap not handed ∙ by_send (is_send r.entry.call)
-answer-fits past by r (outcomes.Got prio message) is handed =
-    let same : is_message past by prio message.items ≡ is_message_of (Some (sent r)) prio message.items =
-    message-at past by prio message.items ∙ ap (λ (o : Option Record). is_message_of (option_map sent o) prio message.items) is
-    in
-    let by_send : (b : Bool) → (b && is_message_of (Some (sent r)) prio message.items) ≡ is_message_of (if b then Some (sent r) else None) prio message.items =
-    λ (b : Bool). elim b as (λ b. (b && is_message_of (Some (sent r)) prio message.items) ≡ is_message_of (if b then Some (sent r) else None) prio message.items) [ true ↦ refl | false ↦ refl ]
-    in
-    ap (λ (o : Option Record). has_handed (option_map (λ (r : Record). r.entry) o) && is_message past by prio message.items) is
-    ∙ ap (λ (b : Bool). b && is_message past by prio message.items) handed
-    ∙ ap (λ (b : Bool). is_send r.entry.call && b) same
-    ∙ by_send (is_send r.entry.call)
-answer-fits past by r _ is handed = refl
+answer-fits past by r outcome is handed = grind arith
 
 -- the answers to the wait of a process, by their places
 collect-fits : (to : ℕ → ℕ) (x y : Past) (p : Process) (outcome : Outcome) → EquivalentUnder to x y → (o q : Option Place) → answered_by x p ≡ o → answered_by y p ≡ q → is_some o ≡ true → is_some q ≡ true →
     fits y (replies.Collected (unwrap_or q 0)) outcome ≡ fits x (replies.Collected (unwrap_or o 0)) outcome
-collect-fits to x y p outcome alike None q at_x at_y some_x some_y = absurd (cc)
-collect-fits to x y p outcome alike (Some a) None at_x at_y some_x some_y = absurd (cc)
 collect-fits to x y p outcome alike (Some a) (Some b) at_x at_y some_x some_y =
     let of_x = answer-of x p a alike.legal.0 at_x in
     let of_y = answer-of y p b alike.legal.1 at_y in
@@ -228,6 +136,7 @@ collect-fits to x y p outcome alike (Some a) (Some b) at_x at_y some_x some_y =
     let both : Some (Some (told of_y.answering)) ≡ Some (Some (told of_x.answering)) = sym shown_y ∙ alike.answered p ∙ shown_x in
     let same : told of_y.answering ≡ told of_x.answering = cc in
     answer-fits y b of_y.answering outcome of_y.is of_y.hands_send ∙ ap (λ (m : Option Message). fits_answer m outcome) same ∙ sym (answer-fits x a of_x.answering outcome of_x.is of_x.hands_send)
+collect-fits to x y p outcome alike _ _ at_x at_y some_x some_y = absurd (cc)
 
 -- a call -----------------------------------------------------------------------------------------------------------------
 

@@ -1,7 +1,6 @@
 -- How many messages the processes got from the queue of a name at each record of a linearization.
-use Rattle.std.proofs.Common.{◌≡◌, ◌≢◌, ℕ, ◌+◌, ◌≤◌, ◌==◌, Bool, true, false, ◌&&◌, List, [], ◌∷◌, length, take, Option, Some, None, Vec, refl, sym, ◌∙◌, ap, subst, arith, if◌then◌else◌, slice_get, eqb-true, eq-eqb, ne_eqb}
+use Rattle.std.proofs.Common.{◌≡◌, ◌≢◌, ℕ, ◌+◌, ◌≤◌, ◌==◌, Bool, true, false, ◌&&◌, List, [], ◌∷◌, length, take, Option, Some, None, Vec, refl, sym, ◌∙◌, ap, subst, arith, if◌then◌else◌, slice_get, eqb-true, eq-eqb, ne_eqb, rules, Global}
 use Rattle.std.specs.Option.{option_map}
-use Rattle.std.specs.declared.alloc.Global.{Global}
 use Rattle.std.proofs.lemmas.Bool.{and_parts, eqb-false}
 use Rattle.mq_model.specs.Record.{Record, Past, Process}
 use Rattle.mq_model.specs.Descriptors.{descriptor_of}
@@ -25,10 +24,10 @@ use Rattle.mq_laws.proofs.LegalPlaces.{has-record}
 use Rattle.histories.specs.OwnCalls.{ends_wait}
 use Rattle.histories.specs.declared.operation.Operation.{Operation}
 use Rattle.histories.specs.declared.operation.Outcome.{Outcome}
-use Rattle.histories.specs.declared.operation.Outcome.TheVariants.{Pending, Done, Opened, Got, Attributes, Notice, Refused}
-use Rattle.histories.specs.Histories.{Histories, completed, current_of}
+use Rattle.histories.specs.declared.operation.Outcome.TheVariants.{Got}
+use Rattle.histories.specs.Histories.{Histories, completed}
 use Rattle.histories.specs.Linearizations.{ComesFrom, IsLinearization}
-use Rattle.histories.specs.Outcomes.{brings, fits, has_handed, hands, is_handed, is_message}
+use Rattle.histories.specs.Outcomes.{brings, fits, has_handed, hands, is_handed}
 use Rattle.histories.specs.Named.{has_any, is_marked, marks_of, no_marks, unbinds}
 use Rattle.histories.specs.NotFull.{is_got, takes_out}
 use Rattle.histories.proofs.Accepting.{ending-reply}
@@ -90,16 +89,10 @@ abbrev pub if_on : Bool → ℕ → ℕ
 if_on on n = if on then n else 0
 
 wait-step : (a b c d : Bool) (n : ℕ) → n + one_if ((if a then b else c) && d) ≤ n + one_if (c && d) + if_on d (one_if (a && b))
-wait-step true true c true n = split c (λ t. rw t (omega arith)) (λ f. rw f (omega arith))
-wait-step true true c false n = split c (λ t. rw t (omega arith)) (λ f. rw f (omega arith))
-wait-step true false c d n = omega arith
-wait-step false b c d n = omega arith
+wait-step a b c d n = grind arith
 
 pub same-now : (name : List ℕ) (histories : Histories) (past : Past) (r : Record) (i : ℕ) → (r.entry.process == i + 1) ≡ false → is_on_now name histories (r ∷ past) i ≡ is_on_now name histories past i
-same-now name histories past r i other =
-    let e = completed-other past r (i + 1) (apart-of _ _ other) in
-    ap (λ (n : ℕ). is_op_marked (marks_at name histories i n) (current_of histories (r ∷ past) i)) e
-    ∙ ap (is_op_marked (marks_at name histories i (completed past (i + 1)))) (current-other histories past r i other)
+same-now name histories past r i other = search (rules, completed-other, apart-of, is_op_marked, marks_at, current-other)
 
 other-got : (name : List ℕ) (histories : Histories) (past : Past) (r : Record) (i : ℕ) → (r.entry.process == i + 1) ≡ false →
     got_by name histories (r ∷ past) i ≤ got_by name histories past i + if_on (is_on_now name histories past i) (one_if (names_wait r.entry.reply (open_wait past (i + 1)) && hands r.entry.reply))
@@ -119,27 +112,13 @@ record Brings (past : Past) (y : Reply) : Type 0 where
   pub bytes : List ℕ
   pub is : brings past y prio bytes ≡ true
 
-got-brings : (past : Past) (y : Reply) (x : Outcome) → is_got x ≡ true → fits past y x ≡ true → Brings past y
-got-brings past y (Got p m) got fit = record { prio = p; bytes = m.items; is = fit }
-got-brings past y _ got fit = absurd (let bad : false ≡ true = got in cc)
-
 -- what the reply of a call adds to the messages that its process got
 abbrev gain : Reply → Bool → ℕ
 gain y got = if is_wait y then 0 else one_if got
 
 gain-le : (past : Past) (p : ℕ) (y : Reply) (x : Outcome) → fits past y x ≡ true → ((b : ℕ) → y ≡ reply.Collected b → is_handed past b ≡ true → handed_wait past p ≡ true) →
     gain y (is_got x) ≤ one_if (handed_wait past p) + own_gain y
-gain-le past p y x fit served = split (is_got x)
-    (λ t. rw t (by y refl (got-brings past y x t fit)))
-    (λ f. rw f (split (is_wait y) (λ w. rw w (omega arith)) (λ w. rw w (omega arith))))
-  where
-    by : (z : Reply) → y ≡ z → Brings past z → gain z true ≤ one_if (handed_wait past p) + own_gain z
-    by (reply.Got m a n) is b = omega arith
-    by reply.Waits is b = omega arith
-    by (reply.Collected k) is b =
-        let parts = and_parts (is_handed past k) (is_message past k b.prio b.bytes) b.is in
-        rw (served k is parts.0) (omega arith)
-    by _ is b = absurd (let bad : false ≡ true = b.is in cc)
+gain-le past p y x fit served = grind (arith, one_if, and_parts)
 
 -- whether the operation of a record is on the queue
 abbrev pub record_on : (name : List ℕ) (histories : Histories) (past : Past) (r : Record) → IsLinearization histories (r ∷ past) → Bool

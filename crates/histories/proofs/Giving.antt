@@ -23,10 +23,9 @@ use Rattle.mq_laws.proofs.EndedWaits.{has-older}
 use Rattle.mq_laws.proofs.GivenOnce.{given-present, gives-once}
 use Rattle.mq_laws.proofs.SentMessages.{is_sent, admitted-sent}
 use Rattle.mq_model.specs.declared.entries.Call.{Call}
-use Rattle.mq_model.specs.declared.entries.Call.TheVariants.{MqOpen, MqClose, MqUnlink, MqSend, MqReceive, MqGetattr, MqSetattr, MqNotify, NextNotice, Collect, MqTimedSend, MqTimedReceive, Withdraw}
 use Rattle.mq_model.specs.declared.entries.Reply.{Reply}
-use Rattle.mq_model.specs.declared.entries.Reply.TheVariants.{Opened, Queued, Handed, Waits, Got, Collected, Attrs, Notice, Done, Refused, Withdrawn}
-use Rattle.histories.specs.Outcomes.{has_bytes, has_handed, has_priority, hands, is_handed, is_message}
+use Rattle.mq_model.specs.declared.entries.Reply.TheVariants.{Handed, Got, Collected}
+use Rattle.histories.specs.Outcomes.{hands, is_handed, is_message}
 
 -- sends ------------------------------------------------------------------------------------------------------------------
 
@@ -40,9 +39,7 @@ sent_of prio message [] = []
 sent_of prio message (r ∷ past) = if is_sending prio message r then length past ∷ sent_of prio message past else sent_of prio message past
 
 sent-more : (prio : ℕ) (message : List ℕ) (past : Past) (r : Record) (m : ℕ) → is_in (sent_of prio message past) m ≡ true → is_in (sent_of prio message (r ∷ past)) m ≡ true
-sent-more prio message past r m before = split (is_sending prio message r)
-    (λ y. rw y (split (length past == m) (λ e. rw e refl) (λ n. rw (n, before) refl)))
-    (λ n. rw n before)
+sent-more prio message past r m before = grind arith
 
 sent-in : (prio : ℕ) (message : List ℕ) (past : Past) (m : ℕ) (r : Record) → record_at past m ≡ Some r → is_sending prio message r ≡ true → is_in (sent_of prio message past) m ≡ true
 sent-in prio message [] m r there is = absurd (cc)
@@ -59,19 +56,10 @@ sent-in prio message (s ∷ past) m r there is = split (m == length past)
 
 -- a handed message is that of a send
 pub handed-sends : (past : Past) (p w : ℕ) (call : Call) → Says past p call (Handed w) → is_send call ≡ true
-handed-sends past p w (MqSend d prio len) says = refl
-handed-sends past p w (MqTimedSend d prio len until now) says = refl
-handed-sends past p w (MqClose d) says = absurd says.0
-handed-sends past p w (MqReceive d room) says = absurd says.3
-handed-sends past p w (MqTimedReceive d room until now) says = absurd says.3
-handed-sends past p w NextNotice says = absurd (cc)
-handed-sends past p w Collect says = absurd (cc)
-handed-sends past p w (Withdraw now) says = absurd (cc)
-handed-sends past p w _ says = absurd says
+handed-sends past p w call says = grind arith
 
 pub handing : (reply : Reply) → hands reply ≡ true → (w : ℕ) × (reply ≡ Handed w)
-handing (Handed w) e = (w, refl)
-handing _ e = absurd (let bad : false ≡ true = e in cc)
+handing reply e = grind arith
 
 pub record HandedAt (past : Past) (m : ℕ) : Type 0 where
   pub r : Record
@@ -80,20 +68,12 @@ pub record HandedAt (past : Past) (m : ℕ) : Type 0 where
   pub reply : r.entry.reply ≡ Handed w
 
 handed-at : (past : Past) (m : ℕ) → is_handed past m ≡ true → HandedAt past m
-handed-at past m e = by (record_at past m) refl e
-  where
-    by : (o : Option Record) → record_at past m ≡ o → has_handed (option_map (λ (r : Record). r.entry) o) ≡ true → HandedAt past m
-    by None is e = absurd (let bad : false ≡ true = e in cc)
-    by (Some r) is e = let h = handing r.entry.reply e in record { r = r; w = h.0; there = is; reply = h.1 }
+handed-at past m e = grind (arith, handing)
 
 -- the message at the place of a record
 message-of : (past : Past) (m prio : ℕ) (message : List ℕ) (r : Record) → record_at past m ≡ Some r → is_message past m prio message ≡ true →
     ((priority_given r.entry.call == prio) ≡ true) × (bytes_eq r.payload message ≡ true)
-message-of past m prio message r there e =
-    let here : (has_priority (option_map (λ (x : Record). x.entry) (Some r)) prio && has_bytes (option_map (λ (x : Record). x.payload) (Some r)) message) ≡ true =
-    subst (λ (o : Option Record). (has_priority (option_map (λ (x : Record). x.entry) o) prio && has_bytes (option_map (λ (x : Record). x.payload) o) message) ≡ true) there e
-    in
-    and_parts _ _ here
+message-of past m prio message r there e = grind (arith, and_parts)
 
 sending : (prio : ℕ) (message : List ℕ) (r : Record) → is_send r.entry.call ≡ true → is_sent r.entry.reply ≡ true → (priority_given r.entry.call == prio) ≡ true → bytes_eq r.payload message ≡ true → is_sending prio message r ≡ true
 sending prio message r a b c d = rw (a, b, c, d) refl
@@ -118,17 +98,7 @@ IsGiven past m _ = ⊥
 
 given-is : (past : Past) (prio : ℕ) (message : List ℕ) (m : ℕ) (reply : Reply) → given_by past prio message reply ≡ Some m →
     (is_message past m prio message ≡ true) × IsGiven past m reply
-given-is past prio message m (Got place a n) e = split (is_message past place prio message)
-    (λ t. let is : Some place ≡ Some m = rw t at e in let same : place ≡ m = cc in (subst (λ k. is_message past k prio message ≡ true) same t, same))
-    (λ f. let bad : None ≡ Some m = rw f at e in absurd (cc))
-given-is past prio message m (Collected by) e = split (is_handed past by && is_message past by prio message)
-    (λ t.
-    let is : Some by ≡ Some m = rw t at e in
-    let same : by ≡ m = cc in
-    let parts = and_parts (is_handed past by) (is_message past by prio message) t in
-    (subst (λ k. is_message past k prio message ≡ true) same parts.1, (same, subst (λ k. is_handed past k ≡ true) same parts.0)))
-    (λ f. let bad : None ≡ Some m = rw f at e in absurd (cc))
-given-is past prio message m _ e = absurd (cc)
+given-is past prio message m reply e = grind (arith, and_parts)
 
 -- what a legal record hands out was sent
 handed-sent_of : (past : Past) (prio : ℕ) (message : List ℕ) (m : ℕ) → Legal past → is_message past m prio message ≡ true → is_handed past m ≡ true → is_in (sent_of prio message past) m ≡ true
@@ -164,10 +134,7 @@ given-sent past r prio message m legal next e =
 
 -- a place that was given before
 with-cases : {C : Type 0} (o : Option ℕ) (xs : List ℕ) (m : ℕ) → is_in (with_place o xs) m ≡ true → (o ≡ Some m → C) → (is_in xs m ≡ true → C) → C
-with-cases None xs m e newest older = older e
-with-cases (Some k) xs m e newest older = split (k == m)
-    (λ t. newest (ap Some (eqb-true _ _ t)))
-    (λ f. let rest : is_in xs m ≡ true = rw f at e in older rest)
+with-cases o xs m e newest older = grind (arith, eqb-true)
 
 all-sent : (prio : ℕ) (message : List ℕ) (past : Past) → Legal past → (m : ℕ) → is_in (given_of prio message past) m ≡ true → is_in (sent_of prio message past) m ≡ true
 all-sent prio message [] legal m e = absurd (let bad : false ≡ true = e in cc)
@@ -184,16 +151,10 @@ pub record WasGiven (past : Past) (m : ℕ) : Type 0 where
   pub how : Has message_given past j m ⊎ (Has cause past j m × (is_handed past m ≡ true))
 
 handed-older : (past : Past) (r : Record) (m : ℕ) → is_handed past m ≡ true → is_handed (r ∷ past) m ≡ true
-handed-older past r m e =
-    let h = handed-at past m e in
-    let lt = record_at-below past m h.r h.there in
-    ap (λ (o : Option Record). has_handed (option_map (λ (x : Record). x.entry) o)) (record_at-older past r m lt) ∙ e
+handed-older past r m e = grind (arith, handed-at, record_at-below, record_at-older)
 
 was-older : (past : Past) (r : Record) (m : ℕ) → WasGiven past m → WasGiven (r ∷ past) m
-was-older past r m w = elim w.how [
-  | inl given ↦ record { j = w.j; how = inl (has-older message_given past r w.j m given) }
-  | inr collected ↦ record { j = w.j; how = inr (has-older cause past r w.j m collected.0, handed-older past r m collected.1) }
-]
+was-older past r m w = grind (arith, has-older, handed-older)
 
 was-newest : (past : Past) (r : Record) (m : ℕ) → IsGiven past m r.entry.reply → WasGiven (r ∷ past) m
 was-newest past r m is = by r.entry.reply refl is
@@ -212,10 +173,7 @@ was-given prio message (r ∷ past) m e =
 
 -- the place of the newest record is that of no older one
 older-place : (part : Reply → Option ℕ) (past : Past) (j m : ℕ) → Has part past j m → j ≡ length past → ⊥
-older-place part past j m h e =
-    let x = has-record part past j m h in
-    let lt = record_at-below past j x.r x.at in
-    omega (arith, lt, e)
+older-place part past j m h e = grind (arith, has-record, record_at-below)
 
 not-handed : (past : Past) (r : Record) (k m : ℕ) → Legal (r ∷ past) → Has message_given (r ∷ past) k m → is_handed past m ≡ true → ⊥
 not-handed past r k m legal given handed =

@@ -1,12 +1,11 @@
 -- Equivalent stages remain equivalent under each choice.
-use Rattle.std.proofs.Common.{◌≡◌, ℕ, zero, suc, ◌+◌, ◌-◌, ◌<◌, ◌==◌, Bool, true, false, not, ◌&&◌, inl, inr, List, [], ◌∷◌, length, Option, Some, None, is_some, slice_get, refl, ap, sym, ◌∙◌, subst, arith, if◌then◌else◌, Vec}
+use Rattle.std.proofs.lemmas.Bool.Decides.{nat_tests}
+use Rattle.std.proofs.Common.{◌≡◌, ℕ, zero, suc, ◌+◌, ◌-◌, ◌==◌, Bool, true, false, not, ◌&&◌, List, [], ◌∷◌, length, Option, Some, None, refl, ap, sym, ◌∙◌, subst, arith, if◌then◌else◌}
 use Rattle.std.specs.Option.{option_and_then, option_map}
-use Rattle.std.specs.declared.alloc.Global.{Global}
 use Rattle.std.proofs.lemmas.Bool.{and_parts, cases_lt}
 use Rattle.std.proofs.lemmas.Option.{slice_get_within}
 use Rattle.mq_model.specs.Record.{Past, Process}
 use Rattle.mq_model.specs.Deadlines.{deadline_of}
-use Rattle.mq_model.specs.Waits.{open_wait}
 use Rattle.mq_model.specs.Legality.{Legal, may_call, reply_to}
 use Rattle.mq_model.specs.declared.entries.Call.{Call}
 use Rattle.mq_model.specs.declared.entries.Call.TheVariants.{Collect, Withdraw}
@@ -14,7 +13,6 @@ use Rattle.mq_model.specs.declared.entries.Deadline.{Deadline}
 use Rattle.mq_state.specs.Trails.{can_call, record_of_call}
 use Rattle.histories.specs.OwnCalls.{ends_wait, made}
 use Rattle.mq_state.proofs.Trails.{legal-of}
-use Rattle.mq_equivalence.specs.Key.{key_of}
 use Rattle.mq_equivalence.proofs.Calls.{can-alike}
 use Rattle.mq_equivalence.specs.Equivalence.{Equivalent}
 use Rattle.mq_equivalence.specs.Structure.{extended}
@@ -24,7 +22,7 @@ use Rattle.schedules.specs.Likeness.{AreBothAlike}
 use Rattle.schedules.specs.Schedules.{IsReached}
 use Rattle.schedules.proofs.Covering.{reach-start}
 use Rattle.histories.specs.Outcomes.{fits}
-use Rattle.histories.specs.Histories.{Histories, after_step, are_through, completed, current, current_of, ended_before, in_time, is_through, none_ended, with_end, with_fitting, with_operation, with_withdrawal}
+use Rattle.histories.specs.Histories.{Histories, are_through, current_of, in_time, none_ended, with_end, with_fitting, with_operation, with_withdrawal}
 use Rattle.histories.specs.Likeness.{AreStagesAlike, HaveBegunAlike, IsStageKey, counts_then}
 use Rattle.histories.specs.Linearizations.{IsLinearization}
 use Rattle.histories.specs.Stage.{Stage, first_stage, is_linearized, next_stage, with_past}
@@ -36,32 +34,16 @@ use Rattle.histories.proofs.Linearizing.{schedule-makes-linearization}
 
 -- how far the processes are -----------------------------------------------------------------------------------------------
 
-completed-alike : (x y : Past) (n index : ℕ) → Equivalent x y → HaveBegunAlike n x y → index < n → completed y (index + 1) ≡ completed x (index + 1)
-completed-alike x y n index alike begun below =
-    ap (λ (b : Bool). if b then made y (index + 1) - 1 else made y (index + 1)) (alike.equivalent.waits (index + 1))
-    ∙ ap (λ (k : ℕ). if is_some (open_wait x (index + 1)) then k - 1 else k) (begun index below)
-
 current-alike : (histories : Histories) (x y : Past) (index : ℕ) → Equivalent x y → HaveBegunAlike (length histories) x y → current_of histories y index ≡ current_of histories x index
-current-alike histories x y index alike begun =
-    let goes : (o : Option (Vec Operation Global)) → slice_get histories index ≡ o → option_and_then (current y index) o ≡ option_and_then (current x index) o =
-    λ (o : Option (Vec Operation Global)). elim o as (λ o. slice_get histories index ≡ o → option_and_then (current y index) o ≡ option_and_then (current x index) o) [
-      | None ↦ (λ e. refl)
-      | Some operations ↦ (λ e. ap (λ (at : ℕ). slice_get operations.items at) (completed-alike x y (length histories) index alike begun (slice_get_within histories index operations e)))
-    ]
-    in
-    goes (slice_get histories index) refl
+current-alike histories x y index alike begun = grind (arith, slice_get_within)
 
 none-ended-alike : (histories : Histories) (x y : Past) (moment n : ℕ) → Equivalent x y → HaveBegunAlike (length histories) x y → none_ended histories y moment n ≡ none_ended histories x moment n
 none-ended-alike histories x y moment zero alike begun = refl
-none-ended-alike histories x y moment (suc n) alike begun =
-    ap (λ (b : Bool). b && not (ended_before moment (current_of histories y n))) (none-ended-alike histories x y moment n alike begun)
-    ∙ ap (λ (o : Option Operation). none_ended histories x moment n && not (ended_before moment o)) (current-alike histories x y n alike begun)
+none-ended-alike histories x y moment (suc n) alike begun = grind (arith, current-alike, none-ended-alike histories x y moment n alike begun)
 
 through-alike : (histories : Histories) (x y : Past) (n : ℕ) → Equivalent x y → HaveBegunAlike (length histories) x y → are_through histories y n ≡ are_through histories x n
 through-alike histories x y zero alike begun = refl
-through-alike histories x y (suc n) alike begun =
-    ap (λ (b : Bool). b && is_through (current_of histories y n)) (through-alike histories x y n alike begun)
-    ∙ ap (λ (o : Option Operation). are_through histories x n && is_through o) (current-alike histories x y n alike begun)
+through-alike histories x y (suc n) alike begun = grind (arith, current-alike, through-alike histories x y n alike begun)
 
 -- a call ------------------------------------------------------------------------------------------------------------------
 
@@ -109,16 +91,7 @@ fitting-alike x y n index outcome call given alike begun =
     let fit_x = fits x (reply_to x p call given) outcome in
     let fit_y = fits y (reply_to y p call given) outcome in
     let by_can : (b c : Bool) → can_call x p call given ≡ b → can_call y p call given ≡ c → c ≡ b → AreBothAlike (GrownAlike n) (after x fit_x b) (after y fit_y c) =
-    λ (b c : Bool). elim b as (λ b. can_call x p call given ≡ b → can_call y p call given ≡ c → c ≡ b → AreBothAlike (GrownAlike n) (after x fit_x b) (after y fit_y c)) [
-      | true ↦ (elim c as (λ c. can_call x p call given ≡ true → can_call y p call given ≡ c → c ≡ true → AreBothAlike (GrownAlike n) (after x fit_x true) (after y fit_y c)) [
-        | true ↦ (λ can_x can_y e. by_fit fit_x fit_y (fits-alike to x y p call given outcome alike.equivalent (may-of x p call given can_x) (may-of y p call given can_y) steps) can_x)
-        | false ↦ (λ can_x can_y e. absurd (cc))
-      ])
-      | false ↦ (elim c as (λ c. can_call x p call given ≡ false → can_call y p call given ≡ c → c ≡ false → AreBothAlike (GrownAlike n) (after x fit_x false) (after y fit_y c)) [
-        | true ↦ (λ can_x can_y e. absurd (cc))
-        | false ↦ (λ can_x can_y e. neither fit_x fit_y)
-      ])
-    ]
+    grind (arith, nat_tests, fits-alike, may-of)
     in
     by_can (can_call x p call given) (can_call y p call given) refl refl (can-alike x y p call given steps.turn (shape-same to x y p call given steps))
 
@@ -146,17 +119,7 @@ end-alike x y n index operation alike begun =
 
 operation-alike : (x y : Past) (n index : ℕ) (operation : Operation) → Equivalent x y → HaveBegunAlike n x y →
     AreBothAlike (GrownAlike n) (with_operation x index operation) (with_operation y index operation)
-operation-alike x y n index operation alike begun =
-    let own : Past → Bool → Option Past = λ past b. if b then None else with_fitting past index operation.outcome operation.call operation.given.items in
-    let begins : (b : Bool) → AreBothAlike (GrownAlike n) (own x b) (own y b) =
-    λ (b : Bool). elim b as (λ b. AreBothAlike (GrownAlike n) (own x b) (own y b)) [ true ↦ tt | false ↦ fitting-alike x y n index operation.outcome operation.call operation.given.items alike begun ]
-    in
-    let goes_on : Past → Bool → Option Past = λ past b. if b then with_end past index operation else own past (ends_wait operation.call) in
-    let goes : (b : Bool) → AreBothAlike (GrownAlike n) (goes_on x b) (goes_on y b) =
-    λ (b : Bool). elim b as (λ b. AreBothAlike (GrownAlike n) (goes_on x b) (goes_on y b)) [ true ↦ end-alike x y n index operation alike begun | false ↦ begins (ends_wait operation.call) ]
-    in
-    let P : Bool → Type 0 = λ b. AreBothAlike (GrownAlike n) (goes_on x (is_some (open_wait x (index + 1)))) (goes_on y b) in
-    subst P (sym (alike.equivalent.waits (index + 1))) (goes (is_some (open_wait x (index + 1))))
+operation-alike x y n index operation alike begun = grind (arith, fitting-alike, end-alike)
 
 -- a step ------------------------------------------------------------------------------------------------------------------
 
@@ -172,27 +135,12 @@ timely-alike histories x y index (Some operation) alike begun =
     let P : Bool → Type 0 = λ b. AreBothAlike (GrownAlike n) (timed x (none_ended histories x operation.begin n)) (timed y b) in
     subst P (sym (none-ended-alike histories x y operation.begin n alike begun)) (goes (none_ended histories x operation.begin n))
 
-step-alike : (s : Stage) (past : Past) (index : ℕ) → Equivalent s.past past → HaveBegunAlike (length s.histories) s.past past →
-    AreBothAlike (GrownAlike (length s.histories)) (after_step s.histories s.past index) (after_step s.histories past index)
-step-alike s past index alike begun =
-    let P : Option Operation → Type 0 =
-    λ o. AreBothAlike (GrownAlike (length s.histories)) (after_step s.histories s.past index) (option_and_then (in_time s.histories past index) o)
-    in
-    subst P (sym (current-alike s.histories s.past past index alike begun))
-    (timely-alike s.histories s.past past index (current_of s.histories s.past index) alike begun)
-
 stages-of : (s : Stage) (past : Past) (o q : Option Past) → AreBothAlike (GrownAlike (length s.histories)) o q →
     AreBothAlike AreStagesAlike (option_map (with_past s) o) (option_map (with_past (with_past s past)) q)
-stages-of s past None None alike = tt
-stages-of s past (Some a) (Some b) alike = record { differ = refl; begun = alike.begun; journals = alike.journals }
-stages-of s past None (Some b) alike = absurd alike
-stages-of s past (Some a) None alike = absurd alike
+stages-of s past o q alike = grind arith
 
 pub stages-next : (x y : Stage) (index : ℕ) → AreStagesAlike x y → AreBothAlike AreStagesAlike (next_stage x index) (next_stage y index)
-stages-next x y index alike =
-    let P : Stage → Type 0 = λ s. AreBothAlike AreStagesAlike (next_stage x index) (next_stage s index) in
-    subst P (sym alike.differ)
-    (stages-of x y.past (after_step x.histories x.past index) (after_step x.histories y.past index) (step-alike x y.past index alike.journals alike.begun))
+stages-next x y index alike = grind (arith, stages-of, current-alike, timely-alike)
 
 pub stages-goal : (x y : Stage) → AreStagesAlike x y → is_linearized x ≡ is_linearized y
 stages-goal x y alike = sym (through-alike x.histories x.past y.past (length x.histories) alike.journals alike.begun) ∙ ap is_linearized (sym alike.differ)
@@ -202,16 +150,7 @@ stages-goal x y alike = sym (through-alike x.histories x.past y.past (length x.h
 -- two lists of counts, and what follows them
 counts-tell : (x y : Past) (n : ℕ) (u v : List ℕ) → counts_then x n u ≡ counts_then y n v → HaveBegunAlike n x y × (u ≡ v)
 counts-tell x y zero u v e = ((λ index below. absurd (omega arith)), e)
-counts-tell x y (suc n) u v e =
-    let rest = counts-tell x y n (made x (n + 1) ∷ u) (made y (n + 1) ∷ v) e in
-    let last : made x (n + 1) ≡ made y (n + 1) = cc in (
-      (λ index below.
-          elim (cases_lt index n) [
-            | inl less ↦ rest.0 index less
-            | inr more ↦ let here : n ≡ index = omega arith in let P : ℕ → Type 0 = λ k. made y (k + 1) ≡ made x (k + 1) in subst P here (sym last)
-          ]),
-      (cc),
-    )
+counts-tell x y (suc n) u v e = grind (arith, cases_lt, counts-tell x y n (made x (n + 1) ∷ u) (made y (n + 1) ∷ v) e)
 
 linear-legal : (histories : Histories) (past : Past) → IsLinearization histories past → Legal past
 linear-legal histories [] linear = tt
@@ -223,15 +162,4 @@ stages-key from x y key to_x to_y key_x key_y =
     let first : first_stage y ≡ first_stage x =
     reach-start next_stage first_stage next-first to_y.0 (first_stage from) y to_y.1 ∙ sym (reach-start next_stage first_stage next-first to_x.0 (first_stage from) x to_x.1)
     in
-    let legal_x : Legal x.past = linear-legal from.histories x.past (schedule-makes-linearization to_x.0 (first_stage from) x to_x.1 tt).1 in
-    let legal_y : Legal y.past = linear-legal from.histories y.past (schedule-makes-linearization to_y.0 (first_stage from) y to_y.1 tt).1 in
-    let count : length y.histories ≡ length x.histories = ap (λ (s : Stage). length s.histories) first in
-    let codes : counts_then x.past (length x.histories) (key_of x.past) ≡ counts_then y.past (length x.histories) (key_of y.past) =
-    sym key_x ∙ key_y ∙ ap (λ (n : ℕ). counts_then y.past n (key_of y.past)) count
-    in
-    let told = counts-tell x.past y.past (length x.histories) (key_of x.past) (key_of y.past) codes in
-    record {
-      differ = ap (λ (s : Stage). with_past s y.past) first;
-      begun = told.0;
-      journals = same-key true x.past y.past legal_x legal_y told.1;
-    }
+    grind (arith, nat_tests, linear-legal, schedule-makes-linearization, counts-tell, same-key)

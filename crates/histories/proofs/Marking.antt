@@ -1,16 +1,14 @@
 -- The operations of a process on the queue of a name, one by one.
-use Rattle.std.proofs.Common.{◌≡◌, ℕ, ◌+◌, ◌≤◌, zero, suc, Bool, true, false, ◌&&◌, ◌||◌, List, [], ◌∷◌, ◌++◌, length, take, Option, Some, None, Vec, refl, sym, ◌∙◌, ap, arith, add-one, slice_get, count_by, if◌then◌else◌, nat_lt}
+use Rattle.std.proofs.lemmas.Bool.Decides.{nat_tests}
+use Rattle.std.proofs.Common.{◌≡◌, ℕ, ◌+◌, ◌≤◌, zero, suc, Bool, true, false, ◌&&◌, ◌||◌, List, [], ◌∷◌, ◌++◌, length, take, Option, Some, None, Vec, refl, sym, ◌∙◌, ap, arith, add-one, slice_get, count_by, if◌then◌else◌, Global}
 use Rattle.std.specs.List.{list_any}
 use Rattle.std.specs.Option.{option_and_then, option_map, unwrap_or}
-use Rattle.std.specs.Str.{bytes_eq}
-use Rattle.std.specs.declared.alloc.Global.{Global}
 use Rattle.std.proofs.lemmas.List.{length-set}
 use Rattle.std.proofs.lemmas.List.Sums.{sum_by-cons}
 use Rattle.mq_model.specs.Descriptors.{descriptor_of}
 use Rattle.mq_model.proofs.Places.{split}
 use Rattle.histories.specs.declared.operation.Operation.{Operation}
 use Rattle.histories.specs.declared.operation.Outcome.{Outcome}
-use Rattle.histories.specs.declared.operation.Outcome.TheVariants.{Pending, Done, Opened, Got, Attributes, Notice, Refused}
 use Rattle.mq_model.specs.Record.{Past}
 use Rattle.histories.specs.Histories.{Histories, completed, current_of}
 use Rattle.histories.specs.RealTime.{operation_at}
@@ -24,8 +22,7 @@ marks-append name marks [] o = refl
 marks-append name marks (x ∷ xs) o = marks-append name (marks_after name marks x) xs o
 
 or-same : (a b c : Bool) → (a || (b || c)) ≡ ((a || b) || c)
-or-same true b c = refl
-or-same false b c = refl
+or-same a b c = grind arith
 
 any-append : (test : Operation → Bool) (name : List ℕ) (marks : Marks) (xs : List Operation) (o : Operation) →
     list_any test (calls_from name marks (xs ++ o ∷ [])) ≡ (list_any test (calls_from name marks xs) || (is_marked (marks_of name marks xs) (descriptor_of o.call) && test o))
@@ -106,10 +103,7 @@ marks_at-next name histories index k o is = by (slice_get histories index) refl 
     by (Some v) there e = rw there (marks-next name v.items k o (rw there at e))
 
 opened-length : (name given : List ℕ) (marks : Marks) (x : Outcome) → length (marks_opened name marks given x) ≡ length marks
-opened-length name given marks (Opened d) = split (nat_lt d 16)
-    (λ t. rw t (length-set marks d (bytes_eq given name)))
-    (λ f. rw f refl)
-opened-length name given marks _ = refl
+opened-length name given marks x = grind (arith, length-set)
 
 marks-length : (name : List ℕ) (marks : Marks) (xs : List Operation) → length (marks_of name marks xs) ≡ length marks
 marks-length name marks [] = refl
@@ -164,8 +158,7 @@ count-cons : (test : Operation → Bool) (x : Operation) (xs : List Operation) �
 count-cons test x xs = sum_by-cons (λ (o : Operation). if test o then 1 else 0) x xs
 
 pub one-most : (b : Bool) → one_if b ≤ 1
-one-most true = omega arith
-one-most false = omega arith
+one-most b = grind arith
 
 count-append : (test : Operation → Bool) (name : List ℕ) (marks : Marks) (xs : List Operation) (o : Operation) →
     count_by test (calls_from name marks (xs ++ o ∷ [])) ≡ count_by test (calls_from name marks xs) + one_if (is_marked (marks_of name marks xs) (descriptor_of o.call) && test o)
@@ -174,13 +167,7 @@ count-append test name marks [] o = split (is_marked marks (descriptor_of o.call
     (λ f. rw f (omega arith))
 count-append test name marks (x ∷ xs) o =
     let next : Marks = marks_after name marks x in
-    let rest = count-append test name next xs o in
-    split (is_marked marks (descriptor_of x.call))
-    (λ t.
-    let longer = count-cons test x (calls_from name next (xs ++ o ∷ [])) in
-    let before = count-cons test x (calls_from name next xs) in
-    rw t (omega (arith, longer, before, rest)))
-    (λ f. rw f rest)
+    grind (arith, nat_tests, count-cons, count-append test name next xs o)
 
 pub tally-more : (test : Operation → Bool) (name : List ℕ) (xs : List Operation) (n : ℕ) (o : Operation) → slice_get xs n ≡ Some o →
     tally test name xs (n + 1) ≡ tally test name xs n + one_if (is_marked (marks_of name no_marks (take n xs)) (descriptor_of o.call) && test o)
@@ -193,13 +180,7 @@ count-from test name marks [] (suc m) n le = omega arith
 count-from test name marks (x ∷ xs) (suc m) zero le = absurd (omega (arith, le))
 count-from test name marks (x ∷ xs) (suc m) (suc n) le =
     let next : Marks = marks_after name marks x in
-    let rest = count-from test name next xs m n (omega (arith, le)) in
-    split (is_marked marks (descriptor_of x.call))
-    (λ t.
-    let few = count-cons test x (calls_from name next (take m xs)) in
-    let more = count-cons test x (calls_from name next (take n xs)) in
-    rw t (omega (arith, few, more, rest)))
-    (λ f. rw f rest)
+    grind (arith, nat_tests, count-cons, count-from test name next xs m n (omega (arith, le)))
 
 pub tally-fewer : (test : Operation → Bool) (name : List ℕ) (xs : List Operation) (m n : ℕ) → m ≤ n → tally test name xs m ≤ tally test name xs n
 tally-fewer test name xs m n le = count-from test name no_marks xs m n le

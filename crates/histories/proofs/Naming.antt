@@ -1,7 +1,7 @@
 -- The queue of a name, and the operations on it, in a linearization of what began by a time before
 -- which nothing unbinds the name.
-use Rattle.std.proofs.Common.{◌≡◌, ℕ, ◌+◌, ◌≤◌, ◌<◌, ◌==◌, Bool, true, false, not, ◌&&◌, ◌||◌, List, [], ◌∷◌, length, get_or, Option, Some, None, is_some, inl, inr, refl, sym, ◌∙◌, ap, subst, arith, eqb-true, eq-eqb, nat_lt, le-leb}
-use Rattle.std.specs.Option.{option_map, option_and_then}
+use Rattle.std.proofs.lemmas.Bool.Decides.{nat_tests}
+use Rattle.std.proofs.Common.{◌≡◌, ℕ, ◌+◌, ◌≤◌, ◌<◌, ◌==◌, Bool, true, false, List, [], ◌∷◌, length, get_or, Option, Some, None, is_some, inl, inr, refl, sym, ◌∙◌, ap, subst, arith, eqb-true, eq-eqb, le-leb}
 use Rattle.std.specs.Str.{bytes_eq}
 use Rattle.std.proofs.lemmas.Bool.{cases_lt, eqb-false, lt-ltb}
 use Rattle.std.proofs.lemmas.List.{get_or-set_other, get_or-set_same}
@@ -14,7 +14,7 @@ use Rattle.mq_model.specs.Waits.{is_wait, open_wait}
 use Rattle.mq_model.specs.Legality.{IsLegalNext, payload_of, reply_to}
 use Rattle.mq_model.specs.declared.entries.Attr.{Attr}
 use Rattle.mq_model.specs.declared.entries.Call.{Call}
-use Rattle.mq_model.specs.declared.entries.Call.TheVariants.{MqOpen, MqClose, MqUnlink, MqSend, MqReceive, MqGetattr, MqSetattr, MqNotify, NextNotice, Collect, MqTimedSend, MqTimedReceive, Withdraw}
+use Rattle.mq_model.specs.declared.entries.Call.TheVariants.{MqOpen, MqUnlink}
 use Rattle.mq_model.specs.declared.entries.Description.{Description}
 use Rattle.mq_model.specs.declared.entries.OpenFlags.{OpenFlags}
 use Rattle.mq_model.specs.declared.entries.Reply.{Reply}
@@ -30,8 +30,8 @@ use Rattle.mq_model.proofs.PresentFew.{called-created, created-cases}
 use Rattle.histories.specs.OwnCalls.{ends_wait, made}
 use Rattle.histories.specs.declared.operation.Operation.{Operation}
 use Rattle.histories.specs.declared.operation.Outcome.{Outcome}
-use Rattle.histories.specs.declared.operation.Outcome.TheVariants.{Pending, Done, Opened, Got, Attributes, Notice, Refused}
-use Rattle.histories.specs.Histories.{Histories, completed, current_of, is_pending}
+use Rattle.histories.specs.declared.operation.Outcome.TheVariants.{Done, Opened}
+use Rattle.histories.specs.Histories.{Histories, completed, is_pending}
 use Rattle.histories.specs.Linearizations.{ComesFrom, IsLinearization}
 use Rattle.histories.specs.Outcomes.{fits, has_failed}
 use Rattle.histories.specs.RealTime.{operation_at}
@@ -45,32 +45,14 @@ use Rattle.histories.proofs.Tracing.{IsCallAt, legal-linear, own-call}
 -- opens ----------------------------------------------------------------------------------------------------------------
 
 open-own : (call : Call) → is_open call ≡ true → ends_wait call ≡ false
-open-own Collect e = absurd (let bad : false ≡ true = e in cc)
-open-own (Withdraw now) e = absurd (let bad : false ≡ true = e in cc)
-open-own _ e = refl
+open-own call e = grind arith
 
 pub open-payload : (call : Call) (y : Reply) (given : List ℕ) → is_open call ≡ true → payload_of call y given ≡ given
-open-payload (MqOpen flags attr) y given e = refl
-open-payload _ y given e = absurd (let bad : false ≡ true = e in cc)
+open-payload call y given e = grind arith
 
 -- an open that creates a queue found its name unbound
 creates-unbound : (past : Past) (r : Record) → IsLegalNext past r → creates r.entry.call r.entry.reply ≡ true → (is_open r.entry.call ≡ true) × (bound_queue past r.payload ≡ None)
-creates-unbound past r legal is = by r.entry.call r.entry.reply refl legal.reply is
-  where
-    unbound-of : (o : Option ℕ) → not (is_some o) ≡ true → o ≡ None
-    unbound-of None e = refl
-    unbound-of (Some q) e = absurd (let bad : false ≡ true = e in cc)
-
-    opened : (call : Call) (d : ℕ) → r.entry.call ≡ call → reply.Opened d true ≡ reply_to past r.entry.process call r.payload → is_open call ≡ true → (is_open r.entry.call ≡ true) × (bound_queue past r.payload ≡ None)
-    opened (MqOpen flags attr) d c is e =
-        let facts = opened-says past r.entry.process flags attr r.payload d true is in
-        (ap is_open c, none-of (bound_queue past r.payload) facts.new)
-    opened _ d c is e = absurd (let bad : false ≡ true = e in cc)
-
-    by : (call : Call) (y : Reply) → r.entry.call ≡ call → y ≡ reply_to past r.entry.process call r.payload → creates call y ≡ true → (is_open r.entry.call ≡ true) × (bound_queue past r.payload ≡ None)
-    by call (reply.Opened d true) c is e = opened call d c is e
-    by call (reply.Opened d false) c is e = absurd (let bad : false ≡ true = e in cc)
-    by call _ c is e = absurd (let bad : false ≡ true = e in cc)
+creates-unbound past r legal is = grind (arith, opened-says, none-of)
 
 -- what a call does to the name ---------------------------------------------------------------------------------------------
 
@@ -80,18 +62,7 @@ record Keeps (name : List ℕ) (o : Operation) : Type 0 where
   pub opens : is_open o.call ≡ true → is_pending o.outcome ≡ false
 
 keeps : (time : ℕ) (name : List ℕ) (o : Operation) → o.begin ≤ time → unbinds time name o ≡ false → Keeps name o
-keeps time name o begun stays =
-    let here : (has_unlinked name o || is_open o.call && is_pending o.outcome) ≡ false = rw (le-leb o.begin time begun) at stays in
-    split (has_unlinked name o)
-    (λ t. let bad : true ≡ false = ap (λ (b : Bool). b || (is_open o.call && is_pending o.outcome)) (sym t) ∙ here in absurd (cc))
-    (λ f.
-    let rest : (is_open o.call && is_pending o.outcome) ≡ false = ap (λ (b : Bool). b || (is_open o.call && is_pending o.outcome)) (sym f) ∙ here in
-    record {
-      unlinks = f;
-      opens = λ opens. split (is_pending o.outcome)
-          (λ t. let bad : true ≡ false = rw (opens, t) at rest in absurd (cc))
-          (λ n. n);
-    })
+keeps time name o begun stays = grind (arith, le-leb)
 
 -- the operation of a record keeps the name
 record-keeps : (time : ℕ) (name : List ℕ) (histories : Histories) (past : Past) (r : Record) (linear : IsLinearization histories (r ∷ past)) → linear.2.operation.begin ≤ time → has_any (unbinds time name) histories ≡ false → Keeps name linear.2.operation
@@ -109,27 +80,15 @@ AreMarked name histories past =
 
 -- an open showed its descriptor
 opened-outcome : (past : Past) (d : ℕ) (new : Bool) (x : Outcome) → fits past (reply.Opened d new) x ≡ true → is_pending x ≡ false → x ≡ Opened d
-opened-outcome past d new (Opened e) fit pending = ap Opened (sym (eqb-true d e fit))
-opened-outcome past d new Pending fit pending = absurd (let bad : true ≡ false = pending in cc)
-opened-outcome past d new _ fit pending = absurd (let bad : false ≡ true = fit in cc)
+opened-outcome past d new x fit pending = grind (arith, eqb-true)
 
 -- such an outcome fits no other reply
 shows-opened : (past : Past) (y : Reply) (d : ℕ) → fits past y (Opened d) ≡ true → (new : Bool) × (y ≡ reply.Opened d new)
-shows-opened past (reply.Opened e new) d fit = (new, ap (λ (k : ℕ). reply.Opened k new) (eqb-true e d fit))
-shows-opened past _ d fit = absurd (let bad : false ≡ true = fit in cc)
+shows-opened past y d fit = grind (arith, eqb-true)
 
 -- only an open has this reply
 opens-only : (past : Past) (p : ℕ) (call : Call) (payload : List ℕ) (d : ℕ) (new : Bool) → Says past p call (reply.Opened d new) → (flags : OpenFlags) × (attr : Option Attr) × (call ≡ MqOpen flags attr)
-opens-only past p (MqOpen flags attr) payload d new says = (flags, attr, refl)
-opens-only past p (MqClose e) payload d new says = absurd says.0
-opens-only past p (MqSend e prio len) payload d new says = absurd says.3
-opens-only past p (MqTimedSend e prio len until now) payload d new says = absurd says.3
-opens-only past p (MqReceive e room) payload d new says = absurd says.3
-opens-only past p (MqTimedReceive e room until now) payload d new says = absurd says.3
-opens-only past p NextNotice payload d new says = absurd (cc)
-opens-only past p Collect payload d new says = absurd (cc)
-opens-only past p (Withdraw now) payload d new says = absurd (cc)
-opens-only past p _ payload d new says = absurd says
+opens-only past p call payload d new says = grind arith
 
 -- the descriptor that an open returns was free
 opened-free : (past : Past) (r : Record) → IsLegalNext past r → (d : ℕ) (new : Bool) → r.entry.reply ≡ reply.Opened d new → (held past r.entry.process d ≡ None) × (d < 16) × OpenedFacts past r.entry.process r.payload d new
@@ -142,14 +101,10 @@ opened-free past r legal d new is =
     (none-of (held past r.entry.process d) free.0, free.1, facts)
 
 marked-other : (name given : List ℕ) (marks : List Bool) (e d : ℕ) → (d ≡ e → ⊥) → get_or (marks_opened name marks given (Opened e)) d false ≡ get_or marks d false
-marked-other name given marks e d apart = split (nat_lt e 16)
-    (λ t. rw t (get_or-set_other marks e d (bytes_eq given name) false apart))
-    (λ f. rw f refl)
+marked-other name given marks e d apart = grind (arith, get_or-set_other)
 
 marked-same : (name given : List ℕ) (marks : List Bool) (d : ℕ) → length marks ≡ 16 → d < 16 → get_or (marks_opened name marks given (Opened d)) d false ≡ bytes_eq given name
-marked-same name given marks d long few =
-    let inside : d < length marks = omega (arith, long, few) in
-    rw (lt-ltb d 16 few) (get_or-set_same marks d (bytes_eq given name) false inside)
+marked-same name given marks d long few = grind (arith, lt-ltb, get_or-set_same)
 
 -- what is held before a record of its process stays marked as it was
 marked-older : (name : List ℕ) (histories : Histories) (past : Past) (r : Record) (linear : IsLinearization histories (r ∷ past)) (d : ℕ) (k : Description) →
@@ -276,39 +231,20 @@ record IsThrough (past : Past) (p q : ℕ) (call : Call) : Type 0 where
   pub queue : h.queue ≡ q
 
 through : (past : Past) (p q : ℕ) (call : Call) → called_queue past p call ≡ Some q → IsThrough past p q call
-through past p q call e = by (descriptor_of call) refl e
-  where
-    by : (o : Option ℕ) → descriptor_of call ≡ o → option_map (λ (h : Description). h.queue) (option_and_then (held past p) o) ≡ Some q → IsThrough past p q call
-    by None is e = absurd (let bad : None ≡ Some q = e in cc)
-    by (Some d) is e = by_held (held past p d) refl e
-      where
-        by_held : (o : Option Description) → held past p d ≡ o → option_map (λ (h : Description). h.queue) o ≡ Some q → IsThrough past p q call
-        by_held None there e = absurd (let bad : None ≡ Some q = e in cc)
-        by_held (Some h) there e = let same : h.queue ≡ q = cc in record { d = d; h = h; names = is; held = there; queue = same }
+through past p q call e = grind arith
 
 pub call-marked : (time : ℕ) (name : List ℕ) (histories : Histories) (past : Past) (r : Record) (linear : IsLinearization histories (r ∷ past)) → AreBegun time histories (r ∷ past) linear → has_any (unbinds time name) histories ≡ false →
     ends_wait r.entry.call ≡ false → (q : ℕ) → called_queue past r.entry.process r.entry.call ≡ Some q →
     is_marked (marks_at name histories linear.2.index (completed past (linear.2.index + 1))) (descriptor_of linear.2.operation.call) ≡ bytes_eq (name_of past q) name
-call-marked time name histories past r linear begun stays own q on =
-    let from : ComesFrom histories past r = linear.2 in
-    let x = through past r.entry.process q r.entry.call on in
-    let held_his : held past (from.index + 1) x.d ≡ Some x.h = subst (λ (p : ℕ). held past p x.d ≡ Some x.h) from.process x.held in
-    let marked = are-marked time name histories past linear.0 begun.0 stays from.index x.d x.h held_his in
-    let names : descriptor_of from.operation.call ≡ Some x.d = ap descriptor_of (sym (own-call histories past r from own).call) ∙ x.names in
-    let marks : List Bool = marks_at name histories from.index (completed past (from.index + 1)) in
-    ap (is_marked marks) names
-    ∙ rw (lt-ltb x.d 16 marked.0) (marked.1 ∙ ap (λ (k : ℕ). bytes_eq (name_of past k) name) x.queue)
+call-marked time name histories past r linear begun stays own q on = grind (arith, through, are-marked, own-call, marks_at, lt-ltb)
 
 -- the name has one queue -------------------------------------------------------------------------------------------------
 
 unlinks-own : (call : Call) (y : Reply) → unlinks call y ≡ true → (ends_wait call ≡ false) × (is_unlink call ≡ true) × (y ≡ reply.Done)
-unlinks-own MqUnlink reply.Done e = (refl, refl, refl)
-unlinks-own call reply.Done e = absurd (let bad : false ≡ true = e in cc)
-unlinks-own call y e = absurd (let bad : false ≡ true = e in cc)
+unlinks-own call y e = grind arith
 
 done-went : (past : Past) (x : Outcome) → fits past reply.Done x ≡ true → has_failed x ≡ false
-done-went past (Refused f) fit = absurd (let bad : false ≡ true = fit in cc)
-done-went past _ fit = refl
+done-went past x fit = grind arith
 
 -- a queue of the name that was created is bound to it
 is-bound : (time : ℕ) (name : List ℕ) (histories : Histories) (past : Past) (linear : IsLinearization histories past) → AreBegun time histories past linear → has_any (unbinds time name) histories ≡ false →
@@ -318,27 +254,7 @@ is-bound time name histories (r ∷ past) linear begun stays q made named = crea
     (λ old below.
     let before = is-bound time name histories past linear.0 begun.0 stays q old (sym (name_of-older past r q below) ∙ named) in
     let keeps = record-keeps time name histories past r linear begun.1 stays in
-    let creates_not : (creates r.entry.call r.entry.reply && bytes_eq r.payload name) ≡ false = split (creates r.entry.call r.entry.reply)
-    (λ t.
-    let unbound = (creates-unbound past r linear.1 t).1 in
-    split (bytes_eq r.payload name)
-    (λ same.
-    let payload : r.payload ≡ name = (bytes_eq-Decides r.payload name).0 same in
-    let bad : None ≡ Some q = sym (ap (bound_queue past) (sym payload) ∙ unbound) ∙ before in absurd (cc))
-    (λ n. rw (t, n) refl))
-    (λ f. rw f refl) in
-    let unlinks_not : (unlinks r.entry.call r.entry.reply && bytes_eq r.payload name) ≡ false = split (unlinks r.entry.call r.entry.reply)
-    (λ t.
-    let says = unlinks-own r.entry.call r.entry.reply t in
-    let call = own-call histories past r linear.2 says.0 in
-    let unlink : is_unlink linear.2.operation.call ≡ true = ap is_unlink (sym call.call) ∙ says.1 in
-    let payload : r.payload ≡ linear.2.operation.given.items = call.payload ∙ unlink-payload linear.2.operation.call r.entry.reply linear.2.operation.given.items unlink in
-    let fit : fits past reply.Done linear.2.operation.outcome ≡ true = subst (λ (y : Reply). fits past y linear.2.operation.outcome ≡ true) says.2 linear.2.fits in
-    let went = done-went past linear.2.operation.outcome fit in
-    let no : bytes_eq linear.2.operation.given.items name ≡ false = rw (unlink, went) at keeps.unlinks in
-    rw t (ap (λ (b : List ℕ). bytes_eq b name) payload ∙ no))
-    (λ f. rw f refl) in
-    rw (creates_not, unlinks_not) before)
+    grind (arith, nat_tests, creates-unbound, bytes_eq-Decides, unlinks-own, own-call, done-went, keeps))
     (λ new here.
     let payload : r.payload ≡ name = sym (name_of-newest past r) ∙ ap (name_of (r ∷ past)) here ∙ named in
     rw (new, (bytes_eq-Decides r.payload name).1 payload) (ap Some here))
@@ -369,18 +285,7 @@ name-later before (r ∷ past) q ends made = elim ends [
 -- the call of an operation is through a marked descriptor if and only if its queue has the name
 pub call-placed : (time : ℕ) (name : List ℕ) (histories : Histories) (past : Past) (index k place : ℕ) (x : IsCallAt time histories past index k place) → has_any (unbinds time name) histories ≡ false → (o : Operation) → operation_at histories index k ≡ Some o →
     (q : ℕ) → called_queue x.before x.r.entry.process x.r.entry.call ≡ Some q → is_marked (marks_at name histories index k) (descriptor_of o.call) ≡ bytes_eq (name_of x.before q) name
-call-placed time name histories past index k place x stays o is q on =
-    let from : ComesFrom histories x.before x.r = x.linear.2 in
-    let marked = call-marked time name histories x.before x.r x.linear x.begun stays x.own q on in
-    let marked_his : is_marked (marks_at name histories index (completed x.before (index + 1))) (descriptor_of from.operation.call) ≡ bytes_eq (name_of x.before q) name =
-    subst (λ (i : ℕ). is_marked (marks_at name histories i (completed x.before (i + 1))) (descriptor_of from.operation.call) ≡ bytes_eq (name_of x.before q) name) x.of marked in
-    let marked_it : is_marked (marks_at name histories index k) (descriptor_of from.operation.call) ≡ bytes_eq (name_of x.before q) name =
-    subst (λ (n : ℕ). is_marked (marks_at name histories index n) (descriptor_of from.operation.call) ≡ bytes_eq (name_of x.before q) name) x.number marked_his in
-    let there : current_of histories x.before index ≡ Some from.operation = subst (λ (i : ℕ). current_of histories x.before i ≡ Some from.operation) x.of from.is in
-    let here : operation_at histories index k ≡ Some from.operation = ap (λ (n : ℕ). operation_at histories index n) (sym x.number) ∙ there in
-    let both : Some from.operation ≡ Some o = sym here ∙ is in
-    let same : from.operation ≡ o = cc in
-    ap (λ (y : Operation). is_marked (marks_at name histories index k) (descriptor_of y.call)) (sym same) ∙ marked_it
+call-placed time name histories past index k place x stays o is q on = grind (arith, call-marked, marks_at)
 
 pub created-placed : (time : ℕ) (histories : Histories) (past : Past) (index k place : ℕ) (x : IsCallAt time histories past index k place) → (q : ℕ) → called_queue x.before x.r.entry.process x.r.entry.call ≡ Some q → is_in (created x.before) q ≡ true
 created-placed time histories past index k place x q on = called-created x.before (legal-linear histories x.before x.linear.0) x.r.entry.process q x.r.entry.call on

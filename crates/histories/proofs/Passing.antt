@@ -1,27 +1,23 @@
 -- A history in which a receive passed over a message has no linearization.
-use Rattle.std.proofs.Common.{◌≡◌, ℕ, ◌+◌, ◌-◌, ◌≤◌, ◌<◌, ◌==◌, zero, suc, Bool, true, false, not, ◌&&◌, ◌||◌, List, [], ◌∷◌, length, take, take-take, Option, Some, None, is_some, Vec, ◌⊎◌, inl, inr, refl, sym, ◌∙◌, ap, subst, arith, slice_get, nat_le, nat_lt, eqb-true, eq-eqb, ltb-true, leb-false, if◌then◌else◌}
+use Rattle.std.proofs.Common.{◌≡◌, ℕ, ◌+◌, ◌-◌, ◌≤◌, ◌<◌, ◌==◌, zero, suc, Bool, true, false, not, ◌&&◌, ◌||◌, List, [], ◌∷◌, length, take, take-take, Option, Some, None, Vec, ◌⊎◌, inl, inr, refl, sym, ◌∙◌, ap, subst, arith, slice_get, nat_le, nat_lt, eqb-true, eq-eqb, ltb-true, leb-false, int_lt, pos, Global}
 use Rattle.std.specs.Option.{option_map}
 use Rattle.std.specs.List.{list_all, list_any}
-use Rattle.std.specs.Prelude.{int_lt, pos}
-use Rattle.std.specs.declared.alloc.Global.{Global}
 use Rattle.std.proofs.lemmas.Bool.{and_parts, cases_lt}
 use Rattle.std.proofs.lemmas.Bool.Decides.{nat_tests}
 use Rattle.std.proofs.lemmas.Option.{slice_get_past, slice_get_within}
-use Rattle.mq_model.specs.Record.{Record, Past, record_at}
+use Rattle.mq_model.specs.Record.{Record, Past}
 use Rattle.mq_model.specs.Descriptors.{called_queue, created, descriptor_of, held}
 use Rattle.mq_model.specs.ErrorOrder.{found_reply, is_write_only, timed_reply}
 use Rattle.mq_model.specs.Legality.{IsLegalNext, reply_to, reply_to_receive}
 use Rattle.mq_model.specs.Messages.{best, goes_first, is_accepted, is_in, is_receive, present, priority, priority_given, taken}
 use Rattle.mq_model.specs.Names.{attributes, name_of}
-use Rattle.mq_model.specs.Waits.{open_wait}
 use Rattle.mq_model.specs.declared.entries.Call.{Call}
 use Rattle.mq_model.specs.declared.entries.Call.TheVariants.{MqReceive, MqTimedReceive}
 use Rattle.mq_model.specs.declared.entries.Deadline.{Deadline}
 use Rattle.mq_model.specs.declared.entries.Description.{Description}
 use Rattle.mq_model.specs.declared.entries.Reply.{Reply}
 use Rattle.mq_model.specs.declared.entries.Reply.TheVariants as reply
-use Rattle.mq_model.specs.declared.faults.Fault.{Fault}
-use Rattle.mq_model.specs.declared.faults.Fault.TheVariants.{Again, BadDescriptor, MessageSize, TimedOut}
+use Rattle.mq_model.specs.declared.faults.Fault.TheVariants.{BadDescriptor, MessageSize}
 use Rattle.mq_model.proofs.Best.{best-none, find-test}
 use Rattle.mq_model.proofs.Cases.{Says, either}
 use Rattle.mq_model.proofs.Places.{find-in, split}
@@ -36,14 +32,14 @@ use Rattle.mq_laws.proofs.GoneQueues.{present-or-taken}
 use Rattle.histories.specs.OwnCalls.{made}
 use Rattle.histories.specs.declared.operation.Operation.{Operation}
 use Rattle.histories.specs.declared.operation.Outcome.{Outcome}
-use Rattle.histories.specs.declared.operation.Outcome.TheVariants.{Pending, Done, Opened, Got, Attributes, Notice, Refused}
+use Rattle.histories.specs.declared.operation.Outcome.TheVariants.{Done, Opened, Got, Notice, Refused}
 use Rattle.histories.specs.Histories.{Histories, completed, current_of, is_complete, is_through, none_ended}
 use Rattle.histories.specs.Linearizations.{ComesFrom, IsCallOf, IsLinearization}
-use Rattle.histories.specs.Outcomes.{fits, has_bytes, has_priority, is_message}
+use Rattle.histories.specs.Outcomes.{fits, is_message}
 use Rattle.histories.specs.RealTime.{operation_at}
 use Rattle.histories.specs.Excess.{HasNoOrder, has_got, returned_by, sends_by}
 use Rattle.histories.specs.Named.{calls_on, has_returned_on, is_marked, marks_of, no_marks}
-use Rattle.histories.specs.Passed.{IsPassed, got_other, is_part, passes, says_empty, sends_other_of}
+use Rattle.histories.specs.Passed.{IsPassed, got_other, is_part, passes, sends_other_of}
 use Rattle.histories.specs.declared.passed.Part.TheVariants.{Sent, PassedOver, SentBefore, Received}
 use Rattle.histories.specs.declared.passed.Passed.{Passed}
 use Rattle.histories.proofs.Accepting.{IsOf, accepted-later, completed-accepted, ending-reply, of-later}
@@ -54,6 +50,7 @@ use Rattle.histories.proofs.Naming.{call-placed, created-placed, name-later, one
 use Rattle.histories.proofs.Refuting.{count_returned, returned-completed}
 use Rattle.histories.proofs.Taking.{sent-called, taker}
 use Rattle.histories.proofs.Tracing.{IsCallAt, made-record, own-call, record-with}
+use Rattle.mq_laws.proofs.SendingOrder.{all-in}
 
 -- an operation on the queue that a test finds among those that had returned by a time
 pub record HasFound (time : ℕ) (name : List ℕ) (test : Operation → Bool) (histories : Histories) : Type 0 where
@@ -74,10 +71,9 @@ any-at test (x ∷ xs) e = split (test x)
     (λ f. let rest : list_any test xs ≡ true = rw f at e in let y = any-at test xs rest in (suc y.0, y.1, y.2, y.3))
 
 take-at : {A : Type 0} (n : ℕ) (xs : List A) (k : ℕ) (x : A) → slice_get (take n xs) k ≡ Some x → (k < n) × (slice_get xs k ≡ Some x)
-take-at zero xs k x is = absurd (let bad : None ≡ Some x = is in cc)
-take-at (suc n) [] k x is = absurd (let bad : None ≡ Some x = is in cc)
 take-at (suc n) (y ∷ ys) zero x is = (omega arith, is)
 take-at (suc n) (y ∷ ys) (suc k) x is = let rest = take-at n ys k x is in let lt = rest.0 in (omega (arith, lt), rest.1)
+take-at _ _ k x is = absurd (let bad : None ≡ Some x = is in cc)
 
 pub found : (time : ℕ) (name : List ℕ) (test : Operation → Bool) (histories : Histories) → has_returned_on time name test histories ≡ true → HasFound time name test histories
 found time name test histories e =
@@ -104,17 +100,10 @@ found-at time name test histories x = rw x.has x.is
 
 -- what had returned by a time at which no operation is left is completed
 pub found-completed : (time : ℕ) (name : List ℕ) (test : Operation → Bool) (histories : Histories) (past : Past) (x : HasFound time name test histories) → is_through_by time (current_of histories past x.index) ≡ true → x.k < completed past (x.index + 1)
-found-completed time name test histories past x through =
-    let here : is_through_by time (slice_get x.v.items (completed past (x.index + 1))) ≡ true = rw x.has at through in
-    let le = returned-completed time x.v.items (completed past (x.index + 1)) here in
-    let lt = x.below in
-    omega (arith, le, lt)
+found-completed time name test histories past x through = grind (arith, is_through_by, returned-completed)
 
 pub through-all : (histories : Histories) (past : Past) → is_complete histories past ≡ true → (i : ℕ) → is_through (current_of histories past i) ≡ true
-through-all histories past complete i = elim (cases_lt i (length histories)) [
-  | inl inside ↦ through-each histories past (length histories) i complete inside
-  | inr outside ↦ rw (slice_get_past histories i outside) refl
-]
+through-all histories past complete i = grind (arith, cases_lt, through-each, slice_get_past)
 
 -- a receive that finds a message -----------------------------------------------------------------------------------------
 
@@ -124,28 +113,8 @@ Finds past prio (reply.Refused f) = (f ≡ BadDescriptor) ⊎ (f ≡ MessageSize
 Finds past prio (reply.Got b a n) = prio ≤ priority past b
 Finds past prio _ = ⊥
 
-all-at : (t : ℕ → Bool) (xs : List ℕ) (m : ℕ) → list_all t xs ≡ true → is_in xs m ≡ true → t m ≡ true
-all-at t [] m all there = absurd (let bad : false ≡ true = there in cc)
-all-at t (x ∷ xs) m all there =
-    let parts = and_parts (t x) (list_all t xs) all in
-    split (x == m)
-    (λ e. let same : x ≡ m = eqb-true _ _ e in rw (← same) parts.0)
-    (λ f. let rest : is_in xs m ≡ true = rw f at there in all-at t xs m parts.1 rest)
-
-first-higher : (past : Past) (b m : ℕ) → goes_first past b m ≡ true → priority past m ≤ priority past b
-first-higher past b m e = by (priority past b) (priority past m) e
-  where
-    by : (x y : ℕ) → (nat_lt y x || (x == y && nat_le b m)) ≡ true → y ≤ x
-    by x y e = grind (arith, nat_tests)
-
 best-found : (past : Past) (q m prio : ℕ) (nonblock : Bool) (o : Option ℕ) (waits n : Option ℕ) → best past q ≡ o → is_in (present past q) m ≡ true → priority past m ≡ prio → Finds past prio (found_reply nonblock o waits n)
-best-found past q m prio nonblock None waits n is there same =
-    let none = best-none past q is in
-    absurd (let bad : false ≡ true = rw none at there in cc)
-best-found past q m prio nonblock (Some b) waits n is there same =
-    let all : list_all (goes_first past b) (present past q) ≡ true = find-test (λ (k : ℕ). list_all (goes_first past k) (present past q)) (present past q) b is in
-    let le = first-higher past b m (all-at (goes_first past b) (present past q) m all there) in
-    omega (arith, le, same)
+best-found past q m prio nonblock o waits n is there same = grind (arith, best-none, find-test, all-in)
 
 receive-finds : (past : Past) (q m prio : ℕ) (o : Option Description) (room : ℕ) → is_in (present past q) m ≡ true → priority past m ≡ prio → ((h : Description) → o ≡ Some h → h.queue ≡ q) → Finds past prio (reply_to_receive past o room)
 receive-finds past q m prio None room there same queue = inl refl
@@ -158,57 +127,11 @@ receive-finds past q m prio (Some h) room there same queue =
     best-found past h.queue m prio h.nonblock (best past h.queue) _ _ refl here same))
 
 timed-finds : (past : Past) (prio : ℕ) (until now : Deadline) (y : Reply) → Finds past prio y → Finds past prio (timed_reply until now y)
-timed-finds past prio until now reply.Waits finds = absurd finds
-timed-finds past prio until now _ finds = finds
-
-priority-of : (past : Past) (b p : ℕ) (bytes : List ℕ) → is_message past b p bytes ≡ true → priority past b ≡ p
-priority-of past b p bytes e = by (record_at past b) refl (and_parts _ _ e).0
-  where
-    by : (o : Option Record) → record_at past b ≡ o → has_priority (option_map (λ (r : Record). r.entry) o) p ≡ true → priority past b ≡ p
-    by None is e = absurd (let bad : false ≡ true = e in cc)
-    by (Some r) is e = rw is (eqb-true _ _ e)
+timed-finds past prio until now y finds = grind arith
 
 -- such a reply shows no result that passes over the message
 finds-passes-not : (past : Past) (prio : ℕ) (y : Reply) (x : Outcome) → Finds past prio y → fits past y x ≡ true → passes prio x ≡ true → ⊥
-finds-passes-not past prio (reply.Got b a n) (Got p bytes) finds fit pass =
-    let is = priority-of past b p bytes.items fit in
-    let less = ltb-true p prio pass in
-    omega (arith, finds, is, less)
-finds-passes-not past prio (reply.Got b a n) Pending finds fit pass = let bad : false ≡ true = pass in cc
-finds-passes-not past prio (reply.Got b a n) Done finds fit pass = let bad : false ≡ true = pass in cc
-finds-passes-not past prio (reply.Got b a n) (Opened d) finds fit pass = let bad : false ≡ true = pass in cc
-finds-passes-not past prio (reply.Got b a n) (Attributes s) finds fit pass = let bad : false ≡ true = pass in cc
-finds-passes-not past prio (reply.Got b a n) (Notice v) finds fit pass = let bad : false ≡ true = pass in cc
-finds-passes-not past prio (reply.Got b a n) (Refused f) finds fit pass = let bad : false ≡ true = fit in cc
-finds-passes-not past prio (reply.Refused g) (Got p bytes) finds fit pass = let bad : false ≡ true = fit in cc
-finds-passes-not past prio (reply.Refused g) Pending finds fit pass = let bad : false ≡ true = pass in cc
-finds-passes-not past prio (reply.Refused g) Done finds fit pass = let bad : false ≡ true = pass in cc
-finds-passes-not past prio (reply.Refused g) (Opened d) finds fit pass = let bad : false ≡ true = pass in cc
-finds-passes-not past prio (reply.Refused g) (Attributes s) finds fit pass = let bad : false ≡ true = pass in cc
-finds-passes-not past prio (reply.Refused g) (Notice v) finds fit pass = let bad : false ≡ true = pass in cc
-finds-passes-not past prio (reply.Refused g) (Refused f) finds fit pass = elim finds [
-  | inl bad_descriptor ↦ no-descriptor f pass (subst (λ (x : Fault). fits past (reply.Refused x) (Refused f) ≡ true) bad_descriptor fit)
-  | inr size ↦ no-size f pass (subst (λ (x : Fault). fits past (reply.Refused x) (Refused f) ≡ true) size fit)
-]
-  where
-    no-descriptor : (f : Fault) → says_empty f ≡ true → fits past (reply.Refused BadDescriptor) (Refused f) ≡ true → ⊥
-    no-descriptor Again empty fit = let bad : false ≡ true = fit in cc
-    no-descriptor TimedOut empty fit = let bad : false ≡ true = fit in cc
-    no-descriptor _ empty fit = let bad : false ≡ true = empty in cc
-
-    no-size : (f : Fault) → says_empty f ≡ true → fits past (reply.Refused MessageSize) (Refused f) ≡ true → ⊥
-    no-size Again empty fit = let bad : false ≡ true = fit in cc
-    no-size TimedOut empty fit = let bad : false ≡ true = fit in cc
-    no-size _ empty fit = let bad : false ≡ true = empty in cc
-finds-passes-not past prio (reply.Opened d c) x finds fit pass = finds
-finds-passes-not past prio (reply.Queued n) x finds fit pass = finds
-finds-passes-not past prio (reply.Handed w) x finds fit pass = finds
-finds-passes-not past prio reply.Waits x finds fit pass = finds
-finds-passes-not past prio (reply.Collected b) x finds fit pass = finds
-finds-passes-not past prio (reply.Withdrawn b) x finds fit pass = finds
-finds-passes-not past prio (reply.Attrs s) x finds fit pass = finds
-finds-passes-not past prio (reply.Notice v) x finds fit pass = finds
-finds-passes-not past prio reply.Done x finds fit pass = finds
+finds-passes-not past prio y x finds fit pass = grind (arith, ltb-true)
 
 -- the theorem ------------------------------------------------------------------------------------------------------------
 
@@ -231,11 +154,7 @@ finds-now past r o next call q m prio there same only receive = by r.entry.call 
     by _ c e = absurd (let bad : false ≡ true = e in cc)
 
 pub completed-made : (past : Past) (p : ℕ) → completed past p ≤ made past p
-completed-made past p = by (is_some (open_wait past p))
-  where
-    by : (b : Bool) → (if b then made past p - 1 else made past p) ≤ made past p
-    by true = omega arith
-    by false = omega arith
+completed-made past p = grind arith
 
 -- the message was accepted by the queue of the name
 record IsSent (e : Passed) (past : Past) : Type 0 where
@@ -266,9 +185,7 @@ record IsReceive (e : Passed) (histories : Histories) (full past : Past) (r : Re
 -- the queue of the receive is that of the message
 only-queue : (histories : Histories) (e : Passed) → IsPassed histories e → (full past : Past) (r : Record) (o : Operation) → IsReceive e histories full past r o → (x : IsSent e past) →
     (k : ℕ) → called_queue past r.entry.process r.entry.call ≡ Some k → k ≡ x.q
-only-queue histories e is full past r o it x k called =
-    let on = it.on k called in
-    one-of-name e.to e.name.items histories past it.linear.0 it.begun.0 is.bound k x.q on.0 x.made on.1 x.named
+only-queue histories e is full past r o it x k called = grind (arith, one-of-name)
 
 -- a message that was accepted before a receive is still in its queue
 record IsThere (past : Past) (prio m q : ℕ) : Type 0 where
@@ -319,11 +236,7 @@ record GivesFirst (past : Past) (q prio : ℕ) (bytes : List ℕ) : Type 0 where
   pub of : IsOf past b prio bytes
 
 of-message : (past : Past) (b prio : ℕ) (bytes : List ℕ) → is_message past b prio bytes ≡ true → IsOf past b prio bytes
-of-message past b prio bytes e = by (record_at past b) refl (and_parts _ _ e)
-  where
-    by : (o : Option Record) → record_at past b ≡ o → (has_priority (option_map (λ (r : Record). r.entry) o) prio ≡ true) × (has_bytes (option_map (λ (r : Record). r.payload) o) bytes ≡ true) → IsOf past b prio bytes
-    by None is parts = absurd (let bad : false ≡ true = parts.0 in cc)
-    by (Some r) is parts = record { r = r; at = is; priority = eqb-true _ _ parts.0; bytes = (bytes_eq-Decides r.payload bytes).0 parts.1 }
+of-message past b prio bytes e = grind (arith, and_parts, IsOf, eqb-true, bytes_eq-Decides)
 
 -- a receive that finds a message waits for none, so what it got is in its queue
 gives-first : (past : Past) (r : Record) (o : Operation) → IsLegalNext past r → IsCallOf r o → (q m prio : ℕ) (bytes : List ℕ) → is_in (present past q) m ≡ true → priority past m ≡ prio →
@@ -400,7 +313,7 @@ later-not histories e is full past r o it x v other got =
     let still = still-there histories e is full past r o it was in
     let queue : was.q ≡ x.q = one-of-name e.to e.name.items histories past it.linear.0 it.begun.0 is.bound was.q x.q was.made x.made was.named x.named in
     let here : is_in (present past x.q) was.m ≡ true = subst (λ (k : ℕ). is_in (present past k) was.m ≡ true) queue still.there in
-    let goes = all-at (goes_first past y.b) (present past x.q) was.m y.all here in
+    let goes = all-in (goes_first past y.b) (present past x.q) was.m y.all here in
     let mine : priority past y.b ≡ e.prio = rw y.of.at y.of.priority in
     let below = record_at-below z.before first.m first.of.r first.of.at in
     let place = z.place in

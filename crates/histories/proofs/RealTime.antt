@@ -1,62 +1,28 @@
 -- A linearization of operations that end in their order agrees with real time.
-use Rattle.std.proofs.Common.{◌≡◌, ℕ, ◌+◌, ◌-◌, ◌≤◌, ◌<◌, ◌==◌, zero, suc, Bool, true, false, not, inl, inr, List, [], ◌∷◌, length, Option, Some, None, is_some, is_none, nat_lt, refl, ap, sym, ◌∙◌, subst, arith, if◌then◌else◌, slice_get, get_or, Vec}
+use Rattle.std.proofs.lemmas.Bool.Decides.{nat_tests}
+use Rattle.std.proofs.Common.{◌≡◌, ℕ, ◌+◌, ◌-◌, ◌≤◌, ◌<◌, ◌==◌, zero, suc, Bool, true, false, inl, inr, List, [], ◌∷◌, length, Option, Some, None, subst, arith, if◌then◌else◌, slice_get, get_or, Vec, Global}
 use Rattle.std.specs.Option.{option_and_then}
-use Rattle.std.specs.declared.alloc.Global.{Global}
 use Rattle.std.proofs.lemmas.Bool.{cases_lt, eqb-true, lt-ltb, ne_eqb, and_parts}
 use Rattle.std.proofs.lemmas.Option.{slice_get_within, slice_get-get_or}
 use Rattle.mq_model.specs.Record.{Record, Past, Process, Place}
-use Rattle.mq_model.specs.Waits.{is_wait, open_wait}
-use Rattle.mq_model.specs.Legality.{IsLegalNext, reply_to}
-use Rattle.mq_model.specs.declared.entries.Call.{Call}
-use Rattle.mq_model.specs.declared.entries.Call.TheVariants.{Collect, Withdraw}
-use Rattle.mq_model.specs.declared.entries.Reply.{Reply}
+use Rattle.mq_model.specs.Legality.{IsLegalNext}
 use Rattle.mq_model.proofs.Places.{split}
-use Rattle.histories.specs.OwnCalls.{ends_wait, made}
 use Rattle.histories.proofs.OwnCalls.{turn-of-own, some-of-none}
 use Rattle.histories.specs.declared.operation.Operation.{Operation}
-use Rattle.histories.specs.Histories.{Histories, completed, current_of, ended_before, none_ended}
+use Rattle.histories.specs.Histories.{Histories, completed, current_of, none_ended}
 use Rattle.histories.specs.Linearizations.{ComesFrom, IsLinearization}
 use Rattle.histories.specs.RealTime.{operation_at, EndInOrder, operation_of, AgreesWithRealTime}
 
 -- no process completes fewer operations later ------------------------------------------------------------------------
 
--- the end of a wait does not wait
-end-waits-not : (past : Past) (p : Process) (call : Call) (payload : List ℕ) → ends_wait call ≡ true → is_wait (reply_to past p call payload) ≡ false
-end-waits-not past p Collect payload ends = refl
-end-waits-not past p (Withdraw now) payload ends = refl
-end-waits-not past p _ payload ends = cc
-
 count-below : (waits : Bool) (n : ℕ) → (if waits then n - 1 else n) ≤ n
-count-below true n = omega arith
-count-below false n = omega arith
+count-below waits n = grind arith
 
 count-above : (waits : Bool) (n : ℕ) → n ≤ (if waits then n + 1 - 1 else n + 1)
-count-above true n = omega arith
-count-above false n = omega arith
+count-above waits n = grind arith
 
 pub completed-grows : (past : Past) (r : Record) (p : Process) → IsLegalNext past r → completed past p ≤ completed (r ∷ past) p
-completed-grows past r p legal =
-    let W : Bool = is_some (open_wait past p) in
-    let M : ℕ = made past p in
-    split (r.entry.process == p)
-    (λ mine.
-    let same : r.entry.process ≡ p = eqb-true _ _ mine in
-    split (ends_wait r.entry.call)
-    (λ ends.
-    let quiet : is_wait r.entry.reply ≡ false =
-    subst (λ (y : Reply). is_wait y ≡ false) (sym legal.reply) (end-waits-not past r.entry.process r.entry.call r.payload ends)
-    in
-    rw (mine, ends, quiet) (count-below W M))
-    (λ own.
-    let free : is_none (open_wait past r.entry.process) ≡ true = sym (turn-of-own past r.entry.process r.entry.call own) ∙ legal.turn in
-    let none : is_some (open_wait past p) ≡ false =
-    subst (λ (q : ℕ). is_some (open_wait past q) ≡ false) same (some-of-none (open_wait past r.entry.process) free)
-    in
-    let waits : (b : Bool) → M ≤ (if is_some (if b then Some (length past) else None) then M + 1 - 1 else M + 1) =
-    λ (b : Bool). elim b as (λ b. M ≤ (if is_some (if b then Some (length past) else None) then M + 1 - 1 else M + 1)) [ true ↦ count-above true M | false ↦ count-above false M ]
-    in
-    rw (mine, own, none) (waits (is_wait r.entry.reply))))
-    (λ other. let equal : completed past p ≤ completed past p = omega arith in rw other equal)
+completed-grows past r p legal = grind (arith, nat_tests, eqb-true, count-below, turn-of-own, some-of-none, count-above)
 
 -- and operations that end in their order end no earlier later ----------------------------------------------------------
 
@@ -82,9 +48,7 @@ operation-below histories index m n operation below is =
 -- a time by which the m-th operation of a process has not ended, and so none of the later ones
 later-ends : (histories : Histories) → EndInOrder histories → (index moment m more : ℕ) (operation : Operation) → operation_at histories index (m + more) ≡ Some operation →
     ((o : Operation) → operation_at histories index m ≡ Some o → moment ≤ o.end) → moment ≤ operation.end
-later-ends histories ordered index moment m zero operation is at =
-    let same : m + 0 ≡ m = omega arith in
-    at operation (subst (λ (k : ℕ). operation_at histories index k ≡ Some operation) same is)
+later-ends histories ordered index moment m zero operation is at = grind arith
 later-ends histories ordered index moment m (suc more) operation is at =
     let number : m + suc more ≡ m + more + 1 = omega arith in
     let here : operation_at histories index (m + more + 1) ≡ Some operation = subst (λ (k : ℕ). operation_at histories index k ≡ Some operation) number is in
@@ -116,37 +80,13 @@ not-ended-of histories past moment (suc n) index operation below none is =
     elim (cases_lt index n) [
       | inl less ↦ not-ended-of histories past moment n index operation less parts.0 is
       | inr last ↦
-          let e : index ≡ n = omega arith in
-          let here : current_of histories past n ≡ Some operation = subst (λ (k : ℕ). current_of histories past k ≡ Some operation) e is in
-          let open_still : not (nat_lt operation.end moment) ≡ true = sym (ap (λ (o : Option Operation). not (ended_before moment o)) here) ∙ parts.1 in
-          elim (cases_lt operation.end moment) [
-            | inl ended ↦ let t : nat_lt operation.end moment ≡ true = lt-ltb operation.end moment ended in let bad : not true ≡ true = rw t at open_still in let k : ⊥ = cc in absurd k
-            | inr late ↦ late
-          ]
+          grind (arith, nat_tests, cases_lt, lt-ltb)
     ]
-
-process-within : (histories : Histories) (past : Past) (index : ℕ) (operation : Operation) → current_of histories past index ≡ Some operation → index < length histories
-process-within histories past index operation is =
-    let goes : (v : Option (Vec Operation Global)) → slice_get histories index ≡ v → option_and_then (λ (operations : Vec Operation Global). slice_get operations.items (completed past (index + 1))) v ≡ Some operation → index < length histories =
-    λ (v : Option (Vec Operation Global)). elim v as (λ v. slice_get histories index ≡ v → option_and_then (λ (operations : Vec Operation Global). slice_get operations.items (completed past (index + 1))) v ≡ Some operation → index < length histories) [
-      | None ↦ (λ e h. let k : ⊥ = cc in absurd k)
-      | Some operations ↦ (λ e h. slice_get_within histories index operations e)
-    ]
-    in
-    goes (slice_get histories index) refl is
 
 -- when a record is made, no current operation has ended before that of the record began
 record-in-time : (histories : Histories) (past : Past) (r : Record) (operation : Operation) → ComesFrom histories past r → current_of histories past (r.entry.process - 1) ≡ Some operation →
     NotEnded histories past operation.begin
-record-in-time histories past r operation from is index o at =
-    let number : r.entry.process - 1 ≡ from.index = omega (arith, from.process) in
-    let here : current_of histories past from.index ≡ Some operation = subst (λ (k : ℕ). current_of histories past k ≡ Some operation) number is in
-    let both : Some from.operation ≡ Some operation = sym from.is ∙ here in
-    let same : from.operation ≡ operation = cc in
-    let none : none_ended histories past operation.begin (length histories) ≡ true =
-    subst (λ (x : Operation). none_ended histories past x.begin (length histories) ≡ true) same from.in_time
-    in
-    not-ended-of histories past operation.begin (length histories) index o (process-within histories past index o at) none at
+record-in-time histories past r operation from is index o at = grind (arith, not-ended-of, slice_get_within)
 
 -- and none has at any later time
 record-stays-in-time : (histories : Histories) → EndInOrder histories → (past : Past) → IsLinearization histories past → (i : Place) (operation : Operation) → operation_of histories past i ≡ Some operation →

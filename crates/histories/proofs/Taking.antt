@@ -1,16 +1,17 @@
 -- Which operation takes a message from its queue.
-use Rattle.std.proofs.Common.{◌≡◌, ℕ, ◌+◌, ◌≤◌, ◌<◌, ◌==◌, Bool, true, false, not, ◌&&◌, List, [], ◌∷◌, length, Option, Some, is_none, ◌⊎◌, inl, inr, refl, sym, ◌∙◌, ap, subst, arith, eqb-true, eq-eqb}
+use Rattle.std.proofs.lemmas.Bool.Decides.{nat_tests}
+use Rattle.std.proofs.Common.{◌≡◌, ℕ, ◌+◌, ◌≤◌, ◌<◌, ◌==◌, Bool, true, false, not, ◌&&◌, List, [], ◌∷◌, length, Option, Some, ◌⊎◌, inl, inr, refl, sym, ◌∙◌, ap, subst, arith, eqb-true, eq-eqb, rules}
 use Rattle.std.specs.Option.{option_map, unwrap_or}
 use Rattle.std.specs.Str.{bytes_eq}
-use Rattle.std.proofs.lemmas.Bool.{and_parts, le-leb}
+use Rattle.std.proofs.lemmas.Bool.{and_parts, le-leb, or_right}
 use Rattle.std.proofs.lemmas.Slice.Eq.{bytes_eq-Decides}
-use Rattle.mq_model.specs.Record.{Record, Past, first, record_at}
+use Rattle.mq_model.specs.Record.{Record, Past, record_at}
 use Rattle.mq_model.specs.Descriptors.{called_queue, is_on}
-use Rattle.mq_model.specs.Messages.{blocked_receives, blocks_receive, is_in, is_receive, least, present, priority_given, taken, taken_by, waiting_receives, with_place}
+use Rattle.mq_model.specs.Messages.{blocked_receives, blocks_receive, is_in, is_receive, least, present, taken, taken_by, waiting_receives, with_place}
 use Rattle.mq_model.specs.Waits.{answered_by, named_wait, open_wait}
 use Rattle.mq_model.specs.Legality.{Legal, may_call}
 use Rattle.mq_model.specs.declared.entries.Call.{Call}
-use Rattle.mq_model.specs.declared.entries.Call.TheVariants.{MqOpen, MqClose, MqUnlink, MqSend, MqReceive, MqGetattr, MqSetattr, MqNotify, NextNotice, Collect, MqTimedSend, MqTimedReceive, Withdraw}
+use Rattle.mq_model.specs.declared.entries.Call.TheVariants.{Collect, Withdraw}
 use Rattle.mq_model.specs.declared.entries.Reply.{Reply}
 use Rattle.mq_model.specs.declared.entries.Reply.TheVariants as reply
 use Rattle.mq_model.specs.declared.owners.WaitKind.TheVariants.{Receive}
@@ -32,17 +33,18 @@ use Rattle.mq_laws.proofs.SentMessages.{IsSentTo, admitted-sent}
 use Rattle.histories.specs.OwnCalls.{ends_wait}
 use Rattle.histories.specs.declared.operation.Operation.{Operation}
 use Rattle.histories.specs.declared.operation.Outcome.{Outcome}
-use Rattle.histories.specs.declared.operation.Outcome.TheVariants.{Pending, Done, Opened, Got, Attributes, Notice, Refused}
+use Rattle.histories.specs.declared.operation.Outcome.TheVariants.{Pending, Done, Got}
 use Rattle.histories.specs.Histories.{Histories, completed, current_of, is_pending, is_through}
 use Rattle.histories.specs.Linearizations.{ComesFrom, IsLinearization}
-use Rattle.histories.specs.Outcomes.{fits, has_bytes, has_handed, has_priority, hands, is_handed, is_message}
+use Rattle.histories.specs.Outcomes.{fits, has_handed, hands, is_handed, is_message}
 use Rattle.histories.specs.RealTime.{operation_at}
 use Rattle.histories.specs.Excess.{has_got}
 use Rattle.histories.specs.Passed.{may_receive}
-use Rattle.histories.proofs.Accepting.{IsOf, ending-reply, of-older, or-right}
+use Rattle.histories.proofs.Accepting.{IsOf, ending-reply, of-older}
 use Rattle.histories.proofs.Completing.{free}
 use Rattle.histories.proofs.Cutting.{AreBegun, Ends, ends-length, ends-older}
 use Rattle.histories.proofs.Tracing.{IsCallAt, call-older, current-other, legal-linear, own-call, waits-for}
+use Rattle.histories.proofs.Admitting.{some-not-none}
 
 -- an operation that began by this time, and was made on this queue, may have received the message
 pub record HasTaker (time : ℕ) (histories : Histories) (past : Past) (q prio : ℕ) (message : List ℕ) : Type 0 where
@@ -60,22 +62,11 @@ taker-older time histories past r q prio message x = record { index = x.index; k
 
 -- an older message was sent to its queue before the latest record
 sent-older_part : (past : Past) (r : Record) (q m : ℕ) → m < length past → IsSentTo (r ∷ past) q m → IsSentTo past q m
-sent-older_part past r q m lt x = record {
-  r = x.r;
-  at = sym (record_at-older past r m lt) ∙ x.at;
-  on = ap (λ (b : Past). called_queue b x.r.entry.process x.r.entry.call) (sym (first-older past r m (omega (arith, lt)))) ∙ x.on;
-  send = x.send;
-  reply = x.reply;
-}
+sent-older_part past r q m lt x = grind (arith, record_at-older, first-older)
 
 -- the queue to which the latest record sent its message
 sent-here : (past : Past) (r : Record) (q : ℕ) → IsSentTo (r ∷ past) q (length past) → called_queue past r.entry.process r.entry.call ≡ Some q
-sent-here past r q x =
-    let same : Some r ≡ Some x.r = rw (eq-eqb (length past) (length past) refl) at x.at in
-    let is : r ≡ x.r = cc in
-    let before : first (length past) (r ∷ past) ≡ past = first-older past r (length past) (omega arith) ∙ first-all past (length past) refl in
-    ap (λ (b : Past). called_queue b r.entry.process r.entry.call) (sym before)
-    ∙ ap (λ (s : Record). called_queue (first (length past) (r ∷ past)) s.entry.process s.entry.call) is ∙ x.on
+sent-here past r q x = grind (arith, eq-eqb, first-older, first-all)
 
 -- the queue of a waiting receive is that of its call
 pub blocked-called : (past : Past) (q w : ℕ) → is_in (blocked_receives past q) w ≡ true → (before : Past) (r : Record) → Ends (r ∷ before) past → length before ≡ w → called_queue before r.entry.process r.entry.call ≡ Some q
@@ -111,33 +102,18 @@ sent-called (s ∷ past) q m to before r ends at = elim ends [
 
 -- a send that hands its message over does so on its queue
 pub handed-on : (past : Past) (p w : ℕ) (call : Call) → Says past p call (reply.Handed w) → (q : ℕ) × (called_queue past p call ≡ Some q) × (least (waiting_receives past q) ≡ Some w)
-handed-on past p w (MqSend d prio len) says = (says.0.queue, rw says.1 refl, says.3)
-handed-on past p w (MqTimedSend d prio len until now) says = (says.0.queue, rw says.1 refl, says.3)
-handed-on past p w (MqClose d) says = absurd says.0
-handed-on past p w (MqReceive d room) says = absurd says.3
-handed-on past p w (MqTimedReceive d room until now) says = absurd says.3
-handed-on past p w NextNotice says = absurd (cc)
-handed-on past p w Collect says = absurd (cc)
-handed-on past p w (Withdraw now) says = absurd (cc)
-handed-on past p w _ says = absurd says
+handed-on past p w call says = grind arith
 
 -- what is_message says of a record that is of a message
 message-is : (past : Past) (m prio p : ℕ) (message bytes : List ℕ) → IsOf past m prio message → is_message past m p bytes ≡ true → (p ≡ prio) × (bytes ≡ message)
-message-is past m prio p message bytes x is =
-    let here : (has_priority (option_map (λ (r : Record). r.entry) (Some x.r)) p && has_bytes (option_map (λ (r : Record). r.payload) (Some x.r)) bytes) ≡ true =
-    subst (λ (o : Option Record). (has_priority (option_map (λ (r : Record). r.entry) o) p && has_bytes (option_map (λ (r : Record). r.payload) o) bytes) ≡ true) x.at is in
-    let parts = and_parts (priority_given x.r.entry.call == p) (bytes_eq x.r.payload bytes) here in
-    (sym (eqb-true _ _ parts.0) ∙ x.priority, sym ((bytes_eq-Decides x.r.payload bytes).0 parts.1) ∙ x.bytes)
+message-is past m prio p message bytes x is = grind (arith, and_parts, eqb-true, bytes_eq-Decides)
 
 got-of : (p prio : ℕ) (bytes message : List ℕ) → p ≡ prio → bytes ≡ message → (p == prio && bytes_eq bytes message) ≡ true
 got-of p prio bytes message same equal = rw (eq-eqb p prio same, (bytes_eq-Decides bytes message).1 equal) refl
 
 -- what a reply that gives the message shows of its operation
 gives-it : (time : ℕ) (o : Operation) (prio : ℕ) (message : List ℕ) → o.begin ≤ time → is_receive o.call ≡ true → (has_got prio message o.outcome ≡ true) ⊎ (is_pending o.outcome ≡ true) → may_receive time prio message o ≡ true
-gives-it time o prio message begun receive how = elim how [
-  | inl got ↦ rw (le-leb o.begin time begun, got) refl
-  | inr pending ↦ rw (le-leb o.begin time begun, receive, pending) (or-right (has_got prio message o.outcome) true refl)
-]
+gives-it time o prio message begun receive how = grind (arith, le-leb, or_right)
 
 got-outcome : (past : Past) (m prio : ℕ) (message : List ℕ) (a n : Option ℕ) (x : Outcome) → IsOf past m prio message → fits past (reply.Got m a n) x ≡ true → (has_got prio message x ≡ true) ⊎ (is_pending x ≡ true)
 got-outcome past m prio message a n Pending of fit = inr refl
@@ -146,9 +122,7 @@ got-outcome past m prio message a n _ of fit = absurd (let bad : false ≡ true 
 
 collected-outcome : (past : Past) (m prio : ℕ) (message : List ℕ) (x : Outcome) → IsOf past m prio message → is_handed past m ≡ true → fits past (reply.Collected m) x ≡ true → (has_got prio message x ≡ true) ⊎ (is_pending x ≡ true)
 collected-outcome past m prio message Pending of handed fit = inr refl
-collected-outcome past m prio message (Got p bytes) of handed fit =
-    let parts = and_parts (is_handed past m) (is_message past m p bytes.items) fit in
-    let same = message-is past m prio p message bytes.items of parts.1 in inl (got-of p prio bytes.items message same.0 same.1)
+collected-outcome past m prio message (Got p bytes) of handed fit = search (rules, and_parts, message-is, got-of)
 collected-outcome past m prio message Done of handed fit = absurd (let bad : not true ≡ true = subst (λ (b : Bool). not b ≡ true) handed fit in cc)
 collected-outcome past m prio message _ of handed fit = absurd (let bad : false ≡ true = fit in cc)
 
@@ -165,20 +139,11 @@ record IsServed (histories : Histories) (past : Past) (index w m prio : ℕ) (me
 handed-older : (past : Past) (r : Record) (m prio : ℕ) (message : List ℕ) → IsOf past m prio message → is_handed past m ≡ true → is_handed (r ∷ past) m ≡ true
 handed-older past r m prio message of e = ap (λ (o : Option Record). has_handed (option_map (λ (x : Record). x.entry) o)) (record_at-older past r m (record_at-below past m of.r of.at)) ∙ e
 
-some-not-none : (past : Past) (p w : ℕ) → open_wait past p ≡ Some w → is_none (open_wait past p) ≡ true → ⊥
-some-not-none past p w is none = let bad : false ≡ true = rw is at none in cc
-
 served-step : (time : ℕ) (histories : Histories) (past : Past) (r : Record) (linear : IsLinearization histories (r ∷ past)) (index w m prio : ℕ) (message : List ℕ) (o : Operation) → o.begin ≤ time → is_receive o.call ≡ true →
     IsServed histories past index w m prio message o → IsServed histories (r ∷ past) index w m prio message o ⊎ (may_receive time prio message o ≡ true)
 served-step time histories past r linear index w m prio message o begun receive x = split (r.entry.process == index + 1)
     (λ own. inr (ended (eqb-true _ _ own)))
-    (λ other. inl (record {
-      opened = rw other x.opened;
-      is = current-other histories past r index other ∙ x.is;
-      named = has-older named_wait past r m w x.named;
-      of = of-older past r m prio message x.of;
-      handed = handed-older past r m prio message x.of x.handed;
-    }))
+    (λ other. grind (arith, nat_tests, current-other, has-older, of-older, handed-older))
   where
     legal : Legal past
     legal = legal-linear histories past linear.0
@@ -229,12 +194,7 @@ served-later time histories base (r ∷ full) linear ends index w m prio message
 -- at the end each operation that returned is completed
 served-ends : (time : ℕ) (histories : Histories) (full : Past) (index w m prio : ℕ) (message : List ℕ) (o : Operation) → o.begin ≤ time → is_receive o.call ≡ true → is_through (current_of histories full index) ≡ true →
     IsServed histories full index w m prio message o ⊎ (may_receive time prio message o ≡ true) → may_receive time prio message o ≡ true
-served-ends time histories full index w m prio message o begun receive through how = elim how [
-  | inr may ↦ may
-  | inl still ↦
-      let pending : is_pending o.outcome ≡ true = subst (λ (x : Option Operation). is_through x ≡ true) still.is through in
-      gives-it time o prio message begun receive (inr pending)
-]
+served-ends time histories full index w m prio message o begun receive through how = grind (arith, gives-it)
 
 -- a waiting receive is a receive
 blocked-receive : (past : Past) (q w : ℕ) (r : Record) → is_in (blocked_receives past q) w ≡ true → record_at past w ≡ Some r → is_receive r.entry.call ≡ true
@@ -278,13 +238,7 @@ handed-taker time histories full past r linear begun whole ends through w q prio
     let none = free past r (z.index + 1) mine linear.1 own in
     let bad : true ≡ false = rw opened at none in absurd (cc))
     (λ f. f) in
-    let served : IsServed histories (r ∷ past) z.index w (length past) prio message z.operation = record {
-      opened = rw apart opened;
-      is = current-other histories past r z.index apart ∙ z.is;
-      named = has-here named_wait past r w (ap named_wait is);
-      of = of;
-      handed = handed-here (ap hands is);
-    } in
+    let served : IsServed histories (r ∷ past) z.index w (length past) prio message z.operation = grind (arith, nat_tests, current-other, has-here) in
     let may = served-ends time histories full z.index w (length past) prio message z.operation z.begun receive (through z.index)
     (served-later time histories (r ∷ past) full whole ends z.index w (length past) prio message z.operation z.begun receive served) in
     record {

@@ -1,6 +1,5 @@
 -- Sums over the processes of a history, and counts of first operations.
-use Rattle.std.proofs.Common.{◌≡◌, ◌≢◌, ℕ, ◌+◌, ◌≤◌, ◌<◌, zero, suc, Bool, List, [], ◌∷◌, length, take, get_or, Option, Some, None, Vec, inl, inr, refl, sym, ◌∙◌, ap, subst, arith, if◌then◌else◌, slice_get, count_by, sum_by, add-one, take-take}
-use Rattle.std.specs.declared.alloc.Global.{Global}
+use Rattle.std.proofs.Common.{◌≡◌, ◌≢◌, ℕ, ◌+◌, ◌≤◌, ◌<◌, zero, suc, Bool, List, [], ◌∷◌, length, take, get_or, Option, Some, None, Vec, inl, inr, refl, ◌∙◌, ap, subst, arith, if◌then◌else◌, slice_get, count_by, sum_by, add-one, take-take, Global}
 use Rattle.std.proofs.lemmas.Bool.{cases_lt}
 use Rattle.std.proofs.lemmas.List.{take_all}
 use Rattle.std.proofs.lemmas.List.Sums.{count_by_more_no, count_by_more_yes, sum_by-take-le, sum_by_more}
@@ -24,23 +23,7 @@ total-le f g (suc n) each =
 -- one number grows by w at most, and no other does
 pub total-more : (f g : ℕ → ℕ) (n k w : ℕ) → ((i : ℕ) → i ≢ k → g i ≤ f i) → g k ≤ f k + w → total g n ≤ total f n + w
 total-more f g zero k w others here = omega arith
-total-more f g (suc n) k w others here = elim (cases_lt n k) [
-  | inl below ↦
-      let before = total-le g f n (λ i lt. others i (λ e. omega (arith, e, lt, below))) in
-      let last = others n (λ e. omega (arith, e, below)) in
-      omega (arith, before, last)
-  | inr above ↦ elim (cases_lt k n) [
-    | inl inside ↦
-        let before = total-more f g n k w others here in
-        let last = others n (λ e. omega (arith, e, inside)) in
-        omega (arith, before, last)
-    | inr top ↦
-        let e : k ≡ n = omega (arith, above, top) in
-        let before = total-le g f n (λ i lt. others i (λ same. omega (arith, same, lt, e))) in
-        let last : g n ≤ f n + w = subst (λ i. g i ≤ f i + w) e here in
-        omega (arith, before, last)
-  ]
-]
+total-more f g (suc n) k w others here = grind (arith, cases_lt, total-le, total-more f g n k w others here)
 
 -- one number grows by w at least, and no other falls
 pub total-grows : (f g : ℕ → ℕ) (n k w : ℕ) → k < n → ((i : ℕ) → i ≢ k → f i ≤ g i) → f k + w ≤ g k → total f n + w ≤ total g n
@@ -63,10 +46,7 @@ of_process g None = 0
 of_process g (Some v) = g v
 
 pub read : {A : Type 0} (xs : List A) (k : ℕ) (x : A) → slice_get xs k ≡ Some x → (k < length xs) × (get_or xs k x ≡ x)
-read xs k x is =
-    let within = slice_get_within xs k x is in
-    let both : Some (get_or xs k x) ≡ Some x = sym (slice_get-get_or xs k x within) ∙ is in
-    (within, (let same : get_or xs k x ≡ x = cc in same))
+read xs k x is = grind (arith, slice_get_within, slice_get-get_or)
 
 pub no-more : {A : Type 0} (xs : List A) (k : ℕ) → slice_get xs k ≡ None → length xs ≤ k
 no-more xs k none = elim (cases_lt k (length xs)) [

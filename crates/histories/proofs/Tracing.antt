@@ -1,12 +1,9 @@
 -- The operations of the records of a linearization.
-use Rattle.std.proofs.Common.{◌≡◌, ℕ, ◌+◌, ◌≤◌, ◌<◌, ◌==◌, true, false, List, [], ◌∷◌, length, Some, None, inl, inr, refl, sym, ◌∙◌, ap, subst, arith, if◌then◌else◌, eqb-true, eq-eqb}
+use Rattle.std.proofs.Common.{◌≡◌, ℕ, ◌+◌, ◌≤◌, ◌<◌, ◌==◌, true, false, [], ◌∷◌, length, Some, None, inl, inr, refl, sym, ◌∙◌, ap, subst, arith, if◌then◌else◌, eqb-true, eq-eqb}
 use Rattle.std.proofs.lemmas.Bool.{cases_lt, eqb-false}
-use Rattle.mq_model.specs.Record.{Record, Past, Process, record_at}
+use Rattle.mq_model.specs.Record.{Record, Past, record_at}
 use Rattle.mq_model.specs.Waits.{is_wait, open_wait}
-use Rattle.mq_model.specs.Legality.{IsLegalNext, Legal, reply_to}
-use Rattle.mq_model.specs.declared.entries.Call.{Call}
-use Rattle.mq_model.specs.declared.entries.Call.TheVariants.{Collect, Withdraw}
-use Rattle.mq_model.specs.declared.entries.Reply.{Reply}
+use Rattle.mq_model.specs.Legality.{IsLegalNext, Legal}
 use Rattle.mq_model.proofs.Frames.{record_at-older}
 use Rattle.mq_model.proofs.Places.{split}
 use Rattle.mq_model.proofs.Prefixes.{record_at-below}
@@ -25,13 +22,7 @@ legal-linear histories (r ∷ past) linear = (legal-linear histories past linear
 
 -- a record that ends no wait is that of its operation
 pub own-call : (histories : Histories) (past : Past) (r : Record) (from : ComesFrom histories past r) → ends_wait r.entry.call ≡ false → IsCallOf r from.operation
-own-call histories past r from own = elim from.call [
-  | inl collects ↦ absurd (let bad : true ≡ false = subst (λ (c : Call). ends_wait c ≡ false) collects own in cc)
-  | inr other ↦ elim other [
-    | inl withdraws ↦ absurd (let bad : true ≡ false = subst (λ (c : Call). ends_wait c ≡ false) withdraws.call own in cc)
-    | inr is ↦ is
-  ]
-]
+own-call histories past r from own = grind arith
 
 -- the current operation of another process stays
 pub current-other : (histories : Histories) (past : Past) (r : Record) (i : ℕ) → (r.entry.process == i + 1) ≡ false → current_of histories (r ∷ past) i ≡ current_of histories past i
@@ -66,16 +57,7 @@ pub record IsWaiting (time : ℕ) (histories : Histories) (past : Past) (p w : �
   pub placed : IsCallAt time histories past index (completed past (index + 1)) w
 
 pub ending-waits-not : (past : Past) (r : Record) → IsLegalNext past r → is_wait r.entry.reply ≡ true → ends_wait r.entry.call ≡ false
-ending-waits-not past r legal waits = split (ends_wait r.entry.call)
-    (λ ends.
-    let quiet : is_wait r.entry.reply ≡ false = subst (λ (y : Reply). is_wait y ≡ false) (sym legal.reply) (end-waits-not past r.entry.process r.entry.call r.payload ends) in
-    let bad : true ≡ false = sym waits ∙ quiet in absurd (cc))
-    (λ own. own)
-  where
-    end-waits-not : (past : Past) (p : Process) (call : Call) (payload : List ℕ) → ends_wait call ≡ true → is_wait (reply_to past p call payload) ≡ false
-    end-waits-not past p Collect payload ends = refl
-    end-waits-not past p (Withdraw now) payload ends = refl
-    end-waits-not past p _ payload ends = cc
+ending-waits-not past r legal waits = grind arith
 
 pub waits-for : (time : ℕ) (histories : Histories) (past : Past) (linear : IsLinearization histories past) → AreBegun time histories past linear → (p w : ℕ) → open_wait past p ≡ Some w → IsWaiting time histories past p w
 waits-for time histories [] linear begun p w is = absurd (let bad : None ≡ Some w = is in cc)

@@ -1,7 +1,6 @@
 //! Which operations of a process are on the queue of a name.
 ghost use Rattle.std.specs.Prelude.{◌≡◌};
 ghost use Rattle.std.specs.List.{list_any};
-ghost use Rattle.mq_model.specs.Descriptors.{descriptor_of};
 ghost use Rattle.mq_model.specs.Names.{is_open, is_unlink};
 ghost use Rattle.histories.specs.Named.{has_any, has_unlinked, is_marked, marks_after, marks_opened, unbinds};
 

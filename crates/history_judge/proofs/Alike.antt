@@ -1,11 +1,11 @@
 -- Calls that show the same have operations that show the same.
-use Rattle.std.proofs.Common.{◌≡◌, ℕ, ◌==◌, max, Bool, true, false, List, [], ◌∷◌, Option, Some, None, map, refl, ap, sym, ◌∙◌, if◌then◌else◌}
+use Rattle.std.proofs.Common.{◌≡◌, ℕ, ◌==◌, max, Bool, List, [], ◌∷◌, Option, Some, None, map, refl, ap, sym, ◌∙◌, if◌then◌else◌, arith}
 use Rattle.mq_model.specs.declared.entries.Call.{Call}
 use Rattle.mq_model.specs.declared.entries.Reply.{Reply}
 use Rattle.mq_model.specs.declared.entries.Reply.TheVariants as reply
 use Rattle.histories.specs.declared.operation.Operation.{Operation}
 use Rattle.histories.specs.declared.operation.Outcome.{Outcome}
-use Rattle.histories.specs.declared.operation.Outcome.TheVariants.{Pending, Done, Opened, Got, Attributes, Notice, Refused}
+use Rattle.histories.specs.declared.operation.Outcome.TheVariants.{Done, Opened}
 use Rattle.history_judge.specs.Text.{message_of, written_reply}
 use Rattle.history_judge.specs.Seen.{AreSameCalls, AreSameOperations, Seen, SeenCall, seen, seen_call}
 use Rattle.history_judge.specs.Processes.{is_process, operations_of, process_count}
@@ -20,8 +20,7 @@ operations_seen process (c ∷ calls) =
     if c.process == process then c.operation ∷ operations_seen process calls else operations_seen process calls
 
 if-seen : (b : Bool) (o : Operation) (xs : List Operation) (ys : List Seen) → map seen xs ≡ ys → map seen (if b then o ∷ xs else xs) ≡ (if b then seen o ∷ ys else ys)
-if-seen true o xs ys e = ap (λ t. seen o ∷ t) e
-if-seen false o xs ys e = e
+if-seen b o xs ys e = grind arith
 
 operations_of-seen : (p : ℕ) (calls : List Called) → map seen (operations_of p calls) ≡ operations_seen p (map seen_call calls)
 operations_of-seen p [] = refl
@@ -48,23 +47,8 @@ own_reply numbers None = None
 own_reply numbers (Some (reply.Opened d created)) = Some (reply.Opened (lowest_free numbers) created)
 own_reply numbers (Some r) = Some r
 
-own_reply-is : (numbers : Numbers) (o : Outcome) → written_reply (own_outcome numbers o) ≡ own_reply numbers (written_reply o)
-own_reply-is numbers Pending = refl
-own_reply-is numbers Done = refl
-own_reply-is numbers (Opened d) = refl
-own_reply-is numbers (Got prio message) = refl
-own_reply-is numbers (Attributes status) = refl
-own_reply-is numbers (Notice value) = refl
-own_reply-is numbers (Refused fault) = refl
-
 own_message-is : (numbers : Numbers) (o : Outcome) → message_of (own_outcome numbers o) ≡ message_of o
-own_message-is numbers Pending = refl
-own_message-is numbers Done = refl
-own_message-is numbers (Opened d) = refl
-own_message-is numbers (Got prio message) = refl
-own_message-is numbers (Attributes status) = refl
-own_message-is numbers (Notice value) = refl
-own_message-is numbers (Refused fault) = refl
+own_message-is numbers o = grind arith
 
 abbrev after_reply : Numbers → Call → Option Reply → Numbers
 after_reply numbers call None = numbers
@@ -73,29 +57,13 @@ after_reply numbers call (Some reply.Done) = after_closed numbers call
 after_reply numbers call (Some r) = numbers
 
 after_reply-is : (numbers : Numbers) (call : Call) (o : Outcome) → numbers_after numbers call o ≡ after_reply numbers call (written_reply o)
-after_reply-is numbers call Pending = refl
-after_reply-is numbers call Done = refl
-after_reply-is numbers call (Opened d) = refl
-after_reply-is numbers call (Got prio message) = refl
-after_reply-is numbers call (Attributes status) = refl
-after_reply-is numbers call (Notice value) = refl
-after_reply-is numbers call (Refused fault) = refl
+after_reply-is numbers call o = grind arith
 
 abbrev own_seen : Numbers → Seen → Seen
 own_seen numbers s = record s { call = own_call numbers s.call; reply = own_reply numbers s.reply }
 
 own_seen-is : (numbers : Numbers) (o : Operation) → seen (own_operation numbers o) ≡ own_seen numbers (seen o)
-own_seen-is numbers o =
-    let f : Option Reply → List ℕ → Seen = λ r m. record {
-      call = own_call numbers o.call;
-      given = o.given.items;
-      begin = o.begin;
-      end = o.end;
-      reply = r;
-      message = m;
-    } in
-    ap (λ r. f r (message_of (own_outcome numbers o.outcome))) (own_reply-is numbers o.outcome)
-    ∙ ap (λ m. f (own_reply numbers (written_reply o.outcome)) m) (own_message-is numbers o.outcome)
+own_seen-is numbers o = grind (arith, own_message-is)
 
 abbrev renamed_seen : Numbers → List Seen → List Seen
 renamed_seen numbers [] = []

@@ -1,6 +1,5 @@
 -- The operations of the processes with one more call.
-use Rattle.std.proofs.Common.{◌≡◌, ◌≢◌, ℕ, ◌+◌, ◌<◌, ◌==◌, Bool, true, false, inl, inr, List, [], ◌∷◌, ◌++◌, length, Some, refl, ap, sym, ◌∙◌, subst, arith, set, slice_get, if◌then◌else◌, Vec, append-nil, eq-eqb}
-use Rattle.std.specs.declared.alloc.Global.{Global}
+use Rattle.std.proofs.Common.{◌≡◌, ◌≢◌, ℕ, ◌+◌, ◌<◌, ◌==◌, Bool, false, List, [], ◌∷◌, ◌++◌, length, Some, refl, ap, sym, ◌∙◌, subst, arith, set, slice_get, if◌then◌else◌, Vec, append-nil, eq-eqb, rules, Global}
 use Rattle.std.proofs.lemmas.Bool.{cases_eq, ne_eqb}
 use Rattle.std.proofs.lemmas.Option.{slice_get_within}
 use Rattle.histories.specs.declared.operation.Operation.{Operation}
@@ -11,52 +10,25 @@ use Rattle.history_judge.proofs.Lists.{each-more, get-behind, get-other, get-sam
 use Rattle.history_judge.specs.Descriptors.{no_numbers, renamed}
 
 more : (b : Bool) (o : Operation) (xs ys zs : List Operation) → ys ≡ xs ++ zs → (if b then o ∷ ys else ys) ≡ (if b then o ∷ xs else xs) ++ zs
-more true o xs ys zs e = ap (λ t. o ∷ t) e
-more false o xs ys zs e = e
+more b o xs ys zs e = grind arith
 
 operations-more : (p : ℕ) (calls : List Called) (c : Called) →
     operations_of p (calls ++ c ∷ []) ≡ operations_of p calls ++ (if c.process == p then c.operation ∷ [] else [])
 operations-more p [] c = refl
-operations-more p (d ∷ calls) c =
-    more (d.process == p) d.operation (operations_of p calls) (operations_of p (calls ++ c ∷ []))
-    (if c.process == p then c.operation ∷ [] else []) (operations-more p calls c)
-
-operations-own : (p : ℕ) (calls : List Called) (c : Called) → (c.process == p) ≡ true → operations_of p (calls ++ c ∷ []) ≡ operations_of p calls ++ c.operation ∷ []
-operations-own p calls c own =
-    operations-more p calls c ∙ ap (λ (b : Bool). operations_of p calls ++ (if b then c.operation ∷ [] else [])) own
+operations-more p (d ∷ calls) c = grind (arith, more, operations-more p calls c)
 
 operations-other : (p : ℕ) (calls : List Called) (c : Called) → (c.process == p) ≡ false → operations_of p (calls ++ c ∷ []) ≡ operations_of p calls
-operations-other p calls c other =
-    operations-more p calls c ∙ ap (λ (b : Bool). operations_of p calls ++ (if b then c.operation ∷ [] else [])) other
-    ∙ append-nil (operations_of p calls)
+operations-other p calls c other = grind (arith, operations-more, append-nil)
 
 -- a call of none of the processes
 pub by_process-stranger : (calls : List Called) (histories : Histories) (c : Called) → ((index : ℕ) → index < length histories → c.process ≢ index + 1) →
     AreByProcess calls histories → AreByProcess (calls ++ c ∷ []) histories
-by_process-stranger calls histories c stranger grouped index operations is =
-    let within : index < length histories = slice_get_within histories index operations is in
-    grouped index operations is ∙ sym (operations-other (index + 1) calls c (ne_eqb c.process (index + 1) (stranger index within)))
+by_process-stranger calls histories c stranger grouped index operations is = search (rules, slice_get_within, operations-other, ne_eqb)
 
 -- a call of one of them
 pub by_process-more : (calls : List Called) (histories : Histories) (c : Called) (at : ℕ) (old v : Vec Operation Global) → slice_get histories at ≡ Some old → c.process ≡ at + 1 →
     v.items ≡ old.items ++ c.operation ∷ [] → AreByProcess calls histories → AreByProcess (calls ++ c ∷ []) (set histories at v)
-by_process-more calls histories c at old v was own added grouped index operations is =
-    let within : at < length histories = slice_get_within histories at old was in elim (cases_eq index at) [
-      | inl same ↦
-          let here : slice_get (set histories at v) at ≡ Some operations = subst (λ k. slice_get (set histories at v) k ≡ Some operations) same is in
-          let both : Some v ≡ Some operations = sym (get-same histories at v within) ∙ here in
-          let e : v ≡ operations = cc in
-          let before : old.items ≡ operations_of (at + 1) calls = grouped at old was in
-          let test : (c.process == at + 1) ≡ true = eq-eqb c.process (at + 1) own in
-          let now : operations_of (at + 1) (calls ++ c ∷ []) ≡ operations_of (at + 1) calls ++ c.operation ∷ [] = operations-own (at + 1) calls c test in
-          let new : v.items ≡ operations_of (at + 1) (calls ++ c ∷ []) = added ∙ ap (λ t. t ++ c.operation ∷ []) before ∙ sym now in
-          subst (λ (w : Vec Operation Global). w.items ≡ operations_of (index + 1) (calls ++ c ∷ [])) e
-          (subst (λ k. v.items ≡ operations_of (k + 1) (calls ++ c ∷ [])) (sym same) new)
-      | inr apart ↦
-          let there : slice_get histories index ≡ Some operations = sym (get-other histories at index v apart) ∙ is in
-          let test : (c.process == index + 1) ≡ false = ne_eqb c.process (index + 1) (λ e. apart (omega (arith, e, own))) in
-          grouped index operations there ∙ sym (operations-other (index + 1) calls c test)
-    ]
+by_process-more calls histories c at old v was own added grouped index operations is = grind (arith, slice_get_within, cases_eq, get-same, eq-eqb, get-other, ne_eqb, operations-other, operations-more)
 
 -- the operations of the first processes by own numbers
 abbrev pub AreOwn : List Called → Histories → Type 0

@@ -1,5 +1,6 @@
 -- Words with a space between two.
-use Rattle.std.proofs.Common.{◌≡◌, ◌<◌, ◌++◌, ℕ, List, [], ◌∷◌, length, arith, refl, ap, codes, append_assoc, append-nil, sym, ◌∙◌, Some}
+use Rattle.std.proofs.lemmas.Grind.{common_steps}
+use Rattle.std.proofs.Common.{◌≡◌, ◌<◌, ◌++◌, ℕ, List, [], ◌∷◌, length, arith, refl, ap, codes, append-nil, sym, ◌∙◌, Some}
 use Rattle.std.specs.Fmt.{decimal}
 use Rattle.std.specs.List.{join_with_byte}
 use Rattle.text_io.specs.Words.{Word}
@@ -20,20 +21,14 @@ some-append [] ws some = absurd (omega arith)
 some-append (r ∷ rs) ws some = refl
 
 pub result-parts : (reply : Reply) (message : List ℕ) → spaced (result_words (Some reply) message) ≡ codes " " ++ (join_with_byte 32 (reply_words reply) ++ payload_text message)
-result-parts reply message =
-    some-append (reply_words reply) (payload_words message) (reply_some reply)
-    ∙ ap (λ t. 32 ∷ t) (reply-parts (reply_words reply) message (reply_some reply))
+result-parts reply message = grind (arith, some-append, reply_some, reply-parts)
 
 pub ruleset result_parts = (result-parts)
 
 parts : (process begin end : Word) (cs : List Word) (payload : List ℕ) (rs : List Word) → 0 < length cs →
     join_with_byte 32 (process ∷ begin ∷ end ∷ cs ++ (payload_words payload ++ codes "->" ∷ rs)) ++ 10 ∷ [] ≡
     process ++ (codes " " ++ (begin ++ (codes " " ++ (end ++ (codes " " ++ (join_with_byte 32 cs ++ (payload_text payload ++ (codes " ->" ++ (spaced rs ++ codes "\n")))))))))
-parts process begin end [] payload rs some = absurd (omega arith)
-parts process begin end (c ∷ cs) [] [] some = rw (join-more c cs (codes "->") []) (simp append_assoc)
-parts process begin end (c ∷ cs) [] (r ∷ rs) some = rw (join-more c cs (codes "->") (r ∷ rs)) (simp append_assoc)
-parts process begin end (c ∷ cs) (b ∷ bytes) [] some = rw (join-more c cs (34 ∷ escaped (b ∷ bytes) ++ 34 ∷ []) (codes "->" ∷ [])) (simp append_assoc)
-parts process begin end (c ∷ cs) (b ∷ bytes) (r ∷ rs) some = rw (join-more c cs (34 ∷ escaped (b ∷ bytes) ++ 34 ∷ []) (codes "->" ∷ r ∷ rs)) (simp append_assoc)
+parts process begin end cs payload rs some = grind (arith, common_steps, join-more)
 
 -- the line as the program puts it together
 pub line_text-parts : (c : Called) → line_text c ≡

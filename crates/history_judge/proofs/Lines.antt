@@ -1,6 +1,6 @@
 -- How a text is cut into the lines of calls: in one way only.
-use Rattle.std.proofs.Common.{◌≡◌, ◌≢◌, ◌⊎◌, inl, inr, ◌<◌, ◌+◌, ◌∙◌, ◌++◌, ℕ, true, false, List, [], ◌∷◌, length, map, arith, refl, ap, sym, subst, append_assoc, append-nil, Result, Ok, Err, IfOk, IsErrOf, MatchResult, Vec}
-use Rattle.std.specs.declared.alloc.Global.{Global}
+use Rattle.std.proofs.lemmas.Grind.{common_steps}
+use Rattle.std.proofs.Common.{◌≡◌, ◌≢◌, ◌⊎◌, inl, inr, ◌<◌, ◌+◌, ◌∙◌, ◌++◌, ℕ, true, false, List, [], ◌∷◌, length, map, arith, refl, ap, sym, subst, append_assoc, append-nil, Result, Ok, Err, IfOk, IsErrOf, MatchResult, Vec, Global}
 use Rattle.std.proofs.lemmas.List.{length-append}
 use Rattle.std.specs.List.{join_with_byte, list_all}
 use Rattle.script_text.specs.Script.{lines_of}
@@ -95,13 +95,10 @@ stops_none : (line : ℕ) (text : List ℕ) (a : List Called) → StopsAt line t
 stops_none line text a stops fits is = stopped stops.calls a stops.rest stops.fits fits stops.some stops.none (sym stops.whole ∙ is)
 
 pub found_of : (result : Result (Vec Called Global) JournalFault) (calls : Vec Called Global) (text rest : List ℕ) → text ≡ history_text calls.items ++ rest → IfOk result (λ read. (read ≡ calls) × (rest ≡ [])) → IfOk result (λ read. text ≡ history_text read.items)
-found_of (Err fault) calls text rest is whole = tt
-found_of (Ok read) calls text rest is whole =
-    is ∙ ap (λ t. history_text calls.items ++ t) whole.1 ∙ append-nil (history_text calls.items) ∙ ap (λ (cs : Vec Called Global). history_text cs.items) (sym whole.0)
+found_of result calls text rest is whole = grind (arith, append-nil)
 
 pub fits_of : (result : Result (Vec Called Global) JournalFault) (calls : Vec Called Global) (rest : List ℕ) → AllFit calls.items → IfOk result (λ read. (read ≡ calls) × (rest ≡ [])) → IfOk result (λ read. AllFit read.items)
-fits_of (Err fault) calls rest fits whole = tt
-fits_of (Ok read) calls rest fits whole = subst (λ (cs : Vec Called Global). AllFit cs.items) (sym whole.0) fits
+fits_of result calls rest fits whole = grind arith
 
 pub stops_from_start : (line : ℕ) (text : List ℕ) (start : List Called) → start ≡ [] → StopsAt line (history_text start ++ (text ++ [])) → StopsAt line text
 stops_from_start line text start none stops = subst (StopsAt line) (ap (λ (cs : List Called). history_text cs ++ (text ++ [])) none ∙ append-nil text) stops
@@ -109,23 +106,13 @@ stops_from_start line text start none stops = subst (StopsAt line) (ap (λ (cs :
 -- the same of an input in which no more is read
 pub found_at_end : (result : Result (Vec Called Global) JournalFault) (calls : Vec Called Global) (text rest : List ℕ) →
     (text ≡ history_text calls.items ++ rest) ⊎ EndsEarly rest (history_text calls.items ++ rest) text → IfOk result (λ read. (read ≡ calls) × (rest ≡ [])) → IfOk result (λ read. text ≡ history_text read.items)
-found_at_end result calls text rest (inl all) whole = found_of result calls text rest all whole
-found_at_end (Err fault) calls text rest (inr end) whole = tt
-found_at_end (Ok read) calls text rest (inr end) whole = absurd (early_some rest (history_text calls.items ++ rest) text end whole.1)
+found_at_end result calls text rest h whole = grind (arith, found_of, early_some)
 
 early_fault : (line : ℕ) (calls : List Called) (rest more : List ℕ) → AllFit calls → has_feed rest ≡ false → line ≡ length calls + 1 →
     (MOST_LINE < length rest) ⊎ (can_go_on rest ≡ false) → IsAtFault line (history_text calls ++ (rest ++ more))
 early_fault line calls rest more fits none number (inl long) =
     inr (record { calls = calls; rest = rest ++ more; fits = fits; whole = refl; line_is = number; long = too_long rest more long none })
-early_fault line calls rest more fits none number (inr bad) = inl (record {
-  calls = calls;
-  rest = rest ++ more;
-  fits = fits;
-  whole = refl;
-  line_is = number;
-  some = omega (arith, length-append rest more, early_length rest bad);
-  none = no_line rest more none bad;
-})
+early_fault line calls rest more fits none number (inr bad) = grind (arith, length-append, early_length, no_line)
 
 pub at_fault_at_end : (line : ℕ) (calls : List Called) (text rest : List ℕ) → AllFit calls → has_feed rest ≡ false → line ≡ length calls + 1 →
     (text ≡ history_text calls ++ rest) ⊎ EndsEarly rest (history_text calls ++ rest) text → StopsAt line (history_text calls ++ rest) → IsAtFault line text
@@ -154,24 +141,8 @@ none_in rest line others more some lines none c behind fits is =
 
 -- at the next line, whatever comes after it
 pub stops_in : (line : ℕ) (text rest first others more : List ℕ) (calls : List Called) → text ≡ history_text calls ++ rest → AllFit calls → line ≡ length calls + 1 → has_feed rest ≡ true → lines_of rest ≡ first ∷ lines_of others → IsNoLine first → StopsAt line (text ++ more)
-stops_in line text rest first others more calls so_far fits number some lines none = record {
-  calls = calls;
-  rest = rest ++ more;
-  fits = fits;
-  whole = ap (λ t. t ++ more) so_far ∙ append_assoc (history_text calls) rest more;
-  line_is = number;
-  some = feed_some rest more some;
-  none = none_in rest first others more some lines none;
-}
+stops_in line text rest first others more calls so_far fits number some lines none = grind (arith, common_steps, feed_some, none_in)
 
 -- with a line that lacks its line feed
 pub stops_short : (line : ℕ) (rest : List ℕ) (calls : List Called) → AllFit calls → line ≡ length calls + 1 → 0 < length rest → has_feed rest ≡ false → StopsAt line (history_text calls ++ rest)
-stops_short line rest calls fits number some short = record {
-  calls = calls;
-  rest = rest;
-  fits = fits;
-  whole = refl;
-  line_is = number;
-  some = some;
-  none = λ c behind c_fits is. let feed : has_feed rest ≡ true = ap has_feed is ∙ line_feed c behind in let no : false ≡ true = sym short ∙ feed in cc;
-}
+stops_short line rest calls fits number some short = grind (arith, line_feed)

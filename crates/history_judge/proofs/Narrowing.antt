@@ -1,20 +1,16 @@
 -- The prefixes that were found linearizable and not linearizable.
-use Rattle.std.proofs.Common.{◌≡◌, ◌≤◌, ℕ, ◌+◌, List, length, Option, arith, sym, subst, Vec}
+use Rattle.std.proofs.Common.{◌≡◌, ◌≤◌, ℕ, ◌+◌, List, length, Option, arith, sym, subst, Vec, Global}
 use Rattle.std.proofs.lemmas.Option.{slice_get_past}
 use Rattle.history_judge.specs.Fronts.{Return, front_or, front_part}
-use Rattle.history_judge.specs.Verdicts.{IsAnswer, IsExplainedBy, IsImpossible, IsPossible, UsesUp}
+use Rattle.history_judge.specs.Verdicts.{IsAnswer, IsImpossible, IsPossible, UsesUp}
 use Rattle.history_judge.specs.declared.line.Called.{Called}
 use Rattle.history_judge.specs.declared.judgement.Answer.{Answer}
 use Rattle.history_judge.specs.declared.judgement.Answer.TheVariants.{Possible, Impossible, OutOfBudget}
-use Rattle.std.specs.declared.alloc.Global.{Global}
 
 -- after a prefix that is linearizable
 pub possible-before : (budget : ℕ) (calls : List Called) (returns : List Return) (middle : ℕ) (a : Answer) (journal : Vec ℕ Global) → a ≡ Possible journal →
     IsAnswer budget (front_part calls returns middle) a → (before : ℕ) → before + 1 ≡ middle + 1 → IsPossible (front_part calls returns before)
-possible-before budget calls returns middle a journal is found before next =
-    let same : middle ≡ before = omega (arith, next) in
-    let by : IsExplainedBy (front_part calls returns middle) journal.items = subst (λ (x : Answer). IsAnswer budget (front_part calls returns middle) x) is found in
-    subst (λ n. IsPossible (front_part calls returns n)) same (by.past, by.explains)
+possible-before budget calls returns middle a journal is found before next = grind arith
 
 -- a prefix that is not
 pub impossible-part : (budget : ℕ) (calls : List Called) (returns : List Return) (middle bad : ℕ) (a : Answer) → a ≡ Impossible →

@@ -1,6 +1,5 @@
 -- Renumbering gives this library's numbers, and leaves them unchanged.
-use Rattle.std.proofs.Common.{◌≡◌, ◌≢◌, ◌⊎◌, inl, inr, ℕ, ◌<◌, ◌≤◌, ◌==◌, Bool, true, false, not, List, [], ◌∷◌, length, get_or, Option, Some, None, is_some, is_none, if◌then◌else◌, refl, sym, ◌∙◌, ap, subst, arith, eqb-true, eq-eqb, ne_eqb, nat_lt}
-use Rattle.std.specs.Prelude.{position, slice_set, unwrap_or}
+use Rattle.std.proofs.Common.{◌≡◌, ◌≢◌, ◌⊎◌, inl, inr, ℕ, ◌<◌, ◌≤◌, ◌==◌, Bool, true, false, not, List, [], ◌∷◌, length, get_or, Option, Some, None, is_some, is_none, if◌then◌else◌, refl, sym, ◌∙◌, ap, subst, arith, eqb-true, eq-eqb, ne_eqb, nat_lt, position, slice_set, unwrap_or}
 use Rattle.std.specs.List.{filter, position_or_len}
 use Rattle.std.specs.Option.{option_eq}
 use Rattle.std.proofs.lemmas.Bool.{eqb-false}
@@ -26,20 +25,13 @@ is_number d number = option_eq ◌==◌ number (Some d)
 
 -- the first place of 16 at which a test passes, or 16
 first-is : (p : Option ℕ → Bool) (numbers : Numbers) → length numbers ≡ 16 → unwrap_or (position p numbers) 16 ≡ position_or_len p numbers
-first-is p numbers count = split (nat_lt (position_or_len p numbers) (length numbers))
-    (λ t. rw t refl)
-    (λ f. let le : position_or_len p numbers ≤ length numbers = prefix_len-le-length (λ x. not (p x)) numbers in
-    let more : length numbers ≤ position_or_len p numbers = grind (arith, nat_tests) in
-    rw f (omega arith))
+first-is p numbers count = grind (arith, prefix_len-le-length)
 
 pub first-at : (p : Option ℕ → Bool) (numbers : Numbers) (i : ℕ) → length numbers ≡ 16 → i ≤ 16 → ((k : ℕ) → k < i → p (at numbers k) ≡ false) → (i < 16 → p (at numbers i) ≡ true) → unwrap_or (position p numbers) 16 ≡ i
-first-at p numbers i count le before here =
-    first-is p numbers count
-    ∙ position_or_len_is p numbers i None (omega arith) before (λ lt. here (omega arith))
+first-at p numbers i count le before here = grind (arith, first-is, position_or_len_is)
 
 other-number : (b : Bool) (k d : ℕ) → (k ≡ d → ⊥) → is_number d (if b then Some k else None) ≡ false
-other-number true k d ne = ne_eqb k d ne
-other-number false k d ne = refl
+other-number b k d ne = grind arith
 
 -- renumbering of numbers: this library's number i is at i if a number was there
 -- ----------------------
@@ -50,12 +42,10 @@ pub record AreOwned (numbers own : Numbers) : Type 0 where
   pub each : (i : ℕ) → i < 16 → at own i ≡ (if is_some (at numbers i) then Some i else None)
 
 none-owned : (o : Option ℕ) (k : ℕ) → is_none (if is_some o then Some k else None) ≡ is_none o
-none-owned None k = refl
-none-owned (Some d) k = refl
+none-owned o k = grind arith
 
 some-number : (d : ℕ) (o : Option ℕ) → is_number d o ≡ true → is_some o ≡ true
-some-number d None e = absurd (cc)
-some-number d (Some k) e = refl
+some-number d o e = grind arith
 
 module _ (numbers own : Numbers) (r : AreOwned numbers own) where
   number-again : (d : ℕ) → own_number own (own_number numbers d) ≡ own_number numbers d
@@ -152,11 +142,7 @@ none-at : (i : ℕ) → i < 16 → at no_numbers i ≡ None
 none-at i lt = get_or-replicate 16 i None None lt
 
 pub none-owned-yet : AreOwned no_numbers no_numbers
-none-owned-yet = record {
-  count = refl;
-  own_count = refl;
-  each = λ i lt. none-at i lt ∙ sym (ap (λ (x : Option ℕ). if is_some x then Some i else None) (none-at i lt));
-}
+none-owned-yet = grind (arith, none-at)
 
 -- numbers that are own already ---------------------------------------------------------------------------------------------
 
@@ -167,13 +153,7 @@ pub record Holds (held : List ℕ) (numbers : Numbers) : Type 0 where
 
 without-in : (d : ℕ) (held : List ℕ) (i : ℕ) → is_in (filter (λ k. not (k == d)) held) i ≡ (if i == d then false else is_in held i)
 without-in d [] i = split (i == d) (λ t. rw t refl) (λ f. rw f refl)
-without-in d (x ∷ held) i = split (x == d)
-    (λ t. let same : x ≡ d = eqb-true _ _ t in
-    rw t (without-in d held i ∙ split (i == d) (λ y. rw y refl) (λ n. let ne : i ≢ d = eqb-false _ _ n in rw (n, ne_eqb x i (λ e. ne (sym e ∙ same))) refl)))
-    (λ f. let ne : x ≢ d = eqb-false _ _ f in
-    rw f (split (x == i)
-    (λ y. let same : x ≡ i = eqb-true _ _ y in rw (y, ne_eqb i d (λ e. ne (same ∙ e))) refl)
-    (λ n. rw (n, without-in d held i) (split (i == d) (λ y. rw y refl) (λ z. rw z refl)))))
+without-in d (x ∷ held) i = grind (arith, eqb-true, eqb-false, without-in d held i)
 
 module _ (held : List ℕ) (numbers : Numbers) (h : Holds held numbers) where
   number-stays : (d : ℕ) → (is_in held d ≡ true) ⊎ (d ≡ 16) → own_number numbers d ≡ d

@@ -1,12 +1,9 @@
 -- Histories in which no call has returned.
-use Rattle.std.proofs.Common.{◌≡◌, ℕ, ◌+◌, ◌<◌, arith, ◌==◌, ◌&&◌, Bool, true, false, zero, suc, List, [], ◌∷◌, map, Option, Some, None, Vec, is_none, slice_get, if◌then◌else◌, refl, ap, ◌∙◌, length}
+use Rattle.std.proofs.Common.{◌≡◌, ℕ, ◌+◌, ◌<◌, arith, ◌==◌, Bool, true, false, zero, suc, List, [], ◌∷◌, map, Some, Vec, is_none, slice_get, if◌then◌else◌, refl, ap, ◌∙◌, length, Global}
 use Rattle.std.specs.List.{list_all}
-use Rattle.std.specs.Option.{option_and_then}
-use Rattle.std.specs.declared.alloc.Global.{Global}
 use Rattle.histories.specs.declared.operation.Operation.{Operation}
 use Rattle.histories.specs.declared.operation.Outcome.{Outcome}
-use Rattle.histories.specs.declared.operation.Outcome.TheVariants.{Pending, Done, Opened, Got, Attributes, Notice, Refused}
-use Rattle.histories.specs.Histories.{Histories, are_through, current, current_of, is_complete, is_pending, is_through}
+use Rattle.histories.specs.Histories.{Histories, are_through, is_complete, is_pending, is_through}
 use Rattle.history_judge.specs.Seen.{Seen, seen}
 use Rattle.history_judge.specs.Text.{written_reply}
 use Rattle.history_judge.specs.Processes.{operations_of}
@@ -17,71 +14,46 @@ use Rattle.std.proofs.lemmas.List.Sorted.{sum_by-IsPermutation}
 use Rattle.std.proofs.lemmas.List.Sums.{sum_by-cons}
 use Rattle.history_judge.specs.Verdicts.{AreHistoriesOf, are_pending}
 use Rattle.history_judge.specs.declared.line.Called.{Called}
-
-split : (a b : Bool) → (a && b) ≡ true → (a ≡ true) × (b ≡ true)
-split true b e = (refl, e)
-split false b e = absurd (cc)
-
-both : (a b : Bool) → a ≡ true → b ≡ true → (a && b) ≡ true
-both true b p q = q
-both false b p q = absurd (cc)
+use Rattle.std.proofs.lemmas.Bool.{and_parts, and_from}
 
 abbrev all : List Seen → Bool
 all xs = list_all (λ s. is_none s.reply) xs
 
 -- those of a process
 one-of : (own : Bool) (o : Operation) (operations : List Operation) → is_none (written_reply o.outcome) ≡ true → all (map seen operations) ≡ true → all (map seen (if own then o ∷ operations else operations)) ≡ true
-one-of true o operations is rest = both (is_none (written_reply o.outcome)) (all (map seen operations)) is rest
-one-of false o operations is rest = rest
+one-of own o operations is rest = grind (arith, and_from)
 
 of-process : (p : ℕ) (calls : List Called) → are_pending calls ≡ true → all (map seen (operations_of p calls)) ≡ true
 of-process p [] pending = refl
 of-process p (c ∷ calls) pending =
-    let parts = split (is_none (written_reply c.operation.outcome)) (are_pending calls) pending in
+    let parts = and_parts (is_none (written_reply c.operation.outcome)) (are_pending calls) pending in
     one-of (c.process == p) c.operation (operations_of p calls) parts.0 (of-process p calls parts.1)
 
 -- by own numbers
 own-pending : (numbers : Numbers) (outcome : Outcome) → is_none (written_reply (own_outcome numbers outcome)) ≡ is_none (written_reply outcome)
-own-pending numbers Pending = refl
-own-pending numbers Done = refl
-own-pending numbers (Opened d) = refl
-own-pending numbers (Got prio message) = refl
-own-pending numbers (Attributes status) = refl
-own-pending numbers (Notice value) = refl
-own-pending numbers (Refused fault) = refl
+own-pending numbers outcome = grind arith
 
 of-renamed : (numbers : Numbers) (operations : List Operation) → all (map seen operations) ≡ true → all (map seen (renamed numbers operations)) ≡ true
 of-renamed numbers [] pending = refl
 of-renamed numbers (o ∷ operations) pending =
-    let parts = split (is_none (written_reply o.outcome)) (all (map seen operations)) pending in
+    let parts = and_parts (is_none (written_reply o.outcome)) (all (map seen operations)) pending in
     let after = numbers_after numbers (own_call numbers o.call) o.outcome in
-    both (is_none (written_reply (own_outcome numbers o.outcome))) (all (map seen (renamed after operations)))
+    and_from (is_none (written_reply (own_outcome numbers o.outcome))) (all (map seen (renamed after operations)))
     (own-pending numbers o.outcome ∙ parts.0) (of-renamed after operations parts.1)
 
 -- none is left to be completed
 pending-of : (outcome : Outcome) → is_none (written_reply outcome) ≡ true → is_pending outcome ≡ true
-pending-of Pending e = refl
-pending-of Done e = absurd (cc)
-pending-of (Opened d) e = absurd (cc)
-pending-of (Got prio message) e = absurd (cc)
-pending-of (Attributes status) e = absurd (cc)
-pending-of (Notice value) e = absurd (cc)
-pending-of (Refused fault) e = absurd (cc)
+pending-of outcome e = grind arith
 
 through : (operations : List Operation) (k : ℕ) → all (map seen operations) ≡ true → is_through (slice_get operations k) ≡ true
 through [] k pending = refl
-through (o ∷ operations) zero pending = pending-of o.outcome (split (is_none (written_reply o.outcome)) (all (map seen operations)) pending).0
-through (o ∷ operations) (suc k) pending = through operations k (split (is_none (written_reply o.outcome)) (all (map seen operations)) pending).1
+through (o ∷ operations) zero pending = pending-of o.outcome (and_parts (is_none (written_reply o.outcome)) (all (map seen operations)) pending).0
+through (o ∷ operations) (suc k) pending = through operations k (and_parts (is_none (written_reply o.outcome)) (all (map seen operations)) pending).1
 
 through-at : (histories : Histories) → ((index : ℕ) (operations : Vec Operation Global) → slice_get histories index ≡ Some operations → all (map seen operations.items) ≡ true) →
     (n : ℕ) → are_through histories [] n ≡ true
 through-at histories each zero = refl
-through-at histories each (suc n) =
-    let goes : (o : Option (Vec Operation Global)) → slice_get histories n ≡ o → is_through (option_and_then (current [] n) o) ≡ true =
-    λ (o : Option (Vec Operation Global)). elim o as (λ o. slice_get histories n ≡ o → is_through (option_and_then (current [] n) o) ≡ true)
-    [ None ↦ (λ e. refl) | Some operations ↦ (λ e. through operations.items _ (each n operations e)) ]
-    in
-    both (are_through histories [] n) (is_through (current_of histories [] n)) (through-at histories each n) (goes (slice_get histories n) refl)
+through-at histories each (suc n) = grind (arith, through, and_from, through-at histories each n)
 
 -- if not everything is complete before the first record, a call has returned
 pub not-pending : (calls : List Called) (histories : Histories) → AreHistoriesOf calls histories → is_complete histories [] ≡ false → are_pending calls ≡ false
@@ -99,26 +71,12 @@ not-pending calls histories are not_complete =
     in
     goes (are_pending calls) refl
 
-return-or : (pending : Bool) (none : Bool) (one : Return) (returns others : List Return) (rest : Bool) → (none ≡ true → pending ≡ true) → (none && rest) ≡ false → (rest ≡ false → 0 < length returns) → (pending ≡ true → none ≡ true) →
-    0 < length (if pending then returns else one ∷ others)
-return-or true true one returns others rest same is more back = more is
-return-or true false one returns others rest same is more back = absurd (let e = back refl in let no : ⊥ = cc in no)
-return-or false none one returns others rest same is more back = omega arith
-
 none-of : (outcome : Outcome) → is_pending outcome ≡ true → is_none (written_reply outcome) ≡ true
-none-of Pending e = refl
-none-of Done e = absurd (cc)
-none-of (Opened d) e = absurd (cc)
-none-of (Got prio message) e = absurd (cc)
-none-of (Attributes status) e = absurd (cc)
-none-of (Notice value) e = absurd (cc)
-none-of (Refused fault) e = absurd (cc)
+none-of outcome e = grind arith
 
 return-from : (index : ℕ) (calls : List Called) → are_pending calls ≡ false → 0 < length (returns_from index calls)
 return-from index [] is = absurd (cc)
-return-from index (c ∷ calls) is =
-    return-or (is_pending c.operation.outcome) (is_none (written_reply c.operation.outcome)) (c.operation.end, index) (returns_from (index + 1) calls) (returns_from (index + 1) calls) (are_pending calls)
-    (pending-of c.operation.outcome) is (return-from (index + 1) calls) (none-of c.operation.outcome)
+return-from index (c ∷ calls) is = grind (arith, pending-of, none-of, return-from (index + 1) calls)
 
 count-length : (xs : List Return) → sum_by (λ x. 1) xs ≡ length xs
 count-length [] = refl

@@ -1,5 +1,5 @@
 -- Calls of processes from 1 to 32 alone.
-use Rattle.std.proofs.Common.{◌≡◌, ℕ, ◌+◌, Bool, true, false, ◌&&◌, List, [], ◌∷◌, Option, Some, None, refl, ap, sym, ◌∙◌, slice_get, if◌then◌else◌, nat_le}
+use Rattle.std.proofs.Common.{◌≡◌, ℕ, ◌+◌, Bool, true, List, [], ◌∷◌, Option, refl, ap, sym, ◌∙◌, slice_get, if◌then◌else◌, nat_le, arith}
 use Rattle.std.specs.List.{list_all}
 use Rattle.std.proofs.lemmas.List.Folds.{list_all-map}
 use Rattle.history_judge.specs.Fitting.{AllFit}
@@ -7,6 +7,7 @@ use Rattle.history_judge.specs.Fronts.{Return, front_from, front_or, front_part,
 use Rattle.history_judge.specs.Processes.{AreOfProcesses, is_process}
 use Rattle.history_judge.specs.Seen.{AreSameCalls, SeenCall, seen_call}
 use Rattle.history_judge.specs.declared.line.Called.{Called}
+use Rattle.std.proofs.lemmas.Bool.{and_parts, and_from}
 
 abbrev own : Called → Bool
 own c = is_process c.process
@@ -17,35 +18,24 @@ of-processes-alike xs ys same all =
     let seen : SeenCall → Bool = λ s. is_process s.process in
     sym (list_all-map seen seen_call xs) ∙ ap (list_all seen) same ∙ list_all-map seen seen_call ys ∙ all
 
-split : (a b : Bool) → (a && b) ≡ true → (a ≡ true) × (b ≡ true)
-split true b e = (refl, e)
-split false b e = absurd (cc)
-
-both : (a b : Bool) → a ≡ true → b ≡ true → (a && b) ≡ true
-both true b p q = q
-both false b p q = absurd (cc)
-
 -- calls that a history can have
 pub of-fitting : (calls : List Called) → AllFit calls → AreOfProcesses calls
 of-fitting [] fits = refl
-of-fitting (c ∷ calls) fits = both (own c) (list_all own calls) fits.0.process (of-fitting calls fits.1)
+of-fitting (c ∷ calls) fits = and_from (own c) (list_all own calls) fits.0.process (of-fitting calls fits.1)
 
 one-of : (returned began : Bool) (c : Called) (calls : List Called) → own c ≡ true → AreOfProcesses calls →
     AreOfProcesses (if returned then c ∷ calls else if began then under_way c ∷ calls else calls)
-one-of true began c calls is all = both (own c) (list_all own calls) is all
-one-of false true c calls is all = both (own c) (list_all own calls) is all
-one-of false false c calls is all = all
+one-of returned began c calls is all = grind (arith, and_from)
 
 front-of-processes : (last : Return) (index : ℕ) (calls : List Called) → AreOfProcesses calls → AreOfProcesses (front_from last index calls)
 front-of-processes last index [] all = refl
 front-of-processes last index (c ∷ calls) all =
-    let parts = split (own c) (list_all own calls) all in
+    let parts = and_parts (own c) (list_all own calls) all in
     one-of (had_returned last index c.operation) (nat_le c.operation.begin last.0) c (front_from last (index + 1) calls) parts.0
     (front-of-processes last (index + 1) calls parts.1)
 
 front-or-of-processes : (calls : List Called) (last : Option Return) → AreOfProcesses calls → AreOfProcesses (front_or calls last)
-front-or-of-processes calls None all = all
-front-or-of-processes calls (Some last) all = front-of-processes last 0 calls all
+front-or-of-processes calls last all = grind (arith, front-of-processes)
 
 -- of a prefix
 pub part-of-processes : (calls : List Called) (returns : List Return) (number : ℕ) → AreOfProcesses calls → AreOfProcesses (front_part calls returns number)

@@ -1,26 +1,21 @@
 -- An explanation of a history also explains each history that looks the same.
-use Rattle.std.proofs.Common.{◌≡◌, ℕ, ◌+◌, ◌<◌, zero, suc, Bool, true, false, not, ◌&&◌, List, [], ◌∷◌, length, IfSome, Option, Some, None, is_none, nat_lt, refl, ap, sym, ◌∙◌, subst, inl, inr, slice_get, get_or, Vec, ◌⊎◌}
+use Rattle.std.proofs.lemmas.Bool.Decides.{nat_tests}
+use Rattle.std.proofs.Common.{◌≡◌, ℕ, ◌+◌, ◌<◌, zero, suc, Bool, true, false, List, [], ◌∷◌, length, IfSome, Option, Some, None, is_none, nat_lt, refl, ap, sym, ◌∙◌, subst, slice_get, get_or, Vec, ◌⊎◌, arith, Global}
 use Rattle.std.specs.Option.{option_and_then, option_map}
-use Rattle.std.specs.declared.alloc.Global.{Global}
 use Rattle.std.proofs.lemmas.Option.{slice_get-map, slice_get_within, slice_get-get_or}
 use Rattle.mq_model.specs.Record.{Record, Past}
-use Rattle.mq_model.specs.Deadlines.{deadline_of}
-use Rattle.mq_model.specs.Legality.{payload_of}
 use Rattle.mq_model.specs.declared.entries.Call.TheVariants.{Collect}
 use Rattle.mq_model.specs.declared.entries.Reply.{Reply}
 use Rattle.mq_model.specs.declared.entries.Reply.TheVariants as reply
-use Rattle.histories.specs.OwnCalls.{ends_wait}
 use Rattle.histories.specs.declared.operation.Operation.{Operation}
-use Rattle.histories.specs.declared.operation.Outcome.{Outcome}
-use Rattle.histories.specs.declared.operation.Outcome.TheVariants.{Pending, Done, Opened, Got, Attributes, Notice, Refused}
+use Rattle.histories.specs.declared.operation.Outcome.TheVariants.{Done, Opened, Got, Notice, Refused}
 use Rattle.histories.specs.Outcomes.{brings, completes, fits, is_notice, opens, refuses, shows}
-use Rattle.histories.specs.Histories.{Histories, are_through, completed, current, current_of, ended_before, is_complete, is_pending, is_through, none_ended}
+use Rattle.histories.specs.Histories.{Histories, are_through, completed, current, current_of, is_complete, is_through, none_ended}
 use Rattle.histories.specs.Linearizations.{ComesFrom, IsCallOf, IsLinearization, IsWithdrawalOf}
 use Rattle.journal_format.specs.Text.{journal_text}
 use Rattle.histories.proofs.RealTime.{linearization-agrees}
 use Rattle.histories.specs.Contradiction.{IsContradiction}
 use Rattle.histories.specs.declared.contradiction.Contradiction.{Contradiction}
-use Rattle.history_judge.specs.Text.{message_of, written_reply}
 use Rattle.history_judge.specs.Seen.{AreSameCalls, AreSameOperations, Seen, seen}
 use Rattle.history_judge.specs.Verdicts.{AreHistoriesOf, Explains, HasContradiction, IsAnswer, IsExplainedBy, IsImpossible, UsesUp}
 use Rattle.history_judge.specs.declared.line.Called.{Called}
@@ -55,11 +50,7 @@ alike-of calls a b of_a of_b =
           option_map seen (option_and_then (current past index) v) ≡ option_map seen (option_and_then (current past index) w) =
           λ (v w : Option (Vec Operation Global)). elim v as (λ v. slice_get a index ≡ v → slice_get b index ≡ w →
           option_map seen (option_and_then (current past index) v) ≡ option_map seen (option_and_then (current past index) w)) [
-            | None ↦ elim w as (λ w. slice_get a index ≡ None → slice_get b index ≡ w →
-                None ≡ option_map seen (option_and_then (current past index) w)) [
-                  | None ↦ (λ e f. refl)
-                  | Some y ↦ (λ e f. absurd (no-process a b index y count e f))
-                ]
+            | None ↦ grind (arith, nat_tests, no-process)
             | Some x ↦ elim w as (λ w. slice_get a index ≡ Some x → slice_get b index ≡ w →
                 option_map seen (current past index x) ≡ option_map seen (option_and_then (current past index) w)) [
                   | None ↦ (λ e f. absurd (no-process b a index x (sym count) f e))
@@ -76,26 +67,12 @@ abbrev ended_seen : ℕ → Option Seen → Bool
 ended_seen moment None = false
 ended_seen moment (Some s) = nat_lt s.end moment
 
-ended-is : (moment : ℕ) (o : Option Operation) → ended_before moment o ≡ ended_seen moment (option_map seen o)
-ended-is moment None = refl
-ended-is moment (Some o) = refl
-
-pending-is : (o : Outcome) → is_pending o ≡ is_none (written_reply o)
-pending-is Pending = refl
-pending-is Done = refl
-pending-is (Opened d) = refl
-pending-is (Got prio message) = refl
-pending-is (Attributes status) = refl
-pending-is (Notice value) = refl
-pending-is (Refused fault) = refl
-
 abbrev through_seen : Option Seen → Bool
 through_seen None = true
 through_seen (Some s) = is_none s.reply
 
 through-is : (o : Option Operation) → is_through o ≡ through_seen (option_map seen o)
-through-is None = refl
-through-is (Some o) = pending-is o.outcome
+through-is o = grind arith
 
 abbrev fits_seen : Past → Reply → Option Reply → List ℕ → Bool
 fits_seen past r None message = true
@@ -107,53 +84,22 @@ fits_seen past r (Some (reply.Notice value)) message = is_notice r value
 fits_seen past r (Some (reply.Refused fault)) message = refuses r fault
 fits_seen past r (Some other) message = true
 
-fits-is : (past : Past) (r : Reply) (o : Outcome) → fits past r o ≡ fits_seen past r (written_reply o) (message_of o)
-fits-is past r Pending = refl
-fits-is past r Done = refl
-fits-is past r (Opened d) = refl
-fits-is past r (Got prio message) = refl
-fits-is past r (Attributes status) = refl
-fits-is past r (Notice value) = refl
-fits-is past r (Refused fault) = refl
-
 fits-alike : (past : Past) (r : Reply) (x y : Operation) → seen x ≡ seen y → fits past r x.outcome ≡ fits past r y.outcome
-fits-alike past r x y same =
-    fits-is past r x.outcome ∙ ap (λ (s : Seen). fits_seen past r s.reply s.message) same ∙ sym (fits-is past r y.outcome)
+fits-alike past r x y same = grind arith
 
 ended-alike : (a b : Histories) → AreAlike a b → (past : Past) (moment n : ℕ) → none_ended a past moment n ≡ none_ended b past moment n
 ended-alike a b alike past moment zero = refl
-ended-alike a b alike past moment (suc n) =
-    let here : ended_before moment (current_of a past n) ≡ ended_before moment (current_of b past n) =
-    ended-is moment (current_of a past n) ∙ ap (ended_seen moment) (alike.current past n) ∙ sym (ended-is moment (current_of b past n)) in
-    ap (λ (t : Bool). t && not (ended_before moment (current_of a past n))) (ended-alike a b alike past moment n)
-    ∙ ap (λ (t : Bool). none_ended b past moment n && not t) here
+ended-alike a b alike past moment (suc n) = grind (arith, ended-alike a b alike past moment n)
 
 through-alike : (a b : Histories) → AreAlike a b → (past : Past) (n : ℕ) → are_through a past n ≡ are_through b past n
 through-alike a b alike past zero = refl
-through-alike a b alike past (suc n) =
-    let here : is_through (current_of a past n) ≡ is_through (current_of b past n) =
-    through-is (current_of a past n) ∙ ap through_seen (alike.current past n) ∙ sym (through-is (current_of b past n)) in
-    ap (λ (t : Bool). t && is_through (current_of a past n)) (through-alike a b alike past n)
-    ∙ ap (λ (t : Bool). are_through b past n && t) here
-
-complete-alike : (a b : Histories) → AreAlike a b → (past : Past) → is_complete a past ≡ is_complete b past
-complete-alike a b alike past = through-alike a b alike past (length a) ∙ ap (λ n. are_through b past n) alike.count
+through-alike a b alike past (suc n) = grind (arith, through-is, through-alike a b alike past n)
 
 -- linearizations ----------------------------------------------------------------------------------------------------------
 
 call-alike : (r : Record) (x y : Operation) → seen x ≡ seen y → (r.entry.call ≡ Collect) ⊎ (IsWithdrawalOf r x ⊎ IsCallOf r x) →
     (r.entry.call ≡ Collect) ⊎ (IsWithdrawalOf r y ⊎ IsCallOf r y)
-call-alike r x y same (inl collect) = inl collect
-call-alike r x y same (inr (inl w)) =
-    let call : y.call ≡ x.call = ap (λ (s : Seen). s.call) (sym same) in
-    inr (inl (record { until = w.until; deadline = ap deadline_of call ∙ w.deadline; call = w.call }))
-call-alike r x y same (inr (inr of)) =
-    let call : x.call ≡ y.call = ap (λ (s : Seen). s.call) same in
-    inr (inr (record {
-      call = of.call ∙ call;
-      own = ap ends_wait (sym call) ∙ of.own;
-      payload = of.payload ∙ ap (λ (s : Seen). payload_of s.call r.entry.reply s.given) same;
-    }))
+call-alike r x y same h = grind arith
 
 some-alike : (x : Operation) (o : Option Operation) → Some (seen x) ≡ option_map seen o → (y : Operation) × (o ≡ Some y) × (seen x ≡ seen y)
 some-alike x None e = absurd (let no : ⊥ = cc in no)
@@ -188,12 +134,7 @@ linear-alike a b alike (r ∷ past) linear = (linear-alike a b alike past linear
 -- if the histories of these calls have no linearization, the calls are not linearizable
 pub is-impossible : (calls : List Called) (histories : Histories) → AreHistoriesOf calls histories →
     ((past : Past) → IsLinearization histories past → is_complete histories past ≡ false) → IsImpossible calls
-is-impossible calls histories are nothing past e =
-    let alike : AreAlike e.histories histories = alike-of calls e.histories histories e.are are in
-    let not_complete : is_complete histories past ≡ false = nothing past (linear-alike e.histories histories alike past e.linear) in
-    let complete : is_complete histories past ≡ true = sym (complete-alike e.histories histories alike past) ∙ e.complete in
-    let both : true ≡ false = sym complete ∙ not_complete in
-    let no : ⊥ = cc in no
+is-impossible calls histories are nothing past e = grind (arith, alike-of, linear-alike)
 
 -- if they have one, its text explains the calls
 pub explained : (calls : List Called) (histories : Histories) (past : Past) (text : List ℕ) → AreHistoriesOf calls histories →

@@ -1,6 +1,5 @@
 -- A line reads as the call that it was written from.
-use Rattle.std.proofs.Common.{◌≡◌, ◌<◌, ◌^◌, ◌-◌, ◌∙◌, ◌++◌, ℕ, true, false, Bool, List, [], ◌∷◌, arith, refl, ap, sym, codes, Option, Some, None, All, IfSome, unwrap_or, if◌then◌else◌}
-use Rattle.std.proofs.lemmas.Bool.{lt-ltb}
+use Rattle.std.proofs.Common.{◌≡◌, ◌<◌, ◌^◌, ◌-◌, ◌∙◌, ◌++◌, ℕ, true, false, Bool, List, [], ◌∷◌, arith, refl, ap, sym, codes, Option, Some, None, All, IfSome, unwrap_or, if◌then◌else◌, lt-ltb}
 use Rattle.std.proofs.lemmas.Bool.Decides.{nat_tests}
 use Rattle.std.specs.Fmt.{decimal}
 use Rattle.std.specs.List.{join_with_byte}
@@ -72,12 +71,7 @@ abbrev pub end_if : Bool → ℕ → Option ℕ
 end_if pending end = if pending then None else Some end
 
 pub end_fits : (pending : Bool) (end : ℕ) → end < 2 ^ 64 → IfSome (end_if pending end) (λ n. n < 2 ^ 64)
-end_fits true end fits = tt
-end_fits false end fits = fits
-
-end_again : (pending : Bool) (end : ℕ) → (pending ≡ true → end ≡ 2 ^ 64 - 1) → unwrap_or (end_if pending end) (2 ^ 64 - 1) ≡ end
-end_again true end last = sym (last refl)
-end_again false end last = refl
+end_fits pending end fits = grind arith
 
 -- ---- a line
 
@@ -111,43 +105,14 @@ parts_again c fits =
     refl
 
 pub called-words : (c : Called) → Fits c → AreWords (called_words c)
-called-words c fits =
-    let o = c.operation in
-    let result = result_words (written_reply o.outcome) (message_of o.outcome) in
-    let small : c.process < 2 ^ 64 = omega (arith, process_fits c.process fits.process) in
-    let end : IfSome (end_of o) (λ n. n < 2 ^ 64) = end_fits (is_pending o.outcome) o.end fits.end in
-    let behind : AreWords (payload_words o.given.items ++ codes "->" ∷ result) =
-    words-append (payload_words o.given.items) (codes "->" ∷ result) (payload-words o.given.items) (refl, result-words o.outcome fits.outcome) in (
-      word-decimal c.process small,
-      (
-        word-decimal o.begin fits.begin,
-        (
-          number_or-word (codes "-") (end_of o) refl end,
-          words-append (call_words o.call) (payload_words o.given.items ++ codes "->" ∷ result) (call-words o.call fits.call) behind,
-        ),
-      ),
-    )
+called-words c fits = grind (arith, process_fits, end_fits, AreWords, words-append, payload-words, result-words, word-decimal, number_or-word, call-words)
 
 line_again : (c : Called) → Fits c → parts_at (words_of (line_text c)) ≡ Some (parts_from c)
 unfolding line_text
 line_again c fits = rw (words_of-line (called_words c) (called-words c fits)) (parts_again c fits)
 
 called_again : (c : Called) → Fits c → called_of (parts_from c) (shown c.operation.outcome) ≡ seen_call c
-called_again c fits =
-    let o = c.operation in
-    let f : List ℕ → ℕ → SeenCall = λ given end. record {
-      process = c.process;
-      operation = record {
-        call = o.call;
-        given = given;
-        begin = o.begin;
-        end = end;
-        reply = written_reply o.outcome;
-        message = message_of o.outcome;
-      };
-    } in
-    ap (λ given. f given (unwrap_or (end_of o) (2 ^ 64 - 1))) (decoded o.given.items fits.given)
-    ∙ ap (λ end. f o.given.items end) (end_again (is_pending o.outcome) o.end fits.pending)
+called_again c fits = grind (arith, decoded)
 
 -- ---- what the reader finds
 
@@ -192,31 +157,11 @@ pub built_seen : (c : Called) (line : List ℕ) (words : List Word) (p : PartsSe
       process = p.process;
       operation = record { call = p.call; given = given; begin = p.begin; end = end; reply = s.0; message = s.1 };
     }) (seen_call c)
-built_seen c line words p s given end fits cut is read came given_is end_is =
-    let f : List ℕ → ℕ → SeenCall = λ g e. record {
-      process = p.process;
-      operation = record { call = p.call; given = g; begin = p.begin; end = e; reply = s.0; message = s.1 };
-    } in
-    ap (λ g. f g end) given_is ∙ ap (λ e. f (percent_decode p.quoted) e) end_is ∙ read_seen c line words p s fits cut is read came
-
-none-pending : (o : Outcome) → written_reply o ≡ None → is_pending o ≡ true
-none-pending Pending e = refl
-none-pending Done e = absurd (cc)
-none-pending (Opened d) e = absurd (cc)
-none-pending (Got prio message) e = absurd (cc)
-none-pending (Attributes status) e = absurd (cc)
-none-pending (Notice value) e = absurd (cc)
-none-pending (Refused fault) e = absurd (cc)
+built_seen c line words p s given end fits cut is read came given_is end_is = grind (arith, read_seen)
 
 end-is : (o d : Outcome) (ended written end : ℕ) → (is_pending d ≡ true → ended ≡ 2 ^ 64 - 1) → written_reply o ≡ written_reply d → written ≡ ended →
     (is_pending o ≡ true → end ≡ 2 ^ 64 - 1) → (is_pending o ≡ false → end ≡ written) → end ≡ written
-end-is Pending d ended written end last same is pending returned = pending refl ∙ sym (is ∙ last (none-pending d (sym same)))
-end-is Done d ended written end last same is pending returned = returned refl
-end-is (Opened n) d ended written end last same is pending returned = returned refl
-end-is (Got prio message) d ended written end last same is pending returned = returned refl
-end-is (Attributes status) d ended written end last same is pending returned = returned refl
-end-is (Notice value) d ended written end last same is pending returned = returned refl
-end-is (Refused fault) d ended written end last same is pending returned = returned refl
+end-is o d ended written end last same is pending returned = grind arith
 
 -- the same, if a call that had not returned ends at the greatest time
 pub ended_seen : (c : Called) (line : List ℕ) (words : List Word) (p : PartsSeen) (o : Outcome) (given : List ℕ) (end : ℕ) → Fits c →
@@ -239,13 +184,7 @@ end_by None end = None
 end_by (Some reply) end = Some end
 
 end_by-is : (end : ℕ) (o : Outcome) → end_if (is_pending o) end ≡ end_by (written_reply o) end
-end_by-is end Pending = refl
-end_by-is end Done = refl
-end_by-is end (Opened d) = refl
-end_by-is end (Got prio message) = refl
-end_by-is end (Attributes status) = refl
-end_by-is end (Notice value) = refl
-end_by-is end (Refused fault) = refl
+end_by-is end o = grind arith
 
 abbrev line_by : SeenCall → Option ℕ → List ℕ
 line_by c end =

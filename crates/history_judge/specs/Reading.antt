@@ -2,7 +2,7 @@
 -- line of that call differs.
 use Rattle.std.specs.Prelude.{◌≡◌, ◌≢◌, ℕ, ◌-◌, ◌^◌, false, nat_lt, List, [], ◌∷◌, drop, Option, None, Some, unwrap_or, codes, if◌then◌else◌}
 use Rattle.percent_encoding.specs.Percent.{percent_decode}
-use Rattle.text_io.specs.Words.{◌>>=◌, Word}
+use Rattle.text_io.specs.Words.{Word, ◌>>=◌}
 use Rattle.mq_model.specs.declared.entries.Call.{Call}
 use Rattle.mq_model.specs.declared.entries.Reply.{Reply}
 use Rattle.mq_model.specs.declared.entries.Reply.TheVariants as reply

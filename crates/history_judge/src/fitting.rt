@@ -1,5 +1,5 @@
 //! The numbers of a call fit their types. These functions do nothing at run time.
-ghost use Rattle.std.specs.Prelude.{◌≡◌, ◌<◌, ◌^◌, true, All};
+ghost use Rattle.std.specs.Prelude.{◌≡◌, ◌<◌, true, All};
 ghost use Rattle.history_judge.specs.Fitting.{EndsLast, Fits, OutcomeFits};
 ghost use Rattle.history_judge.specs.Processes.{is_process};
 

@@ -1,5 +1,5 @@
 //! Prefixes of a history: what was seen of it until a return.
-ghost use Rattle.std.specs.Prelude.{◌≡◌, ◌++◌, ◌∷◌, ◌+◌, [], nat_le, nat_lt, ◌==◌, ◌||◌, IfOk, OnOk, map};
+ghost use Rattle.std.specs.Prelude.{◌≡◌, ◌++◌, ◌∷◌, ◌+◌, [], ◌==◌, ◌||◌, IfOk, OnOk, map};
 ghost use Rattle.history_judge.specs.Text.{message_of, written_reply};
 ghost use Rattle.history_judge.specs.Seen.{AreSameCalls, seen_call};
 ghost use Rattle.history_judge.specs.Fronts.{AreReturnsOf, front_until, had_returned, under_way};

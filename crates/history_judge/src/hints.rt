@@ -1,5 +1,5 @@
 //! The hints: in which order the operations of a history are best tried.
-ghost use Rattle.std.specs.Prelude.{◌≡◌, ◌+◌, IfOk, OnOk, length, vec_len};
+ghost use Rattle.std.specs.Prelude.{◌≡◌, ◌+◌, IfOk, OnOk, length};
 
 use crate::by_queue::order_of;
 use crate::tasks::tasks_of;

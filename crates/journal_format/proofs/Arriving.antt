@@ -1,5 +1,6 @@
 -- A text that is read as it arrives.
-use Rattle.std.proofs.Common.{◌≡◌, ◌<◌, ◌≤◌, ◌+◌, ◌-◌, ◌⊎◌, ◌||◌, ◌==◌, ◌^◌, true, false, ◌∙◌, ◌++◌, ℕ, zero, suc, List, [], ◌∷◌, length, length-append, take, inl, inr, arith, refl, ap, sym, subst, Option, Some, None, Result, Ok, Err, IfOk, IsErrOf, MatchResult, append-nil, append_assoc}
+use Rattle.std.proofs.lemmas.Grind.{common_steps}
+use Rattle.std.proofs.Common.{◌≡◌, ◌<◌, ◌≤◌, ◌+◌, ◌-◌, ◌⊎◌, ◌||◌, ◌==◌, ◌^◌, true, false, ◌∙◌, ◌++◌, ℕ, zero, suc, List, [], ◌∷◌, length, length-append, take, inl, inr, arith, refl, ap, sym, subst, Option, Some, Result, Ok, Err, IfOk, IsErrOf, MatchResult, append-nil, append_assoc}
 use Rattle.std.specs.Io.KnownBytes.{Consumes, IsAtEnd}
 use Rattle.std.specs.List.{list_all}
 use Rattle.std.proofs.lemmas.Bool.Decides.{nat_tests}
@@ -25,11 +26,7 @@ record IsFront (xs all : List ℕ) (new : Option (List ℕ)) : Type 0 where
   is : new ≡ Some left
 
 front_of : (old new : Option (List ℕ)) (xs all : List ℕ) → old ≡ Some all → Consumes old new xs → IsFront xs all new
-front_of None new xs all known read = absurd (cc)
-front_of (Some a) None xs all known read = absurd read
-front_of (Some a) (Some b) xs all known read =
-    let same : a ≡ all = cc in
-    record { left = b; whole = sym same ∙ read; is = refl }
+front_of old new xs all known read = grind arith
 
 take-onto : (xs ys : List ℕ) (n k : ℕ) → length xs + k ≡ n → take n (xs ++ ys) ≡ xs ++ take k ys
 take-onto [] ys n k is = let same : n ≡ k = omega arith in ap (λ j. take j ys) same
@@ -40,18 +37,11 @@ take-onto (x ∷ xs) ys (suc n) k is = ap (λ t. x ∷ t) (take-onto xs ys n k (
 front_taken : (xs all : List ℕ) (new : Option (List ℕ)) (n k : ℕ) → (front : IsFront xs all new) → length xs + k ≡ n → take n all ≡ xs ++ take k front.left
 front_taken xs all new n k front count = ap (take n) front.whole ∙ take-onto xs front.left n k count
 
-take_none : (k : ℕ) → ◌≡◌ {A = List ℕ} (take k []) []
-take_none zero = refl
-take_none (suc k) = refl
-
 none_left : (left : List ℕ) (new : Option (List ℕ)) → new ≡ Some left → IsAtEnd new → left ≡ []
-none_left left None is at = absurd (cc)
-none_left left (Some b) is at = let same : b ≡ left = cc in sym same ∙ at
+none_left left new is = grind arith
 
 all_at_end : (xs all : List ℕ) (new : Option (List ℕ)) (n k : ℕ) → IsFront xs all new → length xs + k ≡ n → IsAtEnd new → take n all ≡ xs
-all_at_end xs all new n k front count at =
-    let none = none_left front.left new front.is at in
-    front_taken xs all new n k front count ∙ ap (λ t. xs ++ take k t) none ∙ ap (λ t. xs ++ t) (take_none k) ∙ append-nil xs
+all_at_end xs all new n k front count at = grind (arith, common_steps, none_left, front_taken, append-nil)
 
 all_taken : (xs all : List ℕ) (new : Option (List ℕ)) (n : ℕ) → IsFront xs all new → length xs + 0 ≡ n → take n all ≡ xs
 all_taken xs all new n front count = front_taken xs all new n 0 front count ∙ append-nil xs
@@ -85,22 +75,17 @@ ended start now all front rest left read known (inr (inr why)) =
 
 -- then something is left
 pub early_some : (rest bytes text : List ℕ) → EndsEarly rest bytes text → rest ≡ [] → ⊥
-early_some rest bytes text end none = elim end.why [
-  | inl long ↦ omega (arith, long, ap length none)
-  | inr bad ↦ let both : false ≡ true = sym bad ∙ ap can_go_on none in cc
-]
+early_some rest bytes text end none = grind arith
 
 pub early_length : (rest : List ℕ) → can_go_on rest ≡ false → 0 < length rest
-early_length [] bad = absurd (cc)
-early_length (b ∷ rest) bad = omega arith
+early_length rest bad = grind (arith, common_steps)
 
 take-feedless : (n : ℕ) (bytes : List ℕ) → has_feed bytes ≡ false → has_feed (take n bytes) ≡ false
-take-feedless zero bytes none = refl
-take-feedless (suc n) [] none = refl
 take-feedless (suc n) (b ∷ bytes) none =
     let rest : has_feed bytes ≡ false = grind (arith, nat_tests) in
     let later = take-feedless n bytes rest in
     grind (arith, nat_tests)
+take-feedless _ _ none = refl
 
 pub too_long : (rest more : List ℕ) → MOST_LINE < length rest → has_feed rest ≡ false → IsTooLong (rest ++ more)
 too_long rest more long none =
@@ -130,31 +115,18 @@ reads_up_to line old now front rest left read new few plain = record {
 -- ---- the result of reading a text
 
 pub found_of : (result : Result Journal JournalFault) (journal : Journal) (text rest : List ℕ) → AllFit journal.records → text ≡ journal_text journal.records ++ rest → IfOk result (λ read. (read ≡ journal) × (rest ≡ [])) → IfOk result (λ read. AllFit read.records × (text ≡ journal_text read.records))
-found_of (Err fault) journal text rest fits is whole = tt
-found_of (Ok read) journal text rest fits is whole =
-    let text_is : text ≡ journal_text journal.records = is ∙ ap (λ t. journal_text journal.records ++ t) whole.1 ∙ append-nil (journal_text journal.records) in
-    (subst (λ (j : Journal). AllFit j.records) (sym whole.0) fits, text_is ∙ ap (λ (j : Journal). journal_text j.records) (sym whole.0))
+found_of result journal text rest fits is whole = grind (arith, append-nil)
 
 -- the same of an input in which no more is read
 pub found_at_end : (result : Result Journal JournalFault) (journal : Journal) (text rest bytes : List ℕ) → AllFit journal.records → bytes ≡ journal_text journal.records ++ rest →
     (text ≡ bytes) ⊎ EndsEarly rest bytes text → IfOk result (λ read. (read ≡ journal) × (rest ≡ [])) → IfOk result (λ read. AllFit read.records × (text ≡ journal_text read.records))
-found_at_end result journal text rest bytes fits is (inl all) whole = found_of result journal text rest fits (all ∙ is) whole
-found_at_end (Err fault) journal text rest bytes fits is (inr end) whole = tt
-found_at_end (Ok read) journal text rest bytes fits is (inr end) whole = absurd (early_some rest bytes text end whole.1)
+found_at_end result journal text rest bytes fits is h whole = grind (arith, found_of, early_some)
 
 early_fault : (line : ℕ) (past : Past) (rest more : List ℕ) → AllFit past → length past < 2 ^ 64 → has_feed rest ≡ false → line ≡ length past + 1 →
     (MOST_LINE < length rest) ⊎ (can_go_on rest ≡ false) → IsAtFault line (journal_text past ++ (rest ++ more))
 early_fault line past rest more fits small none number (inl long) =
     inr (record { past = past; rest = rest ++ more; fits = fits; whole = refl; line_is = number; long = too_long rest more long none })
-early_fault line past rest more fits small none number (inr bad) = inl (record {
-  past = past;
-  rest = rest ++ more;
-  fits = fits;
-  whole = refl;
-  line_is = number;
-  some = omega (arith, length-append rest more, early_length rest bad);
-  none = no_line (length past) rest more small none bad;
-})
+early_fault line past rest more fits small none number (inr bad) = grind (arith, length-append, early_length, no_line)
 
 pub at_fault_at_end : (line : ℕ) (past : Past) (text rest bytes : List ℕ) → AllFit past → length past < 2 ^ 64 → has_feed rest ≡ false → bytes ≡ journal_text past ++ rest → line ≡ length past + 1 →
     (text ≡ bytes) ⊎ EndsEarly rest bytes text → StopsAt line bytes → IsAtFault line text
@@ -164,9 +136,7 @@ at_fault_at_end line past text rest bytes fits small none is number (inr end) st
     subst (IsAtFault line) (sym whole) (early_fault line past rest end.more fits small none number end.why)
 
 pub err_only : (fault : JournalFault) → ((line : ℕ) → fault ≡ BadLine line → ⊥) → (fault ≡ Input → ⊥) → fault ≡ NoMemory
-err_only (BadLine line) no_line no_input = absurd (no_line line refl)
-err_only Input no_line no_input = absurd (no_input refl)
-err_only NoMemory no_line no_input = refl
+err_only fault no_line no_input = grind (arith, no_line)
 
 -- if this is the text of a journal, that journal is read, or memory is refused
 pub only_from : (result : Result Journal JournalFault) (text : List ℕ) (past : Past) → AllFit past → text ≡ journal_text past → IfOk result (λ read. AllFit read.records × (text ≡ journal_text read.records)) → IfOk result (λ read. length read.records < 2 ^ 63) → ((line : ℕ) → IsErrOf result (BadLine line) → StopsAt line text) → ((line : ℕ) → IsErrOf result (BadLine line) → line ≤ 2 ^ 63) → (IsErrOf result Input → ⊥) → MatchResult result (λ journal. journal.records ≡ past) (λ fault. fault ≡ NoMemory)

@@ -1,27 +1,19 @@
 -- Numbers that were written are read again.
-use Rattle.std.proofs.Common.{◌≡◌, ◌<◌, ◌^◌, ◌∙◌, ℕ, ℤ, pos, negsuc, true, false, get_or, arith, refl, ap, leb, suc, Some}
+use Rattle.std.proofs.Common.{◌≡◌, ◌<◌, ◌^◌, ℕ, ℤ, pos, negsuc, true, false, arith, refl, leb, suc, Some}
 use Rattle.std.proofs.lemmas.Fmt.{decimal_is_IsNumeral}
 use Rattle.std.proofs.lemmas.Str.Parse.{digit_at}
 use Rattle.std.proofs.lemmas.Bool.Decides.{nat_tests}
 use Rattle.std.specs.Fmt.{decimal, signed_decimal}
-use Rattle.std.specs.Int.{IsInRange}
-use Rattle.std.specs.Str.Parse.{digits_value, starts_with_minus}
+use Rattle.std.specs.Str.Parse.{starts_with_minus}
 use Rattle.text_io.specs.Words.{number_written, integer_written}
 use Rattle.text_io.proofs.Numbers.{written_some}
 use Rattle.journal_format.specs.Fitting.{IsLong}
 
 pub number_again : (k n : ℕ) → n < 2 ^ k → n < 2 ^ 64 → number_written k (decimal n) ≡ Some n
-number_again k n fits small =
-    let is = decimal_is_IsNumeral n small in
-    let value : digits_value 10 (decimal n) ≡ n = is.1 in
-    let low : digits_value 10 (decimal n) < 2 ^ k = omega (arith, value, fits) in
-    written_some k (decimal n) (is.0, low) ∙ ap Some value
+number_again k n fits small = grind (arith, decimal_is_IsNumeral, written_some)
 
 no_minus : (n : ℕ) → n < 2 ^ 64 → starts_with_minus (decimal n) ≡ false
-no_minus n small =
-    let is = decimal_is_IsNumeral n small in
-    let digit : IsInRange 48 57 (get_or (decimal n) 0 0) = digit_at (decimal n) 0 is.0.1 is.0.0 in
-    grind (arith, nat_tests)
+no_minus n small = grind (arith, decimal_is_IsNumeral, digit_at)
 
 pub integer_again : (z : ℤ) → IsLong z → integer_written (signed_decimal z) ≡ Some z
 integer_again (pos n) fits =

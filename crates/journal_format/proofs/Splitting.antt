@@ -1,5 +1,6 @@
 -- How a text is cut into the lines of records: in one way only.
-use Rattle.std.proofs.Common.{◌≡◌, ◌≢◌, ◌<◌, ◌+◌, ◌^◌, ◌∙◌, ◌++◌, ℕ, suc, cond, count_by, Bool, true, false, not, ◌==◌, ◌||◌, List, [], ◌∷◌, length, arith, refl, ap, sym, Option, Some, None, append_assoc, append-nil, inl, inr}
+use Rattle.std.proofs.lemmas.Grind.{common_steps}
+use Rattle.std.proofs.Common.{◌≡◌, ◌≢◌, ◌<◌, ◌+◌, ◌^◌, ◌∙◌, ◌++◌, ℕ, suc, cond, count_by, Bool, true, false, not, ◌==◌, List, [], ◌∷◌, length, arith, refl, ap, sym, Some, None, append_assoc, append-nil, inl, inr}
 use Rattle.std.proofs.lemmas.Bool.{and_from, cases_Bool}
 use Rattle.std.proofs.lemmas.Bool.Decides.{nat_tests}
 use Rattle.std.proofs.lemmas.List.{length-append}
@@ -9,7 +10,7 @@ use Rattle.std.specs.List.{list_all, join_with_byte, concat}
 use Rattle.text_io.specs.Words.{Word, words_of}
 use Rattle.mq_model.specs.Record.{Record, Past}
 use Rattle.mq_model.specs.declared.entries.Entry.{Entry}
-use Rattle.script_text.specs.Script.{lines_of, onto_first_line}
+use Rattle.script_text.specs.Script.{lines_of}
 use Rattle.journal_format.specs.Fitting.{AllFit, Fits}
 use Rattle.journal_format.specs.JournalFault.{IsNoLine, StopsAt}
 use Rattle.journal_format.specs.Text.{can_go_on, escaped, has_feed, is_line_byte, is_text_byte, journal_text, line_text, record_words}
@@ -35,10 +36,6 @@ feedless (b ∷ bytes) none =
 
 feedless_word : (w : Word) → IsWord w → HasNoFeed w
 feedless_word w word = feedless w (grind (arith, nat_tests))
-
-or_true : (b : Bool) → (b || true) ≡ true
-or_true true = refl
-or_true false = refl
 
 feedless-append : (xs ys : List ℕ) → HasNoFeed xs → HasNoFeed ys → HasNoFeed (xs ++ ys)
 feedless-append [] ys first second = second
@@ -71,9 +68,7 @@ all-append p (x ∷ xs) ys first second =
 pub line-join : (ws : List Word) → AreWords ws → can_go_on (join_with_byte 32 ws) ≡ true
 line-join [] words = refl
 line-join (w ∷ []) words = plain-line w (grind (arith, nat_tests))
-line-join (w ∷ v ∷ ws) words =
-    let here : list_all is_plain w ≡ true = grind (arith, nat_tests) in
-    all-append is_line_byte w (32 ∷ join_with_byte 32 (v ∷ ws)) (plain-line w here) (line-join (v ∷ ws) words.1)
+line-join (w ∷ v ∷ ws) words = grind (arith, is_plain, all-append, plain-line, line-join (v ∷ ws) words.1)
 
 pub text-line : (bytes : List ℕ) → can_go_on bytes ≡ true → list_all is_text_byte bytes ≡ true
 text-line [] all = refl
@@ -98,10 +93,7 @@ line-start (b ∷ rest) more (d ∷ u) behind none all same =
 pub left_short : (xs ys last rest : List ℕ) → xs ++ last ≡ ys ++ rest → has_feed last ≡ true → has_feed rest ≡ false → length rest < length last
 left_short [] [] last rest same some none = let both : false ≡ true = sym none ∙ ap has_feed (sym same) ∙ some in absurd (cc)
 left_short [] (y ∷ ys) last rest same some none = omega (arith, ap length same, length-append ys rest)
-left_short (x ∷ xs) [] last rest same some none =
-    let feed : has_feed (xs ++ last) ≡ true = list_any-append (λ b. b == 10) xs last ∙ ap (λ t. has_feed xs || t) some ∙ or_true (has_feed xs) in
-    let whole : has_feed (x ∷ xs ++ last) ≡ true = grind (arith, nat_tests) in
-    let both : false ≡ true = sym none ∙ ap has_feed (sym same) ∙ whole in absurd (cc)
+left_short (x ∷ xs) [] last rest same some none = grind (arith, list_any-append)
 left_short (x ∷ xs) (y ∷ ys) last rest same some none = let later : xs ++ last ≡ ys ++ rest = cc in left_short xs ys last rest later some none
 
 -- if two texts begin with a start without a line feed, and then a line feed, the starts are equal
@@ -146,16 +138,9 @@ feeds-unseen (b ∷ bytes) none =
 
 -- ---- lines
 
-concat-onto : (b : ℕ) (lines : List (List ℕ)) → concat (onto_first_line b lines) ≡ b ∷ concat lines
-concat-onto b [] = refl
-concat-onto b (line ∷ lines) = refl
-
 concat-lines : (text : List ℕ) → concat (lines_of text) ≡ text
 concat-lines [] = refl
-concat-lines (b ∷ text) = elim (cases_Bool (b == 10)) [
-  | inl feed ↦ rw (feed, concat-lines text) refl
-  | inr other ↦ rw (other, concat-onto b (lines_of text), concat-lines text) refl
-]
+concat-lines (b ∷ text) = grind (arith, cases_Bool, concat-lines text)
 
 -- a text is its first line, and what is after it
 pub first-whole : (text line others : List ℕ) → lines_of text ≡ line ∷ lines_of others → text ≡ line ++ others
@@ -201,20 +186,12 @@ feeds-journal (r ∷ past) fits small =
     let one : feeds (line ++ 10 ∷ []) ≡ 1 = feeds-one line (front-feedless (length past) r low fits.0) in
     omega (arith, feeds-append (journal_text past) (line ++ 10 ∷ []), one, feeds-journal past fits.1 low)
 
-pair_parts : (e f : Entry) (v w : Word) → ◌≡◌ {A = Option (Entry × Word)} (Some (e, v)) (Some (f, w)) → (e ≡ f) × (v ≡ w)
-pair_parts e f v w same =
-    let pairs : ◌≡◌ {A = Entry × Word} (e, v) (f, w) = cc in
-    (ap (λ (p : Entry × Word). p.0) pairs, ap (λ (p : Entry × Word). p.1) pairs)
-
 record_is : (r s : Record) → r.entry ≡ s.entry → r.payload ≡ s.payload → r ≡ s
 record_is r s entry payload = λ i. record { entry = entry i; payload = payload i }
 
 -- a line reads as one record
 pub read_is : (place : ℕ) (r : Record) (e : Entry) (quoted : Word) → place < 2 ^ 64 → Fits r → entry_at (words_of (line_text place r)) ≡ Some (e, quoted) → ◌≡◌ {A = Record} (record { entry = e; payload = percent_decode quoted }) r
-read_is place r e quoted small fits read =
-    let both : ◌≡◌ {A = Option (Entry × Word)} (Some (r.entry, escaped r.payload)) (Some (e, quoted)) = sym (line_again place r small fits) ∙ read in
-    let parts = pair_parts r.entry e (escaped r.payload) quoted both in
-    record_is (record { entry = e; payload = percent_decode quoted }) r (sym parts.0) (ap percent_decode (sym parts.1) ∙ payload_again r fits)
+read_is place r e quoted small fits read = grind (arith, line_again, record_is, payload_again)
 
 one_record : (place : ℕ) (r s : Record) → place < 2 ^ 64 → Fits r → Fits s → line_text place r ≡ line_text place s → r ≡ s
 one_record place r s small r_fits s_fits same =
@@ -224,15 +201,11 @@ one_record place r s small r_fits s_fits same =
 
 -- words that read as no record are no record's
 pub reads_none : (place : ℕ) (r : Record) (line : List ℕ) (words : List Word) → place < 2 ^ 64 → Fits r → entry_at words ≡ None → words ≡ words_of line → line ≡ line_text place r → ⊥
-reads_none place r line words small fits none cut is =
-    let some : entry_at words ≡ Some (r.entry, escaped r.payload) = ap entry_at cut ∙ ap (λ t. entry_at (words_of t)) is ∙ line_again place r small fits in
-    cc
+reads_none place r line words small fits none cut is = grind (arith, line_again)
 
 -- words that read as a record whose line is another are no record's
 pub reads_other : (place : ℕ) (r : Record) (line : List ℕ) (words : List Word) (e : Entry) (quoted payload : List ℕ) → place < 2 ^ 64 → Fits r → entry_at words ≡ Some (e, quoted) → words ≡ words_of line → payload ≡ percent_decode quoted → line ≡ line_text place r → line ≡ line_text place (record { entry = e; payload = payload })
-reads_other place r line words e quoted payload small fits read cut decoded is =
-    let back : entry_at (words_of (line_text place r)) ≡ Some (e, quoted) = ap (λ t. entry_at (words_of t)) (sym is) ∙ ap entry_at (sym cut) ∙ read in
-    is ∙ ap (line_text place) (sym (read_is place r e quoted small fits back)) ∙ ap (λ p. line_text place (record { entry = e; payload = p })) (sym decoded)
+reads_other place r line words e quoted payload small fits read cut decoded is = grind (arith, read_is)
 
 one_line : (place : ℕ) (r s : Record) (x y : List ℕ) → place < 2 ^ 64 → Fits r → Fits s → line_text place r ++ x ≡ line_text place s ++ y → (r ≡ s) × (x ≡ y)
 unfolding line_text
@@ -269,9 +242,7 @@ length-onto past (s ∷ later) = omega (arith, length-onto (s ∷ past) later)
 
 lines_text-last : (place : ℕ) (later : List Record) (r : Record) → lines_text place (later ++ r ∷ []) ≡ lines_text place later ++ line_text (place + length later) r
 lines_text-last place [] r = let e : place + 0 ≡ place = omega arith in rw (append-nil, e) refl
-lines_text-last place (s ∷ later) r =
-    let e : suc place + length later ≡ place + suc (length later) = omega arith in
-    rw (lines_text-last (suc place) later r, e) (sym (append_assoc (line_text place s) (lines_text (suc place) later) (line_text (place + suc (length later)) r)))
+lines_text-last place (s ∷ later) r = grind (arith, common_steps, lines_text-last (suc place) later r)
 
 allfit-last : (later : List Record) (r : Record) → AllFit later → Fits r → AllFit (later ++ r ∷ [])
 allfit-last [] r all fits = (fits, tt)
@@ -298,15 +269,11 @@ from_start (r ∷ a) fits =
 
 next : (a : Past) (r : Record) (b : Past) (rest : List ℕ) (later : List Record) → length b < 2 ^ 64 → Fits r → AllFit later → a ≡ onto b later → line_text (length b) r ++ rest ≡ lines_text (length b) later → GoesOn a (r ∷ b) rest
 next a r b rest [] small fits all is text = let some = line-some (length b) r rest in absurd (omega (arith, ap length text, some))
-next a r b rest (s ∷ later) small fits all is text =
-    let same = one_line (length b) r s rest (lines_text (suc (length b)) later) small fits all.0 text in
-    record { later = later; fits = all.1; is = is ∙ ap (λ t. onto (t ∷ b) later) (sym same.0); text = same.1 }
+next a r b rest (s ∷ later) small fits all is text = grind (arith, one_line)
 
 -- a journal whose text begins with that of another extends it
 pub goes_on : (a b : Past) (rest : List ℕ) → AllFit a → AllFit b → length b < 2 ^ 64 → journal_text a ≡ journal_text b ++ rest → GoesOn a b rest
-goes_on a [] rest a_fits b_fits small text =
-    let start = from_start a a_fits in
-    record { later = start.later; fits = start.fits; is = start.is; text = sym text ∙ start.text }
+goes_on a [] rest a_fits b_fits small text = grind (arith, from_start)
 goes_on a (r ∷ b) rest a_fits b_fits small text =
     let low : length b < 2 ^ 64 = omega arith in
     let before = goes_on a b (line_text (length b) r ++ rest) a_fits b_fits.1 low (text ∙ append_assoc (journal_text b) (line_text (length b) r) rest) in
@@ -337,11 +304,7 @@ stops_none line text a stops small fits is =
 
 -- a text that was read up to a line, read up to the next one
 pub next_line : (text rest line others : List ℕ) (past new : Past) (place : ℕ) (r : Record) → text ≡ journal_text past ++ rest → lines_of rest ≡ line ∷ lines_of others → line ≡ line_text place r → place ≡ length past → new ≡ r ∷ past → text ≡ journal_text new ++ others
-next_line text rest line others past new place r so_far lines is count pushed =
-    so_far ∙ ap (λ t. journal_text past ++ t) (first-whole rest line others lines)
-    ∙ ap (λ t. journal_text past ++ (t ++ others)) (is ∙ ap (λ n. line_text n r) count)
-    ∙ sym (append_assoc (journal_text past) (line_text (length past) r) others)
-    ∙ ap (λ t. journal_text t ++ others) (sym pushed)
+next_line text rest line others past new place r so_far lines is count pushed = grind (arith, common_steps, first-whole)
 
 pub allfit_next : (past new : Past) (r : Record) → AllFit past → Fits r → new ≡ r ∷ past → AllFit new
 allfit_next past new r all fits pushed = rw pushed (fits, all)
@@ -367,8 +330,7 @@ cut_at (b ∷ bytes) some = elim (cases_Bool (b == 10)) [
 ]
 
 pub feed_some : (bytes more : List ℕ) → has_feed bytes ≡ true → 0 < length (bytes ++ more)
-feed_some [] more some = absurd (cc)
-feed_some (b ∷ bytes) more some = omega arith
+feed_some bytes more some = grind (arith, common_steps)
 
 pub feed_behind : (front behind : List ℕ) → has_feed (front ++ 10 ∷ behind) ≡ true
 feed_behind [] behind = refl
@@ -386,10 +348,7 @@ first_in rest line others more u behind some lines none is =
     let cut = cut_at rest some in
     let left : rest ++ more ≡ cut.front ++ 10 ∷ (cut.behind ++ more) = ap (λ t. t ++ more) cut.is ∙ append_assoc cut.front (10 ∷ cut.behind) more in
     let right : (u ++ 10 ∷ []) ++ behind ≡ u ++ 10 ∷ behind = append_assoc u (10 ∷ []) behind in
-    let fronts = one_front cut.front u (cut.behind ++ more) behind cut.none none (sym left ∙ is ∙ right) in
-    let first : line ∷ lines_of others ≡ (cut.front ++ 10 ∷ []) ∷ lines_of cut.behind = sym lines ∙ ap lines_of cut.is ∙ lines_of-front cut.front cut.behind cut.none in
-    let line_is : line ≡ cut.front ++ 10 ∷ [] = cc in
-    line_is ∙ ap (λ t. t ++ 10 ∷ []) fronts.0
+    grind (arith, nat_tests, one_front, lines_of-front)
 
 no_first_in : (place : ℕ) (rest line others more : List ℕ) → place < 2 ^ 64 → has_feed rest ≡ true → lines_of rest ≡ line ∷ lines_of others → IsNoLine place line → (r : Record) (behind : List ℕ) → Fits r → rest ++ more ≢ line_text place r ++ behind
 unfolding line_text
@@ -398,24 +357,8 @@ no_first_in place rest line others more small some lines none r behind fits is =
 
 -- a text that stops at the next line, whatever follows
 pub stops_in : (line place : ℕ) (text rest first others more : List ℕ) (past : Past) → text ≡ journal_text past ++ rest → AllFit past → place ≡ length past → place < 2 ^ 63 → line ≡ place + 1 → has_feed rest ≡ true → lines_of rest ≡ first ∷ lines_of others → IsNoLine place first → StopsAt line (text ++ more)
-stops_in line place text rest first others more past so_far all count small number some lines none = record {
-  past = past;
-  rest = rest ++ more;
-  fits = all;
-  whole = ap (λ t. t ++ more) so_far ∙ append_assoc (journal_text past) rest more;
-  line_is = omega arith;
-  some = feed_some rest more some;
-  none = λ r behind fits is. no_first_in place rest first others more (omega arith) some lines none r behind fits (is ∙ ap (λ n. line_text n r ++ behind) (sym count));
-}
+stops_in line place text rest first others more past so_far all count small number some lines none = grind (arith, common_steps, feed_some, no_first_in)
 
 -- a text that ends with a line that lacks its line feed
 pub stops_short : (line : ℕ) (rest : List ℕ) (past : Past) → AllFit past → line ≡ length past + 1 → 0 < length rest → has_feed rest ≡ false → StopsAt line (journal_text past ++ rest)
-stops_short line rest past all number some short = record {
-  past = past;
-  rest = rest;
-  fits = all;
-  whole = refl;
-  line_is = number;
-  some = some;
-  none = λ r behind fits is. let feed : has_feed rest ≡ true = ap has_feed is ∙ line_feed (length past) r behind in let no : false ≡ true = sym short ∙ feed in cc;
-}
+stops_short line rest past all number some short = grind (arith, line_feed)

@@ -7,7 +7,6 @@ use Rattle.std.specs.Str.{bytes_eq}
 use Rattle.text_io.specs.Words.{Word, number_written}
 use Rattle.script_text.specs.Grammar.{flags_written}
 use Rattle.mq_model.specs.declared.entries.Access.{Access}
-use Rattle.mq_model.specs.declared.entries.Access.TheVariants.{Read, Write, Both}
 use Rattle.mq_model.specs.declared.entries.OpenFlags.{OpenFlags}
 use Rattle.mq_model.specs.declared.entries.Attr.{Attr}
 use Rattle.mq_model.specs.declared.entries.Deadline.{Deadline}
@@ -64,36 +63,10 @@ number_or_at_again none (Some n) ws never same fits = rw (other_word n none fits
 -- ---- flags
 
 flags_parts : (a : Access) (c x n : Bool) → IsWord (flags_word (record { access = a; create = c; excl = x; nonblock = n })) × (flags_written (flags_word (record { access = a; create = c; excl = x; nonblock = n })) ≡ Some (record { access = a; create = c; excl = x; nonblock = n }))
-flags_parts Read true true true = (refl, refl)
-flags_parts Read true true false = (refl, refl)
-flags_parts Read true false true = (refl, refl)
-flags_parts Read true false false = (refl, refl)
-flags_parts Read false true true = (refl, refl)
-flags_parts Read false true false = (refl, refl)
-flags_parts Read false false true = (refl, refl)
-flags_parts Read false false false = (refl, refl)
-flags_parts Write true true true = (refl, refl)
-flags_parts Write true true false = (refl, refl)
-flags_parts Write true false true = (refl, refl)
-flags_parts Write true false false = (refl, refl)
-flags_parts Write false true true = (refl, refl)
-flags_parts Write false true false = (refl, refl)
-flags_parts Write false false true = (refl, refl)
-flags_parts Write false false false = (refl, refl)
-flags_parts Both true true true = (refl, refl)
-flags_parts Both true true false = (refl, refl)
-flags_parts Both true false true = (refl, refl)
-flags_parts Both true false false = (refl, refl)
-flags_parts Both false true true = (refl, refl)
-flags_parts Both false true false = (refl, refl)
-flags_parts Both false false true = (refl, refl)
-flags_parts Both false false false = (refl, refl)
+flags_parts a c x n = grind arith
 
 flags_again : (flags : OpenFlags) → flags_written (flags_word flags) ≡ Some flags
 flags_again flags = (flags_parts flags.access flags.create flags.excl flags.nonblock).1
-
-flags-word : (flags : OpenFlags) → IsWord (flags_word flags)
-flags-word flags = (flags_parts flags.access flags.create flags.excl flags.nonblock).0
 
 -- ---- calls
 
@@ -187,48 +160,13 @@ word-small : (n : ℕ) → n < 2 ^ 32 → IsWord (decimal n)
 word-small n fits = word-decimal n (omega (arith, fits))
 
 pub flag-word : (flag : Bool) → IsWord (flag_word flag)
-flag-word true = refl
-flag-word false = refl
+flag-word flag = grind arith
 
 pub number_or-word : (none : Word) (n : Option ℕ) → IsWord none → IfSome n (λ n. n < 2 ^ 64) → IsWord (number_or none n)
-number_or-word none None word fits = word
-number_or-word none (Some n) word fits = word-decimal n fits
+number_or-word none n word fits = grind (arith, word-decimal)
 
 limits-words : (attr : Option Attr) → IfSome attr AttrFits → AreWords (limits_words attr)
-limits-words None fits = tt
-limits-words (Some attr) fits = (refl, (word-signed attr.maxmsg fits.0, (word-signed attr.msgsize fits.1, tt)))
+limits-words attr fits = grind (arith, word-signed)
 
 pub call-words : (c : Call) → CallFits c → AreWords (call_words c)
-call-words (call.MqOpen flags attr) fits = (refl, (flags-word flags, limits-words attr fits))
-call-words (call.MqClose d) fits = (refl, (word-small d fits, tt))
-call-words call.MqUnlink fits = (refl, tt)
-call-words (call.MqSend d prio len) fits = (refl, (word-small d fits.0, (word-small prio fits.1, (word-decimal len fits.2, tt))))
-call-words (call.MqReceive d room) fits = (refl, (word-small d fits.0, (word-decimal room fits.1, tt)))
-call-words (call.MqTimedSend d prio len until now) fits = (
-  refl,
-  (
-    word-small d fits.0,
-    (
-      word-small prio fits.1,
-      (
-        word-decimal len fits.2,
-        (refl, (word-signed until.sec fits.3.0, (word-signed until.nsec fits.3.1, (refl, (word-signed now.sec fits.4.0, (word-signed now.nsec fits.4.1, tt)))))),
-      ),
-    ),
-  ),
-)
-call-words (call.MqTimedReceive d room until now) fits = (
-  refl,
-  (
-    word-small d fits.0,
-    (
-      word-decimal room fits.1,
-      (refl, (word-signed until.sec fits.2.0, (word-signed until.nsec fits.2.1, (refl, (word-signed now.sec fits.3.0, (word-signed now.nsec fits.3.1, tt)))))),
-    ),
-  ),
-)
-call-words (call.MqGetattr d) fits = (refl, (word-small d fits, tt))
-call-words (call.MqSetattr d nonblock) fits = (refl, (word-small d fits, (flag-word nonblock, tt)))
-call-words (call.MqNotify d value) fits = (refl, (word-small d fits.0, (number_or-word (codes "-") value refl fits.1, tt)))
-call-words (call.Withdraw now) fits = (refl, (refl, (word-signed now.sec fits.0, (word-signed now.nsec fits.1, tt))))
-call-words call fits = (refl, tt)
+call-words c fits = grind (arith, limits-words, word-small, word-decimal, word-signed, flag-word, number_or-word)

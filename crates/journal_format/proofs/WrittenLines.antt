@@ -1,6 +1,7 @@
 -- A line reads as the record that it was written from.
-use Rattle.std.proofs.Common.{◌≡◌, ◌≢◌, ◌<◌, ◌≤◌, ◌⊎◌, ◌&&◌, ◌^◌, ◌-◌, ◌∙◌, ◌++◌, ℕ, zero, suc, Bool, inl, inr, true, false, List, [], ◌∷◌, length, take, arith, refl, ap, codes, All, Some, None, append_assoc, ltb}
-use Rattle.std.proofs.lemmas.Bool.{and_from, both_ways, cases_Bool, lt-ltb}
+use Rattle.std.proofs.lemmas.Grind.{common_steps}
+use Rattle.std.proofs.Common.{◌≡◌, ◌<◌, ◌⊎◌, ◌&&◌, ◌^◌, ◌-◌, ◌∙◌, ◌++◌, ℕ, zero, suc, Bool, inl, inr, true, false, List, [], ◌∷◌, length, take, arith, refl, ap, codes, All, Some, None, append_assoc}
+use Rattle.std.proofs.lemmas.Bool.{and_from, both_ways, lt-ltb, and_parts}
 use Rattle.std.proofs.lemmas.Bool.Decides.{nat_tests}
 use Rattle.std.proofs.lemmas.List.{length-append}
 use Rattle.std.proofs.lemmas.List.Elements.{All-head, All-tail}
@@ -28,24 +29,11 @@ use Rattle.journal_format.proofs.WrittenReplies.{reply_again, reply-words}
 
 -- ---- what is between quotes
 
-both_true : (a b : Bool) → (a && b) ≡ true → (a ≡ true) × (b ≡ true)
-both_true true b is = (refl, is)
-both_true false b is = absurd (cc)
-
 last_or_below : (n b : ℕ) → b < suc n → (b ≡ n) ⊎ (b < n)
 last_or_below zero zero small = inl refl
 last_or_below zero (suc b) small = absurd (omega (arith, small))
 last_or_below (suc n) zero small = inr (omega arith)
-last_or_below (suc n) (suc b) small = elim (last_or_below n b (omega (arith, small))) [
-  | inl is ↦ inl (ap suc is)
-  | inr less ↦ inr (omega (arith, less))
-]
-
-not_small : (b : ℕ) → (b < 33 → ⊥) → 33 ≤ b
-not_small b large = elim (cases_Bool (ltb b 33)) [
-  | inl small ↦ absurd (large (grind (arith, nat_tests)))
-  | inr other ↦ grind (arith, nat_tests)
-]
+last_or_below (suc n) (suc b) small = grind (arith, last_or_below n b (omega (arith, small)))
 
 -- what holds of each number below n
 abbrev each_below : ℕ → (ℕ → Bool) → Bool
@@ -55,7 +43,7 @@ each_below (suc n) p = p n && each_below n p
 below : (n : ℕ) (p : ℕ → Bool) (b : ℕ) → each_below n p ≡ true → b < n → p b ≡ true
 below zero p b all small = absurd (omega (arith, small))
 below (suc n) p b all small =
-    let parts = both_true (p n) (each_below n p) all in
+    let parts = and_parts (p n) (each_below n p) all in
     elim (last_or_below n b small) [
       | inl is ↦ ap p is ∙ parts.0
       | inr less ↦ below n p b parts.1 less
@@ -65,11 +53,7 @@ controls_escaped : (b : ℕ) → b < 33 → contains ESCAPED b ≡ true
 controls_escaped b small = below 33 (contains ESCAPED) b refl small
 
 kept_plain : (b : ℕ) → should_percent_encode ESCAPED b ≡ false → is_plain b ≡ true
-kept_plain b kept =
-    let low : b < 128 = ascii_from_kept ESCAPED b kept in
-    let no_delete : b ≢ 127 = λ is. both_ways (should_percent_encode ESCAPED b) kept (ap (should_percent_encode ESCAPED) is ∙ escaped_from_inside ESCAPED 127 refl) in
-    let high : 33 ≤ b = not_small b (λ small. both_ways (should_percent_encode ESCAPED b) kept (escaped_from_inside ESCAPED b (controls_escaped b small))) in
-    grind (arith, nat_tests)
+kept_plain b kept = grind (arith, ascii_from_kept, both_ways, escaped_from_inside, controls_escaped)
 
 hex_plain : (b : ℕ) → IsEscapeByte b → is_plain b ≡ true
 hex_plain b hex = grind (arith, nat_tests)
@@ -89,11 +73,7 @@ escaped_plain : (bytes : List ℕ) → list_all is_plain (escaped bytes) ≡ tru
 escaped_plain bytes = all_from (escaped bytes) (All-percent_encode (λ b. is_plain b ≡ true) ESCAPED bytes kept_plain hex_plain)
 
 pub payload-words : (payload : List ℕ) → AreWords (payload_words payload)
-payload-words [] = tt
-payload-words (b ∷ bytes) =
-    let quoted = 34 ∷ escaped (b ∷ bytes) ++ 34 ∷ [] in
-    let none = list_all-append (escaped (b ∷ bytes)) (34 ∷ []) (escaped_plain (b ∷ bytes)) refl in
-    (and_from (ltb 0 (length quoted)) (list_all is_plain quoted) (lt-ltb 0 (length quoted) (omega arith)) none, tt)
+payload-words payload = grind (arith, list_all-append, escaped_plain, and_from, is_plain, lt-ltb)
 
 all_but_last : (xs : List ℕ) (x : ℕ) → take (length (xs ++ x ∷ []) - 1) (xs ++ x ∷ []) ≡ xs
 all_but_last xs x = let e : length (xs ++ x ∷ []) - 1 ≡ length xs = omega (arith, length-append xs (x ∷ [])) in rw e (take-append_seam xs (x ∷ []))
@@ -111,11 +91,7 @@ no_limit (b ∷ bytes) ws = refl
 -- ---- a line
 
 pub record-words : (place : ℕ) (r : Record) → place < 2 ^ 64 → Fits r → AreWords (record_words place r)
-record-words place r small fits =
-    let process : r.entry.process < 2 ^ 64 = omega (arith, fits.process) in
-    let behind : AreWords (payload_words r.payload ++ codes "->" ∷ reply_words r.entry.reply) =
-    words-append (payload_words r.payload) (codes "->" ∷ reply_words r.entry.reply) (payload-words r.payload) (refl, reply-words r.entry.reply fits.reply) in
-    (word-decimal place small, (word-decimal r.entry.process process, words-append (call_words r.entry.call) (payload_words r.payload ++ codes "->" ∷ reply_words r.entry.reply) (call-words r.entry.call fits.call) behind))
+record-words place r small fits = grind (arith, AreWords, words-append, payload-words, reply-words, word-decimal, call-words)
 
 entry_again : (place : ℕ) (r : Record) → Fits r → entry_at (record_words place r) ≡ Some (r.entry, escaped r.payload)
 unfolding entry_at word_at
@@ -143,39 +119,13 @@ join-more v [] w ws = refl
 join-more v (u ∷ us) w ws = rw append_assoc (ap (λ t. v ++ 32 ∷ t) (join-more u us w ws))
 
 parts : (place process : Word) (cs : List Word) (payload : List ℕ) (rs : List Word) → 0 < length cs → 0 < length rs → join_with_byte 32 (place ∷ process ∷ cs ++ (payload_words payload ++ codes "->" ∷ rs)) ++ 10 ∷ [] ≡ place ++ (codes " " ++ (process ++ (codes " " ++ (join_with_byte 32 cs ++ (payload_text payload ++ (codes " -> " ++ (join_with_byte 32 rs ++ codes "\n")))))))
-parts place process [] payload rs some_call some_reply = absurd (omega arith)
-parts place process (c ∷ cs) payload [] some_call some_reply = absurd (omega arith)
-parts place process (c ∷ cs) [] (r ∷ rs) some_call some_reply = rw (join-more c cs (codes "->") (r ∷ rs)) (simp append_assoc)
-parts place process (c ∷ cs) (b ∷ bytes) (r ∷ rs) some_call some_reply = rw (join-more c cs (34 ∷ escaped (b ∷ bytes) ++ 34 ∷ []) (codes "->" ∷ r ∷ rs)) (simp append_assoc)
+parts place process cs payload rs some_call some_reply = grind (arith, common_steps, join-more)
 
 pub call_some : (c : Call) → 0 < length (call_words c)
-call_some (call.MqOpen flags attr) = omega arith
-call_some (call.MqClose d) = omega arith
-call_some call.MqUnlink = omega arith
-call_some (call.MqSend d prio len) = omega arith
-call_some (call.MqReceive d room) = omega arith
-call_some (call.MqTimedSend d prio len until now) = omega arith
-call_some (call.MqTimedReceive d room until now) = omega arith
-call_some (call.MqGetattr d) = omega arith
-call_some (call.MqSetattr d nonblock) = omega arith
-call_some (call.MqNotify d value) = omega arith
-call_some call.NextNotice = omega arith
-call_some call.Collect = omega arith
-call_some (call.Withdraw now) = omega arith
+call_some c = grind arith
 
 pub reply_some : (r : Reply) → 0 < length (reply_words r)
-reply_some (reply.Opened d true) = omega arith
-reply_some (reply.Opened d false) = omega arith
-reply_some (reply.Queued notified) = omega arith
-reply_some (reply.Handed wait) = omega arith
-reply_some reply.Waits = omega arith
-reply_some (reply.Got place admitted notified) = omega arith
-reply_some (reply.Collected by) = omega arith
-reply_some (reply.Withdrawn wait) = omega arith
-reply_some (reply.Attrs status) = omega arith
-reply_some (reply.Notice value) = omega arith
-reply_some reply.Done = omega arith
-reply_some (reply.Refused fault) = omega arith
+reply_some r = grind arith
 
 -- the line as the program puts it together
 pub line_text-parts : (place : ℕ) (e : Entry) (payload : List ℕ) → line_text place (record { entry = e; payload = payload }) ≡ decimal place ++ (codes " " ++ (decimal e.process ++ (codes " " ++ (join_with_byte 32 (call_words e.call) ++ (payload_text payload ++ (codes " -> " ++ (join_with_byte 32 (reply_words e.reply) ++ codes "\n")))))))

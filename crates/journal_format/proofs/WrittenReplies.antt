@@ -3,7 +3,6 @@ use Rattle.std.proofs.Common.{◌≡◌, ◌<◌, ◌^◌, ◌++◌, ℕ, Bool, 
 use Rattle.std.specs.Fmt.{decimal, signed_decimal}
 use Rattle.std.specs.Str.{bytes_eq}
 use Rattle.text_io.specs.Words.{Word}
-use Rattle.mq_model.specs.Fault.{text_of}
 use Rattle.mq_model.specs.declared.faults.Fault.{Fault}
 use Rattle.mq_model.specs.declared.faults.Fault.TheVariants as fault
 use Rattle.mq_model.specs.declared.entries.Status.{Status}
@@ -110,38 +109,11 @@ reply_again reply fits = refl
 
 -- ---- the words of a reply are words
 
-fault-word : (f : Fault) → IsWord (text_of f)
-fault-word fault.Again = refl
-fault-word fault.BadDescriptor = refl
-fault-word fault.Busy = refl
-fault-word fault.Exists = refl
-fault-word fault.Invalid = refl
-fault-word fault.TooManyOpen = refl
-fault-word fault.MessageSize = refl
-fault-word fault.NameTooLong = refl
-fault-word fault.NoEntry = refl
-fault-word fault.NoSpace = refl
-fault-word fault.NoMemory = refl
-fault-word fault.TimedOut = refl
-fault-word fault.JournalFull = refl
-
 place-words : (label : Word) (place : Option ℕ) → IsWord label → IfSome place IsPlace → AreWords (place_words label place)
-place-words label None word fits = tt
-place-words label (Some place) word fits = (word, (word-decimal place fits, tt))
+place-words label place word fits = grind (arith, word-decimal)
 
 places-words : (admitted notified : Option ℕ) → IfSome admitted IsPlace → IfSome notified IsPlace → AreWords (place_words (codes "admitted") admitted ++ place_words (codes "notified") notified)
-places-words None notified admitted_fits fits = place-words (codes "notified") notified refl fits
-places-words (Some admitted) notified admitted_fits fits = (refl, (word-decimal admitted admitted_fits, place-words (codes "notified") notified refl fits))
+places-words admitted notified admitted_fits fits = grind (arith, place-words, word-decimal)
 
 pub reply-words : (r : Reply) → ReplyFits r → AreWords (reply_words r)
-reply-words (reply.Opened d true) fits = (refl, (word-decimal d (omega (arith, fits)), (refl, tt)))
-reply-words (reply.Opened d false) fits = (refl, (word-decimal d (omega (arith, fits)), tt))
-reply-words (reply.Queued notified) fits = (refl, place-words (codes "notified") notified refl fits)
-reply-words (reply.Handed wait) fits = (refl, (word-decimal wait fits, tt))
-reply-words (reply.Got place admitted notified) fits = (refl, (word-decimal place fits.0, places-words admitted notified fits.1 fits.2))
-reply-words (reply.Collected by) fits = (refl, (word-decimal by fits, tt))
-reply-words (reply.Withdrawn wait) fits = (refl, (word-decimal wait fits, tt))
-reply-words (reply.Attrs status) fits = (refl, (flag-word status.nonblock, (word-signed status.maxmsg fits.0, (word-signed status.msgsize fits.1, (word-signed status.curmsgs fits.2, tt)))))
-reply-words (reply.Notice value) fits = (refl, (number_or-word (codes "none") value refl fits, tt))
-reply-words (reply.Refused f) fits = (fault-word f, tt)
-reply-words reply fits = (refl, tt)
+reply-words r fits = grind (arith, word-decimal, place-words, places-words, flag-word, word-signed, number_or-word)

@@ -3,7 +3,7 @@
 use Rattle.std.specs.Prelude.{ℕ, ℤ, ◌-◌, Bool, false, ◌==◌, List, [], ◌∷◌, length, take, map, find, Option, None, Some, if◌then◌else◌, codes}
 use Rattle.std.specs.Str.{bytes_eq}
 use denote.Ref.{Bor}
-use Rattle.text_io.specs.Words.{◌>>=◌, Word, integer_written, number_written}
+use Rattle.text_io.specs.Words.{Word, integer_written, number_written, ◌>>=◌}
 use Rattle.script_text.specs.Grammar.{flags_written}
 use Rattle.script_text.specs.Verbs.{verb_written}
 use Rattle.mq_model.specs.Fault.{text_of}

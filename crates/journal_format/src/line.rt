@@ -1,5 +1,5 @@
 //! The line of an entry.
-ghost use Rattle.std.specs.Prelude.{◌≡◌, IfOk, IfSome, MatchOption, string_bytes};
+ghost use Rattle.std.specs.Prelude.{◌≡◌, IfOk, MatchOption, string_bytes};
 ghost use Rattle.journal_format.specs.JournalFault.{IsNoLine};
 ghost use Rattle.std.specs.Option.{option_map};
 ghost use Rattle.journal_format.specs.Reading.{entry_at, read_entry, words_at};

@@ -1,5 +1,5 @@
 //! The words of replies.
-ghost use Rattle.std.specs.Prelude.{◌≡◌, ◌++◌, IfOk, codes, string_bytes};
+ghost use Rattle.std.specs.Prelude.{◌≡◌, IfOk, string_bytes};
 ghost use Rattle.std.specs.List.{join_with_byte};
 ghost use Rattle.journal_format.specs.Reading.{attrs_at, collected_at, fault_written, got_at, handed_at, is_created, kind_written, notice_at, opened_at, queued_at, reply_at, reply_behind, withdrawn_at, words_at};
 ghost use Rattle.journal_format.specs.Text.{reply_words};

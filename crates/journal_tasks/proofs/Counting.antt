@@ -1,8 +1,6 @@
 -- What is counted, one record or one process more.
-use Rattle.std.proofs.Common.{◌≡◌, ◌+◌, ◌-◌, ◌==◌, ℕ, zero, suc, Bool, true, [], ◌∷◌, refl, ap, sym, ◌∙◌, drop, length, arith, add-one}
-use Rattle.std.specs.Prelude.{if◌then◌else◌}
+use Rattle.std.proofs.Common.{◌≡◌, ◌+◌, ◌-◌, ◌==◌, ℕ, zero, suc, Bool, true, [], ◌∷◌, refl, ap, sym, ◌∙◌, drop, length, arith, add-one, if◌then◌else◌, eq-eqb}
 use Rattle.std.proofs.lemmas.Bool.Decides.{nat_tests}
-use Rattle.std.proofs.lemmas.Bool.{eq-eqb}
 use Rattle.std.specs.List.{list_any}
 use Rattle.mq_model.specs.Record.{Past, Record, first}
 use Rattle.journal_tasks.specs.Verdict.{has_process, processes_to}

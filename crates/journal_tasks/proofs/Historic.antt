@@ -11,6 +11,7 @@ use Rattle.script_orders.specs.declared.plan.Step.{Step}
 use Rattle.journal_tasks.specs.Histories.{Asked, MakeFronts, Makes, MakesAll, MakesFront, completions_of}
 use Rattle.script_runner.specs.declared.noted.Noted.{Noted}
 use Rattle.script_text.specs.declared.reply.Completion.{Completion}
+use Rattle.script_orders.proofs.Making.{programs-count}
 
 pub makes-one_more : (p : ℕ) (came : ℕ → Option Completion) (plans : List Plan) (plan : Plan) (calls more : List Asked) → MakesAll p came plans calls → Makes p plan.given plan.step (came (length plans)) more → MakesAll p came (plans ++ plan ∷ []) (calls ++ more)
 makes-one_more p came [] plan calls more none makes = (more, [], makes, refl, rw none (sym (append-nil more)))
@@ -26,14 +27,6 @@ makes-one_more p came (first ∷ plans) plan calls more all makes = (
 pub makes-as : (p q : ℕ) (given : List ℕ) (step : Step) (a b : Option Completion) (calls : List Asked) → p ≡ q → a ≡ b → Makes p given step a calls → Makes q given step b calls
 makes-as p q given step a b calls same came makes =
     subst (λ o. Makes q given step o calls) came (subst (λ k. Makes k given step a calls) same makes)
-
-length-last : {A : Type 0} (xs : List A) (y : A) → length (xs ++ y ∷ []) ≡ suc (length xs)
-length-last [] y = refl
-length-last (x ∷ xs) y = ap (λ (n : ℕ). suc n) (length-last xs y)
-
-programs-count : (phases : List (List WrittenCall)) (n : ℕ) → length (programs_of phases n) ≡ n
-programs-count phases zero = refl
-programs-count phases (suc n) = length-last (programs_of phases n) (program_of 0 phases (n + 1)) ∙ ap (λ (n : ℕ). suc n) (programs-count phases n)
 
 -- the program of process i + 1 is at i
 pub programs-at : (phases : List (List WrittenCall)) (n i : ℕ) (d : List Plan) → i < n → get_or (programs_of phases n) i d ≡ program_of 0 phases (i + 1)

@@ -1,7 +1,6 @@
 //! From the bytes of a journal to the verdict on it.
 ghost use Rattle.std.specs.Prelude.{◌≡◌, ◌+◌, ℕ, List, IfOk, IsErrOf, Some, take};
 ghost use Rattle.text_io.specs.Sources.{HasFailed};
-ghost use Rattle.text_io.specs.Output.{AppendsTooLittle};
 ghost use Rattle.journal_format.specs.JournalFault.{IsAtFault};
 ghost use Rattle.journal_format.specs.Lines.{ReadsUpTo};
 ghost use Rattle.journal_tasks.specs.Verdict.{Checks, StopsInVerdict};

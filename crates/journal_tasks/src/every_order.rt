@@ -1,5 +1,5 @@
 //! From the bytes of a script to the outcomes of all interleavings of its calls.
-ghost use Rattle.std.specs.Prelude.{◌≡◌, ◌≢◌, ◌≤◌, ◌+◌, ℕ, List, IfErr, IfOk, IsErrOf, IsSome, OnOk, Some, Ok, Err, Vec, length, take};
+ghost use Rattle.std.specs.Prelude.{◌≡◌, ◌≢◌, ◌≤◌, ◌+◌, ℕ, List, IfErr, IfOk, IsErrOf, IsSome, Some, Ok, Err, Vec, take};
 ghost use Rattle.text_io.specs.Sources.{HasFailed};
 ghost use Rattle.std.specs.Option.{option_map};
 ghost use Rattle.std.specs.List.{All};
@@ -11,7 +11,7 @@ ghost use Rattle.mq_model.specs.Legality.{Legal};
 ghost use Rattle.schedules.specs.Schedules.{after};
 ghost use Rattle.schedules.specs.Outcomes.{IsWitness};
 ghost use Rattle.script_orders.specs.Stage.{first_stage, next_stage, observed, stands_still};
-ghost use Rattle.journal_tasks.specs.EveryOrder.{Answers, AnswersAfter, AnswersAfterInPart, AnswersInPart, AnswersOrNot, AreFound, answer_ending, answer_text, ending_of, ending_status, has_deadlock, journal_of, numbered};
+ghost use Rattle.journal_tasks.specs.EveryOrder.{Answers, AnswersAfter, AnswersAfterInPart, AnswersInPart, AnswersOrNot, answer_ending, answer_text, ending_of, ending_status, has_deadlock, journal_of, numbered};
 
 use crate::start::{NoStart, start_after};
 use journal_format::text::write_journal;

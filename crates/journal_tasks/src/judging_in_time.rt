@@ -1,5 +1,5 @@
 //! Whether a concurrent history is linearizable, as far as it is found within some time.
-ghost use Rattle.std.specs.Prelude.{◌≡◌, ◌+◌, ℕ, List, IfOk, IsErrOf, Some, length, min, take};
+ghost use Rattle.std.specs.Prelude.{◌≡◌, ◌+◌, ℕ, List, IfOk, IsErrOf, Some, min, take};
 ghost use Rattle.text_io.specs.Sources.{HasFailed};
 ghost use Rattle.history_judge.specs.HistoryFault.{IsAtFault};
 ghost use Rattle.history_judge.specs.Processes.{AreOfProcesses};

@@ -1,5 +1,6 @@
 -- Lists that are written or filtered item by item.
-use Rattle.std.proofs.Common.{◌≡◌, ℕ, zero, suc, ◌+◌, ◌-◌, ◌<◌, Bool, List, [], ◌∷◌, ◌++◌, length, get_or, drop, map, take, if◌then◌else◌, refl, sym, ◌∙◌, ap, arith, append_assoc, add-one}
+use Rattle.std.proofs.lemmas.Grind.{common_steps}
+use Rattle.std.proofs.Common.{◌≡◌, ℕ, suc, ◌+◌, ◌-◌, ◌<◌, Bool, List, [], ◌∷◌, ◌++◌, length, get_or, drop, map, take, if◌then◌else◌, refl, sym, ◌∙◌, ap, arith, append_assoc, add-one}
 use Rattle.std.proofs.Math.Seq.{drop-cons}
 use Rattle.std.proofs.lemmas.List.{append-nil, drop_all, length-map, length-take-le, map-append, take_more}
 use Rattle.std.specs.List.{filter}
@@ -22,29 +23,15 @@ pub ruleset lists = (append_assoc, append-nil, drop_all, filter-drop, filter-num
 pub behind : (old a rest now new : List ℕ) → now ≡ old ++ a → new ≡ now ++ rest → new ≡ old ++ (a ++ rest)
 behind old a rest now new first last = last ∙ ap (λ t. t ++ rest) first ∙ append_assoc old a rest
 
-between-text : (n : ℕ) → between Text n ≡ []
-between-text zero = refl
-between-text (suc n) = refl
-
 -- the parts of a list, as they are written one after the other
 joined-more : (form : Form) (parts : List (List ℕ)) (part : List ℕ) → joined form (parts ++ part ∷ []) ≡ joined form parts ++ (between form (length parts) ++ part)
 joined-more Text [] part = append-nil part
 joined-more Json [] part = refl
-joined-more Text (x ∷ parts) part =
-    ap (λ t. x ++ t) (joined-more Text parts part ∙ ap (λ b. joined Text parts ++ (b ++ part)) (between-text (length parts))) ∙ sym (append_assoc x (joined Text parts) part)
+joined-more Text (x ∷ parts) part = grind (arith, common_steps, joined-more Text parts part)
 joined-more Json (x ∷ []) part = refl
 joined-more Json (x ∷ y ∷ parts) part =
     ap (λ t. x ++ (44 ∷ t)) (joined-more Json (y ∷ parts) part) ∙ sym (append_assoc x (44 ∷ joined Json (y ∷ parts)) (44 ∷ part))
 
 pub list-more : (form : Form) (f : ℕ → List ℕ) (xs old now next new : List ℕ) (i : ℕ) → i < length xs → now ≡ old ++ joined form (map f (take i xs)) → next ≡ now ++ between form i → new ≡ next ++ f (get_or xs i 0) →
     new ≡ old ++ joined form (map f (take (i + 1) xs))
-list-more form f xs old now next new i lt before next_is new_is =
-    let x = get_or xs i 0 in
-    let long : length (map f (take i xs)) ≡ i = length-map (take i xs) f ∙ length-take-le i xs (omega arith) in
-    let items : map f (take (i + 1) xs) ≡ map f (take i xs) ++ f x ∷ [] = ap (map f) (take_more xs i 0 lt) ∙ map-append f (take i xs) (x ∷ []) in
-    let more : joined form (map f (take (i + 1) xs)) ≡ joined form (map f (take i xs)) ++ (between form i ++ f x) =
-    ap (joined form) items ∙ joined-more form (map f (take i xs)) (f x) ∙ ap (λ n. joined form (map f (take i xs)) ++ (between form n ++ f x)) long in
-    new_is ∙ ap (λ t. t ++ f x) (next_is ∙ ap (λ t. t ++ between form i) before)
-    ∙ append_assoc (old ++ joined form (map f (take i xs))) (between form i) (f x)
-    ∙ append_assoc old (joined form (map f (take i xs))) (between form i ++ f x)
-    ∙ ap (λ t. old ++ t) (sym more)
+list-more form f xs old now next new i lt before next_is new_is = grind (arith, common_steps, length-map, length-take-le, take_more, map-append, joined-more)

@@ -1,7 +1,5 @@
 -- One record, one head or one byte more.
-use Rattle.std.proofs.Common.{◌≡◌, ◌≤◌, ◌+◌, ◌++◌, ◌*◌, ◌∙◌, ◌&&◌, ◌==◌, ℕ, false, zero, suc, List, [], ◌∷◌, length, Option, None, Some, if◌then◌else◌, refl, ap, sym, arith, add-one, append-nil, append_assoc}
-use Rattle.std.specs.Prelude.{nat_lt}
-use Rattle.std.proofs.lemmas.Bool.{le-ltb}
+use Rattle.std.proofs.Common.{◌≡◌, ◌≤◌, ◌+◌, ◌++◌, ◌*◌, ◌∙◌, ◌&&◌, ◌==◌, ℕ, false, List, [], ◌∷◌, length, None, Some, if◌then◌else◌, refl, ap, sym, arith, add-one, append-nil, append_assoc, nat_lt, le-ltb}
 use Rattle.mq_model.specs.Descriptors.{is_place, opened_number}
 use Rattle.mq_model.specs.Record.{Past, Place, Process, Descriptor, Record, first}
 use Rattle.mq_model.specs.Waits.{ended_wait, is_wait}

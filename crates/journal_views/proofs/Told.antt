@@ -1,5 +1,5 @@
 -- What entries add to the facts about queues and processes.
-use Rattle.std.proofs.Common.{◌≡◌, ◌≢◌, ◌≤◌, ◌<◌, ◌+◌, ◌-◌, ◌==◌, ◌++◌, ◌∙◌, ℕ, suc, Bool, true, false, List, [], ◌∷◌, length, Option, Some, None, if◌then◌else◌, refl, sym, ap, arith, append_assoc, eq-eqb, ne_eqb}
+use Rattle.std.proofs.Common.{◌≡◌, ◌≢◌, ◌≤◌, ◌<◌, ◌+◌, ◌-◌, ◌++◌, ◌∙◌, ℕ, suc, Bool, true, false, List, [], ◌∷◌, length, Option, Some, None, if◌then◌else◌, refl, sym, ap, arith, append_assoc, eq-eqb}
 use Rattle.std.specs.List.{filter}
 use Rattle.std.proofs.lemmas.List.{append-nil}
 use Rattle.mq_model.specs.Record.{Record, Past, first}
@@ -14,24 +14,15 @@ use Rattle.journal_views.proofs.Follows.{record-here}
 -- the values of notices -----------------------------------------------------------------------------------------------------------
 
 pub value-none : (past : Past) (k p m : ℕ) (place : Option ℕ) → place ≡ Some m → k ≤ m → k ≤ length past → None ≡ value_notified (first k past) p place
-value-none past k p m place is le within =
-    let long : length (first k past) ≡ k = length-first k past within in
-    let none = record_at-past (first k past) m (omega (arith, long, le)) in
-    rw (is, none) refl
+value-none past k p m place is le within = grind (arith, length-first, record_at-past)
 
 pub value-mine : (past : Past) (k p m : ℕ) (r : Record) (place : Option ℕ) (v : Option ℕ) → place ≡ Some m → first (m + 1) past ≡ r ∷ first m past → m < k → k ≤ length past → r.entry.process ≡ p →
     v ≡ value_of_notify r.entry.call → v ≡ value_notified (first k past) p place
-value-mine past k p m r place v is here lt le mine value =
-    let found = record_at-of_first past k m r here lt le in
-    let same : (r.entry.process == p) ≡ true = eq-eqb r.entry.process p mine in
-    value ∙ (rw (is, found, same) refl)
+value-mine past k p m r place v is here lt le mine value = grind (arith, record_at-of_first, eq-eqb)
 
 pub value-other : (past : Past) (k p m : ℕ) (r : Record) (place : Option ℕ) → place ≡ Some m → first (m + 1) past ≡ r ∷ first m past → m < k → k ≤ length past → r.entry.process ≢ p →
     None ≡ value_notified (first k past) p place
-value-other past k p m r place is here lt le other =
-    let found = record_at-of_first past k m r here lt le in
-    let differs : (r.entry.process == p) ≡ false = ne_eqb r.entry.process p other in
-    rw (is, found, differs) refl
+value-other past k p m r place is here lt le other = grind (arith, record_at-of_first)
 
 -- numbers that pass a test ----------------------------------------------------------------------------------------------------------
 
@@ -46,9 +37,7 @@ filter-more t p n old new all b lt before is more =
     ap (λ (xs : List ℕ). xs ++ rest) more ∙ append_assoc old (if b then p ∷ [] else []) rest ∙ ap (λ (xs : List ℕ). old ++ xs) (sym step) ∙ before
 
 pub filter-done : (t : ℕ → Bool) (p n : ℕ) (found all : List ℕ) → found ++ filter t (numbers_from p (n - p)) ≡ all → n ≤ p → found ≡ all
-filter-done t p n found all before le =
-    let none : n - p ≡ 0 = omega arith in
-    sym (append-nil found) ∙ (let goal : found ++ [] ≡ found ++ filter t (numbers_from p (n - p)) = rw none refl in goal) ∙ before
+filter-done t p n found all before le = grind (arith, append-nil)
 
 -- what is written of the record at a place --------------------------------------------------------------------------------------------
 

@@ -1,8 +1,8 @@
 -- The shapes that a picture shows for an entry: its mark, the bar of the wait that it begins, and
 -- the arrow of a message that it receives or hands over.
-use Rattle.std.specs.Prelude.{ℕ, ◌+◌, ◌-◌, ◌*◌, ◌%◌, ◌/◌, min, nat_lt, List, length, Option, None, Some, if◌then◌else◌}
-use Rattle.std.specs.Option.{option_map}
 use Rattle.text_io.specs.Words.{◌>>=◌}
+use Rattle.std.specs.Prelude.{ℕ, ◌+◌, ◌-◌, ◌*◌, ◌%◌, ◌/◌, min, nat_lt, List, Option, None, Some, if◌then◌else◌}
+use Rattle.std.specs.Option.{option_map}
 use Rattle.mq_model.specs.Messages.{priority_given}
 use Rattle.mq_model.specs.Record.{Past, Place, Process, first, record_at}
 use Rattle.mq_model.specs.Waits.{is_wait}

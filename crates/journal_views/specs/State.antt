@@ -5,7 +5,7 @@ use Rattle.std.specs.List.{filter, flat_map, join_with_byte, list_any}
 use Rattle.std.specs.Option.{option_map, unwrap_or}
 use Rattle.hex.specs.Hex.{encode_lower}
 use Rattle.mq_model.specs.Limits.{most_descriptors, most_processes}
-use Rattle.mq_model.specs.Record.{Record, Past, Descriptor, Message, Place, Process, Queue, record_at}
+use Rattle.mq_model.specs.Record.{Record, Past, Descriptor, Place, Process, Queue, record_at}
 use Rattle.mq_model.specs.Names.{attributes, name_of}
 use Rattle.mq_model.specs.Descriptors.{alive, held, is_named, numbers_from}
 use Rattle.mq_model.specs.Messages.{present, priority, priority_given, waiting_receives, waiting_sends}

@@ -1,16 +1,16 @@
 //! Tables that are updated for each entry of a journal: what each process has, which queues are
 //! bound to their names, and on which queue each entry is made. They save looking back for the open
 //! of a descriptor.
-ghost use Rattle.std.specs.Prelude.{◌≡◌, ◌+◌, ◌<◌, ◌≤◌, ℕ, Bool, IfOk, OnOk, [], ◌∷◌, length, not, get_or, None, replicate};
+ghost use Rattle.std.specs.Prelude.{◌≡◌, ◌+◌, ◌<◌, ◌≤◌, ℕ, Bool, IfOk, OnOk, [], ◌∷◌, length, not, None, replicate};
 ghost use Rattle.std.specs.List.{filter};
 ghost use Rattle.std.specs.Str.{bytes_eq};
 ghost use Rattle.std.specs.Option.{unwrap_or};
 ghost use Rattle.mq_model.specs.Limits.{most_processes};
-ghost use Rattle.mq_model.specs.Record.{Record, first};
-ghost use Rattle.mq_model.specs.Names.{creates, is_unlink, name_of, unlinks};
-ghost use Rattle.mq_model.specs.Descriptors.{called_queue, descriptor_of, is_held, is_named, is_on, opened_queue};
+ghost use Rattle.mq_model.specs.Record.{first};
+ghost use Rattle.mq_model.specs.Names.{creates, name_of, unlinks};
+ghost use Rattle.mq_model.specs.Descriptors.{called_queue, is_held, is_named, is_on, opened_queue};
 ghost use Rattle.mq_model.specs.Legality.{Legal};
-ghost use Rattle.mq_model.specs.Owners.{OwnersMirror, free_owner, held_in};
+ghost use Rattle.mq_model.specs.Owners.{free_owner};
 ghost use Rattle.mq_model.specs.OwnersNoted.{FitsSlots, KeepsMirror};
 ghost use Rattle.journal_views.specs.Followed.{AreBound, Follows, bound_in, called_in, bound_after};
 

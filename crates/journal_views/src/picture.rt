@@ -1,7 +1,7 @@
 //! The text of a picture.
 ghost use Rattle.std.specs.Prelude.{◌≡◌, ◌≤◌, ◌<◌, ◌+◌, ◌-◌, ◌*◌, ◌++◌, ◌^◌, IfOk, IfSome, OnOk, length, string_bytes, take};
 ghost use Rattle.mq_model.specs.Record.{first};
-ghost use Rattle.journal_views.specs.Picture.{arrow_text, bar_text, column, ends_text, entries_text, flight_text, front_text, head_text, heads, heads_text, kind, lane_text, last_text, left_out_text, line_down, mark_front, mark_text, name_front, name_text, note_text, number_text, picture_text, record_text};
+ghost use Rattle.journal_views.specs.Picture.{arrow_text, bar_text, column, ends_text, entries_text, flight_text, front_text, head_text, heads_text, kind, lane_text, last_text, left_out_text, line_down, mark_front, mark_text, name_front, name_text, note_text, number_text, picture_text, record_text};
 ghost use Rattle.std.specs.List.{flat_map};
 
 use crate::found::{count_below, name_by, processes};

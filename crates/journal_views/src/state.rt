@@ -2,7 +2,6 @@
 #![tactic(auto, using(crate::proofs::Lists::lists))]
 
 ghost use Rattle.std.specs.Prelude.{◌≡◌, ◌++◌, IfOk, OnOk, length, map};
-ghost use Rattle.mq_model.specs.Record.{first};
 ghost use Rattle.mq_model.specs.Names.{attributes, name_of};
 ghost use Rattle.mq_model.specs.Descriptors.{held, is_named};
 ghost use Rattle.mq_model.specs.Notices.{notices, registered};

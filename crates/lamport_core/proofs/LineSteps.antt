@@ -1,6 +1,6 @@
 -- Each step follows a line, and an attempt along lines takes five steps to Fast and at least n + 7
 -- to Slow.
-use Rattle.std.proofs.Common.{◌≡◌, ◌==◌, ◌<◌, ◌≤◌, ◌+◌, ◌^◌, ◌⊎◌, ℕ, Bool, true, false, cond, refl, sym, subst, inl, inr, arith}
+use Rattle.std.proofs.Common.{◌≡◌, ◌==◌, ◌<◌, ◌≤◌, ◌+◌, ◌^◌, ◌⊎◌, ℕ, Bool, cond, refl, sym, subst, inl, inr, arith}
 use Rattle.std.proofs.lemmas.Bool.Decides.{eqb_tells}
 use Rattle.lamport_core.specs.State.{State, IsProcess, process_count, point_of, flag_of, next, step_from, with_process, of_process, after_TestY, after_AwaitY, after_TestX, after_Scan, after_SlowY, after_SlowAwait}
 use Rattle.lamport_core.specs.Safe.{IsSafe, IsPoint}
@@ -11,8 +11,7 @@ use Rattle.lamport_core.specs.declared.At.TheVariants.{Rest, Start, SetX, TestY,
 
 -- one of two points, by a test
 either : (t : Bool) (p q : At) → (cond t p q ≡ p) ⊎ (cond t p q ≡ q)
-either true p q = inl refl
-either false p q = inr refl
+either t p q = grind arith
 
 pub line_TestY : (n v : ℕ) → IsLine n TestY (after_TestY v)
 line_TestY n v = either (v == 0) SetY BackB
@@ -30,11 +29,7 @@ pub line_SlowAwait : (n v : ℕ) → IsLine n SlowAwait (after_SlowAwait v)
 line_SlowAwait n v = either (v == 0) Start SlowAwait
 
 pub line_Scan : (n j : ℕ) (f : Bool) → IsProcess n j → IsLine n (Scan j) (after_Scan n j f)
-line_Scan n j true p = inl refl
-line_Scan n j false p = elim (eqb_tells j n) [
-  | inl e ↦ subst (λ t. IsLine n (Scan j) (cond t SlowY (Scan (j + 1)))) (sym e.0) (inr (inl (e.1, refl)))
-  | inr e ↦ let lt : j < n = omega arith in subst (λ t. IsLine n (Scan j) (cond t SlowY (Scan (j + 1)))) (sym e.0) (inr (inr (lt, refl)))
-]
+line_Scan n j f p = grind (arith, eqb_tells)
 
 -- the point of process i after a step from P
 module _ (w : State) (i : ℕ) (s : IsSafe w) (p : IsProcess (process_count w) i) where

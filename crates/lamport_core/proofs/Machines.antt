@@ -1,5 +1,6 @@
 -- What the code does to its vectors is what the definitions say of lists by process.
-use Rattle.std.proofs.Common.{◌≡◌, ◌<◌, ◌-◌, ◌^◌, ℕ, zero, suc, Bool, List, length, get_or, sym, ap, ◌∙◌, subst, arith}
+use Rattle.std.proofs.lemmas.Grind.{common_steps}
+use Rattle.std.proofs.Common.{◌≡◌, ◌<◌, ◌-◌, ℕ, Bool, List, length, get_or, sym, ap, ◌∙◌, subst, arith}
 use Rattle.std.proofs.Math.ListN.{set}
 use Rattle.std.proofs.lemmas.List.{get_or_read}
 use Rattle.lamport_core.specs.State.{State, IsProcess, of_process, with_process, step_from, next}
@@ -11,22 +12,14 @@ use Rattle.lamport_core.proofs.Worlds.{next_safe, count-next, length-with}
 
 -- what is read at place i - 1 is what process i has
 pub of_process_read : {A : Type 0} (d : A) (xs : List A) (i : ℕ) (x : A) → IsProcess (length xs) i → x ≡ get_or xs (i - 1) x → x ≡ of_process d xs i
-of_process_read d xs zero x p e = absurd (omega arith)
-of_process_read d xs (suc k) x p e =
-    let place : suc k - 1 ≡ k = omega arith in
-    get_or_read xs k x (omega arith) (subst (λ j. x ≡ get_or xs j x) place e) d
+of_process_read d xs i x p e = grind (arith, get_or_read)
 
 -- a write at index i - 1 gives process i its item
 pub set_place : {A : Type 0} (xs : List A) (i : ℕ) (v : A) → 0 < i → set xs (i - 1) v ≡ with_process xs i v
-set_place xs zero v h = absurd (omega arith)
-set_place xs (suc k) v h = let place : suc k - 1 ≡ k = omega arith in ap (λ j. set xs j v) place
+set_place xs i v h = grind (arith, set)
 
 pub stepped_sound : (m : Machine) (i : ℕ) → IsSound m → IsProcess (count m) i → IsSound (stepped m i)
-stepped_sound m i s p = record {
-  safe = next_safe m.state i s.safe p;
-  counts = length-with m.steps i (one_more (of_process 0 m.steps i)) ∙ s.counts ∙ sym (count-next m.state i);
-  numbered = let e = count-next m.state i in let h = s.numbered in subst (λ n. n < 2 ^ 32) (sym e) h;
-}
+stepped_sound m i s p = grind (arith, common_steps, next_safe, length-with, count-next)
 
 module _ (x y x' y' : ℕ) (flags flags' fs : List Bool) (points : List At) (steps : List ℕ) (i : ℕ) (p q : At) (had now : ℕ) where
   pub step_is : IsSound (record { state = state_of x y flags points; steps = steps }) → IsProcess (length flags) i → fs ≡ flags' → p ≡ get_or points (i - 1) p → ((ps : List At) → state_of x' y' flags' (with_process ps i q) ≡ step_from p (state_of x y flags ps) i) → had ≡ get_or steps (i - 1) had → now ≡ one_more had → ◌≡◌ {A = Machine} (record { state = state_of x' y' fs (set points (i - 1) q); steps = set steps (i - 1) now }) (stepped (record { state = state_of x y flags points; steps = steps }) i)

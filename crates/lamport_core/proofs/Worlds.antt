@@ -1,35 +1,24 @@
 -- Each step keeps the condition on worlds, so each world that a schedule leads to has it.
-use Rattle.std.proofs.Common.{◌≡◌, ◌≢◌, ℕ, zero, suc, Bool, true, false, cond, List, [], ◌∷◌, length, replicate, refl, sym, ap, ◌∙◌, subst, inl, inr, arith}
+use Rattle.std.proofs.Common.{◌≡◌, ◌≢◌, ℕ, Bool, true, false, cond, List, [], ◌∷◌, length, replicate, refl, sym, ap, ◌∙◌, subst, arith}
 use Rattle.std.proofs.lemmas.Bool.{cases_lt, eq-eqb}
 use Rattle.std.proofs.Math.ListN.{set}
 use Rattle.lamport_core.specs.Machine.{state_of}
 use Rattle.std.proofs.lemmas.List.{get_or-set_same, get_or-set_other, length-set, get_or-replicate, get_or_past, length-replicate, set-set, set-get_or}
 use Rattle.lamport_core.specs.State.{State, IsWorld, after_TestX, IsProcess, IsSchedule, of_process, with_process, process_count, point_of, flag_of, with_point, with_flag, step_from, next, run, start, IsInside, Reach}
-use Rattle.lamport_core.specs.Safe.{Safe, IsSafe, Moves, Sets, FlagFits, IsPoint, IsAhead}
+use Rattle.lamport_core.specs.Safe.{Safe, IsSafe, Moves, Sets, FlagFits}
 use Rattle.lamport_core.proofs.Steps
 use Rattle.lamport_core.proofs.Along.{one_inside_at}
 use Rattle.lamport_core.specs.declared.At.{At}
 use Rattle.lamport_core.specs.declared.At.TheVariants.{Rest, Start, SetX, TestY, BackB, AwaitY, SetY, TestX, SlowB, Scan, SlowY, SlowAwait, Fast, Slow, Leaving}
 
 pub of-with_same : {A : Type 0} (d : A) (xs : List A) (i : ℕ) (v : A) → IsProcess (length xs) i → of_process d (with_process xs i v) i ≡ v
-of-with_same d xs zero v p = absurd (omega arith)
-of-with_same d xs (suc k) v p = get_or-set_same xs k v d (omega arith)
+of-with_same d xs i v p = grind (arith, get_or-set_same)
 
 pub of-with_other : {A : Type 0} (d : A) (xs : List A) (i j : ℕ) (v : A) → j ≢ i → of_process d (with_process xs i v) j ≡ of_process d xs j
-of-with_other d xs zero j v ne = refl
-of-with_other d xs (suc k) zero v ne = refl
-of-with_other d xs (suc k) (suc l) v ne = get_or-set_other xs k l v d (λ e. ne (ap suc e))
+of-with_other d xs i j v ne = grind (arith, get_or-set_other)
 
 pub length-with : {A : Type 0} (xs : List A) (i : ℕ) (v : A) → length (with_process xs i v) ≡ length xs
-length-with xs zero v = refl
-length-with xs (suc k) v = length-set xs k v
-
-of-replicate : {A : Type 0} (d : A) (n i : ℕ) → of_process d (replicate n d) i ≡ d
-of-replicate d n zero = refl
-of-replicate d n (suc k) = elim (cases_lt k n) [
-  | inl h ↦ get_or-replicate n k d d h
-  | inr h ↦ get_or_past (replicate n d) k d (rw length-replicate h)
-]
+length-with xs i v = grind (arith, length-set)
 
 module _ (w : State) (i : ℕ) (s : IsSafe w) (p : IsProcess (process_count w) i) where
   moved : (P Q : At) → point_of w i ≡ P → Moves i P Q (point_of w) (λ j. of_process Rest (with_process w.points i Q) j)
@@ -77,12 +66,7 @@ module _ (w : State) (i : ℕ) (s : IsSafe w) (p : IsProcess (process_count w) i
   next_safe = step_safe (point_of w i) refl
 
 count-step : (P : At) (w : State) (i : ℕ) → process_count (step_from P w i) ≡ process_count w
-count-step Rest w i = length-with w.flags i true
-count-step Start w i = length-with w.flags i true
-count-step BackB w i = length-with w.flags i false
-count-step SlowB w i = length-with w.flags i false
-count-step Leaving w i = length-with w.flags i false
-count-step _ w i = refl
+count-step P w i = grind (arith, length-with)
 
 pub count-next : (w : State) (i : ℕ) → process_count (next w i) ≡ process_count w
 count-next w i = count-step (point_of w i) w i
@@ -93,23 +77,10 @@ run_safe w (i ∷ is) s p = run_safe (next w i) is (next_safe w i s p.0) (subst 
 
 -- if each process is at rest, with its flag down
 pub rest_safe : (n x y : ℕ) (b : ℕ → Bool) (at : ℕ → At) → ((i : ℕ) → at i ≡ Rest) → ((i : ℕ) → b i ≡ false) → Safe n x y b at
-rest_safe n x y b at rest down = record {
-  process = λ i h. absurd (h (rest i));
-  point = λ i. subst (IsPoint n) (sym (rest i)) tt;
-  flag = λ i. subst (λ p. FlagFits p (b i)) (sym (rest i)) (down i);
-  slow = λ i e. absurd (let h = sym (rest i) ∙ e in cc);
-  fast = λ i e. absurd (let h = sym (rest i) ∙ e in cc);
-  unclaimed = λ i j ne e. absurd (let h = sym (rest i) ∙ e in cc);
-  claimed = λ i e. absurd (let h = sym (rest i) ∙ e in cc);
-  passed = λ i j ne h. absurd (subst IsAhead (rest i) h);
-  one_fast = λ i j e. absurd (let h = sym (rest i) ∙ e in cc);
-}
+rest_safe n x y b at rest down = grind arith
 
 pub start_safe : (n : ℕ) → IsSafe (start n)
-start_safe n = record {
-  same_count = length-replicate n Rest ∙ sym (length-replicate n false);
-  safe = rest_safe _ _ _ _ _ (of-replicate Rest n) (of-replicate false n);
-}
+start_safe n = grind (arith, length-replicate, rest_safe, cases_lt, get_or-replicate, get_or_past)
 
 pub reach_safe : (n : ℕ) (w : State) → Reach n w → IsSafe w
 reach_safe n w r = subst IsSafe (sym r.ends) (run_safe (start n) r.schedule (start_safe n) (subst (λ m. IsSchedule m r.schedule) (sym (length-replicate n false)) r.processes))
@@ -119,12 +90,10 @@ pub one_inside : (w : State) (i j : ℕ) → IsSafe w → IsInside w i → IsIns
 one_inside w i j s = one_inside_at _ _ _ _ _ s.safe i j
 
 with-with : {A : Type 0} (xs : List A) (i : ℕ) (a b : A) → with_process (with_process xs i a) i b ≡ with_process xs i b
-with-with xs zero a b = refl
-with-with xs (suc k) a b = set-set xs k a b
+with-with xs i a b = grind (arith, set-set)
 
-with-of : {A : Type 0} (d : A) (xs : List A) (i : ℕ) (a : A) → of_process d xs i ≡ a → with_process xs i a ≡ xs
-with-of d xs zero a e = refl
-with-of d xs (suc k) a e = ap (λ v. set xs k v) (sym e) ∙ set-get_or xs k d
+pub with-of : {A : Type 0} (d : A) (xs : List A) (i : ℕ) (a : A) → of_process d xs i ≡ a → with_process xs i a ≡ xs
+with-of d xs i a e = grind (arith, set, set-get_or)
 
 next_at : (w : State) (i : ℕ) (P : At) → point_of w i ≡ P → next w i ≡ step_from P w i
 next_at w i P e = ap (λ p. step_from p w i) e

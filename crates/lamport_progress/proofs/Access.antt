@@ -16,7 +16,7 @@ use Rattle.lamport_progress.proofs.Rounds.{Pending, pending_next}
 use Rattle.lamport_progress.proofs.Helping.{set_y_entering}
 use Rattle.lamport_progress.proofs.Entries.{occupied_or_not, leaves, schedule-append, inside-ne-Rest}
 use Rattle.lamport_core.specs.declared.At.{At}
-use Rattle.lamport_core.specs.declared.At.TheVariants.{Rest, Start, SetX, TestY, BackB, AwaitY, SetY, TestX, SlowB, Scan, SlowY, SlowAwait, Fast, Slow, Leaving}
+use Rattle.lamport_core.specs.declared.At.TheVariants.{Rest, SetX, TestY, BackB, AwaitY, SetY, TestX, SlowB, Scan, SlowY, SlowAwait, Fast, Slow, Leaving}
 
 -- the number of processes that are not at rest
 abbrev begun : At → ℕ
@@ -31,8 +31,6 @@ begun_is P ne = grind arith
 
 -- a step moves its own process
 points_from : (P : At) (w : State) (i : ℕ) → (Q : At) × ((step_from P w i).points ≡ with_process w.points i Q)
-points_from Rest w i = (SetX, refl)
-points_from Start w i = (SetX, refl)
 points_from SetX w i = (TestY, refl)
 points_from TestY w i = (after_TestY w.y, refl)
 points_from BackB w i = (AwaitY, refl)
@@ -46,6 +44,7 @@ points_from SlowAwait w i = (after_SlowAwait w.y, refl)
 points_from Fast w i = (Leaving, refl)
 points_from Slow w i = (Leaving, refl)
 points_from Leaving w i = (Rest, refl)
+points_from _ w i = (SetX, refl)
 
 module _ (n : ℕ) (w : State) (j : ℕ) (s : IsSound n w) (p : IsProcess n j) where
   in_points : IsProcess (length w.points) j

@@ -1,20 +1,15 @@
 -- Each step of a process that is not in its critical section waits, which leaves the world
 -- unchanged, or lowers the measure.
-use Rattle.std.proofs.Common.{◌≡◌, ◌==◌, ◌<◌, ◌⊎◌, ℕ, Bool, List, length, refl, sym, ap, subst, inl, inr, arith}
+use Rattle.std.proofs.Common.{◌≡◌, ◌==◌, ◌<◌, ◌⊎◌, ℕ, Bool, length, refl, sym, ap, subst, inl, inr, arith, ne_eqb}
 use Rattle.std.specs.List.{sum_by}
-use Rattle.std.proofs.lemmas.Bool.{ne_eqb}
-use Rattle.std.proofs.lemmas.List.{set-get_or}
-use Rattle.lamport_core.specs.State.{State, IsProcess, IsInside, IsInsidePoint, process_count, point_of, next, step_from, with_process, with_point, with_flag, of_process}
+use Rattle.lamport_core.specs.State.{State, IsProcess, IsInside, IsInsidePoint, process_count, point_of, next, step_from, with_process, with_point, with_flag}
 use Rattle.lamport_core.specs.Machine.{state_of}
 use Rattle.lamport_core.specs.Safe.{IsSafe, IsPoint}
-use Rattle.lamport_core.proofs.Worlds.{length-with}
+use Rattle.lamport_core.proofs.Worlds.{length-with, with-of}
 use Rattle.lamport_progress.proofs.Sums.{total_less}
 use Rattle.lamport_progress.proofs.Measure.{rank, free_rank, taken_rank, measure, lower, taken-le-rank}
 use Rattle.lamport_core.specs.declared.At.{At}
 use Rattle.lamport_core.specs.declared.At.TheVariants.{Rest}
-
-pub with-of : {A : Type 0} (d : A) (xs : List A) (i : ℕ) (a : A) → of_process d xs i ≡ a → with_process xs i a ≡ xs
-with-of d xs i a e = grind (arith, set-get_or)
 
 -- what such a step can change in w
 abbrev pub Outcome : State → State → Type 0

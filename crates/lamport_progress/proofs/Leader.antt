@@ -1,16 +1,11 @@
 -- The process that takes the next step on the way into a critical section: process 1 while y is 0,
 -- else the process that y names; or, if that one waits in its scan, the process whose flag it waits
 -- for.
-use Rattle.std.proofs.Common.{◌≡◌, ◌≢◌, ◌<◌, ◌≤◌, ◌+◌, ◌⊎◌, ℕ, List, [], ◌∷◌, ◌++◌, length, refl, sym, ap, ◌∙◌, subst, arith, length-append}
+use Rattle.std.proofs.Common.{◌≡◌, ◌<◌, ◌≤◌, ◌+◌, ℕ, List, [], ◌∷◌, ◌++◌, length, refl, sym, ap, ◌∙◌, subst, arith, length-append}
 use Rattle.lamport_core.specs.State.{State, IsProcess, IsSchedule, process_count, next, run, start}
 use Rattle.lamport_progress.specs.Progress.{IsOccupied, IsEnabled, work_bound}
 use Rattle.lamport_progress.proofs.Measure.{measure}
 use Rattle.lamport_progress.proofs.Work.{IsSound, reach_sound, one_step, sound_next, sound-measure-le}
-use Rattle.lamport_core.specs.declared.At.{At}
-use Rattle.lamport_core.specs.declared.At.TheVariants.{Rest}
-
-rest_or_not : (P : At) → (P ≡ Rest) ⊎ (P ≢ Rest)
-rest_or_not P = grind arith
 
 -- one more step at the end of a schedule
 pub run_push : (w : State) (is : List ℕ) (i : ℕ) → run w (is ++ i ∷ []) ≡ next (run w is) i

@@ -2,6 +2,7 @@
 -- critical section, and that at each time some process helps: its step lowers the measure, and it
 -- keeps helping while steps of others leave the measure unchanged. Then each fair round lowers the
 -- measure, or some process enters its critical section in it.
+use Rattle.std.proofs.lemmas.Bool.Decides.{nat_tests}
 use Rattle.std.proofs.Common.{◌≡◌, ◌≢◌, ◌<◌, ◌≤◌, ◌⊎◌, ℕ, List, [], ◌∷◌, ◌++◌, length, get_or, sym, subst, inl, inr, arith}
 use Rattle.std.proofs.lemmas.Bool.{cases_eq}
 use Rattle.std.specs.List.{Contains, concat}
@@ -65,10 +66,7 @@ held_next : (n p i : ℕ) (w : State) → Held n p w → IsProcess n i →
     IsOccupied (next w i) ⊎ Held n p (next w i)
 held_next n p i w c q = elim (pending_next n p i w c.pending q) [
   | inl h ↦ inl h
-  | inr d ↦ inr (record {
-    pending = d;
-    taken = taken_from (point_of w i) w i q.0 (λ h. c.pending.outside (i, h)) c.taken;
-  })
+  | inr d ↦ grind (arith, nat_tests, taken_from)
 ]
 
 leads-append : (w : State) (is js : List ℕ) → LeadsInside w is → LeadsInside w (is ++ js)

@@ -29,8 +29,7 @@ schedule_round_robin n (suc k) le = ((omega arith, le), schedule_round_robin n k
 
 turns : (n k : ℕ) (w : State) → IsSafe w → process_count w ≡ n → AreFairRounds n w (replicate k (round_robin n))
 turns n zero w s e = tt
-turns n (suc k) w s e =
-    grind (arith, schedule_round_robin, contains_round_robin, run_safe, count-run, turns n k)
+turns n (suc k) w s e = grind (arith, schedule_round_robin, contains_round_robin, run_safe, count-run, turns n k)
 
 pub round_robin_enters : (n : ℕ) (w : State) (i : ℕ) → Reach n w → IsEntering (point_of w i) → Enters w (concat (replicate (round_bound n) (round_robin n)))
 round_robin_enters n w i r on =

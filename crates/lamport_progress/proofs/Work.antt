@@ -1,6 +1,7 @@
 -- While no process is in its critical section, each step that changes the world lowers the measure.
 -- So a schedule in which no step waits takes some process into its critical section, and such steps
 -- exist from each world.
+use Rattle.std.proofs.lemmas.Grind.{common_steps}
 use Rattle.std.proofs.Common.{false, ◌≡◌, ◌≢◌, ◌<◌, ◌≤◌, ◌⊎◌, ℕ, zero, suc, List, [], ◌∷◌, length, refl, sym, ap, ◌∙◌, subst, inl, inr, arith}
 use Rattle.std.proofs.lemmas.List.{length-replicate}
 use Rattle.lamport_core.specs.State.{State, Reach, IsProcess, IsSchedule, IsInsidePoint, process_count, point_of, next, run, start}
@@ -23,12 +24,7 @@ pub record IsSound (n : ℕ) (w : State) : Type 0 where
   pub counts : process_count w ≡ n
 
 pub sound_next : (n : ℕ) (w : State) (i : ℕ) → IsSound n w → IsProcess n i → IsSound n (next w i)
-sound_next n w i s p =
-    let q = subst (λ m. IsProcess m i) (sym s.counts) p in record {
-      safe = next_safe w i s.safe q;
-      owned = owned_next w i s.safe q s.owned;
-      counts = count-next w i ∙ s.counts;
-    }
+sound_next n w i s p = grind (arith, common_steps, next_safe, owned_next, count-next)
 
 pub count-run : (w : State) (is : List ℕ) → process_count (run w is) ≡ process_count w
 count-run w [] = refl
@@ -61,7 +57,7 @@ steps_lead n (i ∷ is) w s p b lt = elim (one_step n w i s p.0) [
 pub work : (n : ℕ) (w : State) (is : List ℕ) → IsSound n w → IsSchedule n is → NeverWaits w is → work_bound n < length is → LeadsInside w is
 work n w is s p b lt = grind (arith, measure-le, steps_lead)
 
-rest_or_not : (p : At) → (p ≡ Rest) ⊎ (p ≢ Rest)
+pub rest_or_not : (p : At) → (p ≡ Rest) ⊎ (p ≢ Rest)
 rest_or_not p = grind arith
 
 -- some process is enabled in each world of one process or more

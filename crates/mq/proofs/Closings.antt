@@ -1,4 +1,5 @@
 -- Closing the lowest descriptor again and again.
+use Rattle.std.proofs.lemmas.Bool.Decides.{nat_tests}
 use Rattle.std.proofs.Common.{◌≡◌, ◌≢◌, ℕ, zero, suc, ◌+◌, ◌<◌, ◌≤◌, ◌==◌, Bool, true, false, List, [], ◌∷◌, Option, Some, None, is_some, refl, ap, sym, subst, ◌∙◌, arith, eqb, eq-eqb, rules}
 use Rattle.std.specs.List.{find, All}
 use Rattle.std.proofs.lemmas.List.Elements.{All-nil, All-cons}
@@ -44,10 +45,7 @@ from-closed past p d was e is =
     split (d == e)
     (λ here. let gone : held (recorded p (MqClose d) [] Done ∷ past) p e ≡ None = rw (eq-eqb p p refl, here) refl in
     absurd (let bad : false ≡ true = rw gone at (x.0) in cc))
-    (λ differ. let same : held (recorded p (MqClose d) [] Done ∷ past) p e ≡ held past p e = rw (eq-eqb p p refl, differ) refl in
-    let still : is_some (held past p e) ≡ true = rw same at (x.0) in
-    let le = lowest-first past p d e was still in
-    let ne : d ≡ e → ⊥ = eqb-false _ _ differ in omega (arith, le))
+    (λ differ. grind (arith, nat_tests, eq-eqb, lowest-first, eqb-false))
 
 -- none of the 16 is held
 pub from-end : (past : Past) (p : ℕ) → IsFrom past p 16 → lowest_held past p ≡ None

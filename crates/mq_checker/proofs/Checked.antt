@@ -1,6 +1,5 @@
 -- Legal journals, record by record.
-use Rattle.std.proofs.Common.{◌≡◌, Bool, ◌&&◌, ◌∷◌, sym, ◌∙◌, IsTrue}
-use Rattle.std.specs.Prelude.{nat_le}
+use Rattle.std.proofs.Common.{◌≡◌, Bool, ◌&&◌, ◌∷◌, IsTrue, arith, nat_le}
 use Rattle.std.proofs.lemmas.Bool.{and_parts, and_from}
 use Rattle.mq_model.specs.Record.{Record, Past}
 use Rattle.mq_model.specs.Legality.{reply_to, is_payload, may_call, Legal}
@@ -9,11 +8,4 @@ use Rattle.mq_model.specs.Legality.{reply_to, is_payload, may_call, Legal}
 pub legal_by : (past : Past) (r : Record) (process turn fits same : Bool) → Legal past → process ≡ (nat_le 1 r.entry.process && nat_le r.entry.process 32) → turn ≡ may_call past r.entry.process r.entry.call → fits ≡ is_payload r.entry.call r.entry.reply r.payload →
     (IsTrue same → r.entry.reply ≡ reply_to past r.entry.process r.entry.call r.payload) × (r.entry.reply ≡ reply_to past r.entry.process r.entry.call r.payload → IsTrue same) →
     (IsTrue (process && turn && fits && same) → Legal (r ∷ past)) × (Legal (r ∷ past) → IsTrue (process && turn && fits && same))
-legal_by past r process turn fits same before p t f s = (
-  λ all.
-      let one = and_parts (process && turn && fits) same all in
-      let two = and_parts (process && turn) fits one.0 in
-      let three = and_parts process turn two.0 in
-      (before, record { process = sym p ∙ three.0; turn = sym t ∙ three.1; payload = sym f ∙ two.1; reply = s.0 one.1 }),
-  λ legal. and_from (process && turn && fits) same (and_from (process && turn) fits (and_from process turn (p ∙ legal.1.process) (t ∙ legal.1.turn)) (f ∙ legal.1.payload)) (s.1 legal.1.reply),
-)
+legal_by past r process turn fits same before p t f s = grind (arith, and_parts, and_from)

@@ -1,7 +1,7 @@
 -- The entry at a place.
-use Rattle.std.proofs.Common.{◌≡◌, ◌≢◌, ℕ, ◌+◌, ◌<◌, ◌==◌, List, [], ◌∷◌, length, Option, Some, None, refl, ◌∙◌, ap, arith}
+use Rattle.std.proofs.Common.{◌≡◌, ◌≢◌, ℕ, ◌+◌, ◌<◌, ◌==◌, List, [], ◌∷◌, length, Some, None, arith}
 use Rattle.std.proofs.lemmas.Bool.{eqb-false}
-use Rattle.std.specs.Option.{option_map, unwrap_or}
+use Rattle.std.specs.Option.{option_map}
 use Rattle.mq_model.specs.Record.{Record, Past, first, record_at}
 use Rattle.mq_model.specs.Names.{name_of}
 use Rattle.mq_model.specs.declared.entries.Entry.{Entry}
@@ -13,16 +13,7 @@ recorded e payload = record { entry = e; payload = payload }
 
 pub entry-here : (past : Past) (place : ℕ) (e : Entry) → Some e ≡ option_map (λ r. r.entry) (record_at past place) →
     first (place + 1) past ≡ record { entry = e; payload = name_of past place } ∷ first place past
-entry-here past place e is =
-    let goes : (o : Option Record) → record_at past place ≡ o → Some e ≡ option_map (λ (r : Record). r.entry) o → first (place + 1) past ≡ recorded e (unwrap_or (option_map (λ (r : Record). r.payload) o) []) ∷ first place past =
-    λ (o : Option Record). elim o as (λ o. record_at past place ≡ o → Some e ≡ option_map (λ (r : Record). r.entry) o → first (place + 1) past ≡ recorded e (unwrap_or (option_map (λ (r : Record). r.payload) o) []) ∷ first place past) [
-      | None ↦ (λ found is. absurd (cc))
-      | Some r ↦ (λ found is.
-          let same : r.entry ≡ e = cc in
-          first-more past place r found ∙ ap (λ (x : Entry). recorded x r.payload ∷ first place past) same)
-    ]
-    in
-    goes (record_at past place) refl is
+entry-here past place e is = grind (arith, first-more)
 
 pub entry-there : (past : Past) (place : ℕ) → place < length past → None ≡ option_map (λ (r : Record). r.entry) (record_at past place) → ⊥
 entry-there [] place lt e = absurd (omega arith)

@@ -9,7 +9,7 @@ ghost use Rattle.mq_model.specs.Descriptors.{held, created, alive, lowest_free};
 ghost use Rattle.mq_model.specs.Messages.{is_in, present, best, least, waiting_sends, waiting_receives};
 ghost use Rattle.mq_model.specs.Names.{attributes, bound_queue};
 ghost use Rattle.mq_model.specs.Notices.{registered_place};
-ghost use Rattle.mq_model.specs.Legality.{reply_to_open, reply_to_send, reply_to_receive, reply_to_attributes, reply_to_notify, status_facts, reply_to, Legal};
+ghost use Rattle.mq_model.specs.Legality.{reply_to_open, reply_to_send, reply_to_receive, reply_to_attributes, reply_to_notify, reply_to, Legal};
 ghost use Rattle.mq_checker.specs.CheckerTables.{TablesMirror};
 
 use crate::scan_messages::{best, present_count};

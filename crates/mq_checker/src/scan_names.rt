@@ -4,8 +4,8 @@
 ghost use Rattle.std.specs.Prelude.{◌≡◌, ◌+◌, ◌<◌, ◌≤◌, ◌∷◌, length};
 ghost use Rattle.mq_model.specs.Record.{first, record_at};
 ghost use Rattle.std.specs.Option.{option_map};
-ghost use Rattle.mq_model.specs.Names.{is_open, is_unlink, creates, unlinks, bound_queue, name_of, attributes};
-ghost use Rattle.mq_model.specs.Descriptors.{opened_queue, held, descriptor_of, called_queue, is_place, is_named, alive};
+ghost use Rattle.mq_model.specs.Names.{creates, unlinks, bound_queue, name_of, attributes};
+ghost use Rattle.mq_model.specs.Descriptors.{opened_queue, held, called_queue, is_place, is_named, alive};
 ghost use Rattle.mq_checker.specs.CheckerTables.{TablesMirror};
 
 use crate::tables::{Tables, is_held};

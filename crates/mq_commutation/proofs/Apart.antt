@@ -1,5 +1,5 @@
 -- Calls of different processes on different queues commute.
-use Rattle.std.proofs.Common.{◌≡◌, ◌⊎◌, inl, inr, ℕ, ◌<◌, Bool, true, false, ◌&&◌, ◌||◌, List, ◌∷◌, length, Option, Some, None, is_some, sym, ◌∙◌, ap, subst, arith}
+use Rattle.std.proofs.Common.{◌≡◌, ◌⊎◌, inl, inr, ℕ, ◌<◌, Bool, true, false, ◌&&◌, ◌||◌, List, ◌∷◌, length, Option, Some, None, is_some, sym, ◌∙◌, ap, subst, arith, rules}
 use Rattle.mq_model.specs.Record.{Past}
 use Rattle.mq_model.specs.Descriptors.{held, is_place}
 use Rattle.mq_model.specs.Messages.{is_in}
@@ -17,7 +17,6 @@ use Rattle.mq_equivalence.specs.Views.{Message}
 use Rattle.mq_equivalence.proofs.Falling.{foremost}
 use Rattle.mq_equivalence.specs.Outline.{outline}
 use Rattle.mq_equivalence.specs.Runs.{Request}
-use Rattle.mq_equivalence.proofs.Structure.{alive-below}
 use Rattle.mq_commutation.specs.Independence.{differ, only_reads, whose_notices, whose_notices_by, reply_of, notified_registration, queue_touched}
 use Rattle.mq_equivalence.proofs.Notified.{after_notices, notices-step}
 use Rattle.mq_commutation.specs.Commuting.{Commute, is_covered, record_for}
@@ -26,6 +25,7 @@ use Rattle.mq_commutation.proofs.Structure.{held-other}
 use Rattle.mq_commutation.proofs.Frames.{AnswersOn, acts-cases, acts_on, answered-same, answered_at, looks, notices-off, stays-at, stays-look, told-same}
 use Rattle.mq_commutation.proofs.Orders.{Order, apart-back, apart-clash, apart-off, both, commute-by, next-b, on_of, paid, paid-b, queue-back, queue-cases, the-place, touched-is}
 use Rattle.mq_commutation.proofs.Steps.{both-told, message-same, shapes, steps-at}
+use Rattle.mq_state.proofs.QueuesKeep.{alive-below}
 
 -- two covered calls of different processes, on different queues or both only reading, that change
 -- the notices of different processes
@@ -42,17 +42,7 @@ pub record Two (past : Past) (a b : Request) : Type 0 where
   pub apart : AreSeparate past a b
 
 swap : (past : Past) (a b : Request) → Two past a b → Two past b a
-swap past a b t = record {
-  legal = t.legal;
-  first = t.second;
-  second = t.first;
-  apart = record {
-    processes = λ e. t.apart.processes (sym e);
-    calls = (t.apart.calls.1, t.apart.calls.0);
-    queues = queue-back (differ (queue_touched past a) (queue_touched past b)) (differ (queue_touched past b) (queue_touched past a)) (only_reads a.call) (only_reads b.call) (apart-back (queue_touched past a) (queue_touched past b)) t.apart.queues;
-    notices = apart-back (whose_notices past a) (whose_notices past b) t.apart.notices;
-  };
-}
+swap past a b t = search (rules, queue-back, apart-back)
 
 module _ (past : Past) (a b : Request) (t : Two past a b) where
   abbrev between : Past

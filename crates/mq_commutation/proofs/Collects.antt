@@ -1,19 +1,16 @@
 -- A collect and a call of another process commute.
-use Rattle.std.proofs.Common.{◌≡◌, ℕ, ◌<◌, ◌≤◌, ◌==◌, Bool, true, false, ◌&&◌, not, List, [], ◌∷◌, length, map, Option, Some, None, is_some, is_none, if◌then◌else◌, refl, sym, ◌∙◌, ap, subst, arith, eqb-true, ne_eqb}
+use Rattle.std.proofs.Common.{◌≡◌, ℕ, ◌≤◌, ◌==◌, Bool, true, false, not, List, [], ◌∷◌, length, map, Option, Some, None, is_some, if◌then◌else◌, refl, sym, ◌∙◌, ap, subst, arith, eqb-true}
 use Rattle.std.proofs.lemmas.Bool.{eqb-false}
-use Rattle.std.specs.List.{filter, find}
+use Rattle.std.specs.List.{filter}
 use Rattle.std.specs.Option.{option_map, unwrap_or}
 use Rattle.mq_model.specs.Record.{Record, Past}
 use Rattle.mq_model.specs.Names.{bound_queue}
-use Rattle.mq_model.specs.Descriptors.{alive, called_queue, descriptor_numbers, held, is_on, is_place}
-use Rattle.mq_model.specs.Messages.{blocked_receives, blocked_sends, ended_receives, ended_sends, is_in}
-use Rattle.mq_model.specs.Notices.{gives_notice, notices, only_if, or_else, registered, registration_of}
+use Rattle.mq_model.specs.Descriptors.{alive, called_queue, held, is_place}
+use Rattle.mq_model.specs.Messages.{ended_receives, ended_sends, is_in}
+use Rattle.mq_model.specs.Notices.{gives_notice, notices}
 use Rattle.mq_model.specs.Waits.{answered_by, is_wait, open_wait, wait_deadline}
 use Rattle.mq_model.specs.Deadlines.{deadline_of}
-use Rattle.mq_model.specs.ErrorOrder.{open_reply}
 use Rattle.mq_model.specs.Legality.{IsLegalNext, Legal, may_call, payload_of, reply_to}
-use Rattle.mq_model.specs.declared.entries.Entry.{Entry}
-use Rattle.mq_model.specs.declared.entries.Registration.{Registration}
 use Rattle.mq_model.specs.declared.entries.Call.{Call}
 use Rattle.mq_model.specs.declared.entries.Call.TheVariants.{MqOpen, MqUnlink, Collect}
 use Rattle.mq_model.specs.declared.entries.Reply.{Reply}
@@ -21,7 +18,6 @@ use Rattle.mq_model.specs.declared.entries.Reply.TheVariants.{Opened, Collected,
 use Rattle.mq_model.proofs.Places.{split}
 use Rattle.mq_model.proofs.Cases.{Says}
 use Rattle.mq_model.proofs.Frames.{attributes-older}
-use Rattle.mq_model.proofs.HeldQueues.{called-alive}
 use Rattle.mq_model.proofs.LegalReplies.{legal_says}
 use Rattle.mq_model.proofs.PresentFew.{present-new}
 use Rattle.mq_model.proofs.Alive.{alive-same_queues, rec}
@@ -34,47 +30,19 @@ use Rattle.mq_equivalence.specs.Equivalence.{Equivalent}
 use Rattle.mq_equivalence.specs.Runs.{Request, after_calls}
 use Rattle.mq_equivalence.proofs.Calls.{collected-alike}
 use Rattle.mq_equivalence.proofs.Correspondence.{corresponds-self}
-use Rattle.mq_equivalence.proofs.Structure.{alive-below, structure-stays}
+use Rattle.mq_equivalence.proofs.Structure.{structure-stays}
 use Rattle.mq_equivalence.proofs.Effects.{after_answer, after_contents, after_receivers, after_senders, answer-step, contents-step, is_withdrawn, receivers-step, senders-step}
 use Rattle.mq_equivalence.proofs.Notified.{after_notices, notices-step, notified_as}
 use Rattle.mq_equivalence.proofs.Registrations.{after_registered, registered-step}
-use Rattle.mq_equivalence.proofs.Going.{room-step}
+use Rattle.mq_equivalence.proofs.Going.{room-step, blocked_sends-new, blocked_receives-new}
 use Rattle.mq_commutation.specs.Independence.{are_independent, changes_names}
 use Rattle.mq_commutation.specs.Commuting.{Commute, collect_of, is_covered, is_withdrawal, record_for}
 use Rattle.mq_commutation.proofs.Orders.{option-id, own-two, stays-answered}
 use Rattle.mq_commutation.proofs.Independent.{independent-commute}
+use Rattle.mq_state.proofs.QueuesNoted.{registered-later}
+use Rattle.mq_state.proofs.QueuesKeep.{alive-below}
 
 -- a queue that is not yet created -------------------------------------------------------------------------------------------
-
-off-new : (past : Past) → Legal past → (e : Entry) (q : ℕ) → length past ≤ q → is_on past e q ≡ false
-off-new past legal e q le = by (called_queue past e.process e.call) refl
-  where
-    by : (o : Option ℕ) → called_queue past e.process e.call ≡ o → is_place q (called_queue past e.process e.call) ≡ false
-    by None is = rw is refl
-    by (Some k) is = let low : k < length past = alive-below past k (called-alive past legal e.process e.call k is) in rw is (ne_eqb k q (λ e. omega arith))
-
-and-false : (b : Bool) → (b && false) ≡ false
-and-false true = refl
-and-false false = refl
-
-blocked_sends-new : (past : Past) → Legal past → (q : ℕ) → length past ≤ q → blocked_sends past q ≡ []
-blocked_sends-new [] legal q le = refl
-blocked_sends-new (r ∷ past) legal q le = let off = off-new past legal.0 r.entry q (omega arith) in rw (off, and-false _) (blocked_sends-new past legal.0 q (omega arith))
-
-blocked_receives-new : (past : Past) → Legal past → (q : ℕ) → length past ≤ q → blocked_receives past q ≡ []
-blocked_receives-new [] legal q le = refl
-blocked_receives-new (r ∷ past) legal q le = let off = off-new past legal.0 r.entry q (omega arith) in rw (off, and-false _) (blocked_receives-new past legal.0 q (omega arith))
-
-registered-new : (past : Past) → Legal past → (q : ℕ) → length past ≤ q → registered past q ≡ None
-registered-new [] legal q le = refl
-registered-new (r ∷ past) legal q le =
-    let off = off-new past legal.0 r.entry q (omega arith) in
-    let none = registered-new past legal.0 q (omega arith) in
-    rw (off, none) (by (registration_of (length past) r.entry.process r.entry.call r.entry.reply))
-  where
-    by : (o : Option Registration) → or_else (only_if false o) None ≡ None
-    by None = refl
-    by (Some n) = refl
 
 contents-new : (past : Past) → Legal past → (q : ℕ) → length past ≤ q → contents past q ≡ []
 contents-new past legal q le = ap (λ (ks : List ℕ). lined prio_of (map (at sent past) ks)) (present-new past legal q le)
@@ -106,105 +74,46 @@ is_quiet (Collected b) = true
 is_quiet reply = is_plain reply
 
 still-names : (call : Call) → changes_names call ≡ true → is_still call ≡ true
-still-names (MqOpen flags attr) e = refl
-still-names MqUnlink e = refl
-still-names call e = absurd (let bad : false ≡ true = e in cc)
+still-names call e = grind arith
 
 plain-names : (past : Past) (p : ℕ) (call : Call) (reply : Reply) → changes_names call ≡ true → Says past p call reply → is_plain reply ≡ true
-plain-names past p (MqOpen flags attr) (Opened d created) e says = refl
-plain-names past p (MqOpen flags attr) (Refused fault) e says = refl
-plain-names past p (MqOpen flags attr) reply e says = absurd says
-plain-names past p MqUnlink Done e says = refl
-plain-names past p MqUnlink (Refused fault) e says = refl
-plain-names past p MqUnlink reply e says = absurd says
-plain-names past p call reply e says = absurd (let bad : false ≡ true = e in cc)
+plain-names past p call reply e says = grind arith
 
 quiet-plain : (reply : Reply) → is_plain reply ≡ true → is_quiet reply ≡ true
-quiet-plain (Opened d created) e = refl
-quiet-plain Done e = refl
-quiet-plain (Refused fault) e = refl
-quiet-plain reply e = absurd (let bad : false ≡ true = e in cc)
+quiet-plain reply e = grind arith
 
 on-none : (past : Past) (p : ℕ) (call : Call) (k : ℕ) → is_still call ≡ true → is_place k (called_queue past p call) ≡ false
-on-none past p (MqOpen flags attr) k e = refl
-on-none past p MqUnlink k e = refl
-on-none past p Collect k e = refl
-on-none past p call k e = absurd (let bad : false ≡ true = e in cc)
+on-none past p call k e = grind arith
 
 contents-quiet : (call : Call) (payload : List ℕ) (on : Bool) (reply : Reply) (ss : List (Option Sender)) (cs : List (Option Message)) → is_quiet reply ≡ true → after_contents call payload on reply ss cs ≡ cs
-contents-quiet call payload on (Opened d created) ss cs e = refl
-contents-quiet call payload on (Collected b) ss cs e = refl
-contents-quiet call payload on Done ss cs e = refl
-contents-quiet call payload on (Refused fault) ss cs e = refl
-contents-quiet call payload on reply ss cs e = absurd (let bad : false ≡ true = e in cc)
+contents-quiet call payload on reply ss cs e = grind arith
 
 senders-quiet : (p : ℕ) (call : Call) (payload : List ℕ) (on : Bool) (reply : Reply) (ss : List (Option Sender)) → is_quiet reply ≡ true → after_senders p call payload on reply ss ≡ ss
-senders-quiet p call payload on (Opened d created) ss e = refl
-senders-quiet p call payload on (Collected b) ss e = refl
-senders-quiet p call payload on Done ss e = refl
-senders-quiet p call payload on (Refused fault) ss e = refl
-senders-quiet p call payload on reply ss e = absurd (let bad : false ≡ true = e in cc)
+senders-quiet p call payload on reply ss e = grind arith
 
 receivers-quiet : (p : ℕ) (call : Call) (on : Bool) (reply : Reply) (rs : List (Option ℕ)) → is_quiet reply ≡ true → after_receivers p call on reply rs ≡ rs
-receivers-quiet p call on (Opened d created) rs e = refl
-receivers-quiet p call on (Collected b) rs e = refl
-receivers-quiet p call on Done rs e = refl
-receivers-quiet p call on (Refused fault) rs e = refl
-receivers-quiet p call on reply rs e = absurd (let bad : false ≡ true = e in cc)
+receivers-quiet p call on reply rs e = grind arith
 
 registered-quiet : (p : ℕ) (call : Call) (reply : Reply) (before : Option Registered) → is_still call ≡ true → is_quiet reply ≡ true → after_registered false p call reply before ≡ before
-registered-quiet p call (Opened d created) None still e = refl
-registered-quiet p call (Opened d created) (Some n) still e = refl
-registered-quiet p call (Collected b) None still e = refl
-registered-quiet p call (Collected b) (Some n) still e = refl
-registered-quiet p call (Refused fault) None still e = refl
-registered-quiet p call (Refused fault) (Some n) still e = refl
-registered-quiet p (MqOpen flags attr) Done None still e = refl
-registered-quiet p (MqOpen flags attr) Done (Some n) still e = refl
-registered-quiet p MqUnlink Done None still e = refl
-registered-quiet p MqUnlink Done (Some n) still e = refl
-registered-quiet p Collect Done None still e = refl
-registered-quiet p Collect Done (Some n) still e = refl
-registered-quiet p call Done before still e = absurd (let bad : false ≡ true = still in cc)
-registered-quiet p call reply before still e = absurd (let bad : false ≡ true = e in cc)
+registered-quiet p call reply before still e = grind arith
 
 notices-quiet : (past : Past) (p : ℕ) (call : Call) (reply : Reply) (k : ℕ) (values : List ℕ) → is_quiet reply ≡ true → after_notices p (gives_notice reply) (notified_as past p call reply) k values ≡ values
-notices-quiet past p call (Opened d created) k values e = refl
-notices-quiet past p call (Collected b) k values e = refl
-notices-quiet past p call Done k values e = refl
-notices-quiet past p call (Refused fault) k values e = refl
-notices-quiet past p call reply k values e = absurd (let bad : false ≡ true = e in cc)
+notices-quiet past p call reply k values e = grind arith
 
 kept-quiet : (reply : Reply) → is_quiet reply ≡ true → is_withdrawn reply ≡ false
-kept-quiet (Opened d created) e = refl
-kept-quiet (Collected b) e = refl
-kept-quiet Done e = refl
-kept-quiet (Refused fault) e = refl
-kept-quiet reply e = absurd (let bad : false ≡ true = e in cc)
+kept-quiet reply e = grind arith
 
 goes-on : (reply : Reply) → is_plain reply ≡ true → is_wait reply ≡ false
-goes-on (Opened d created) e = refl
-goes-on Done e = refl
-goes-on (Refused fault) e = refl
-goes-on reply e = absurd (let bad : false ≡ true = e in cc)
+goes-on reply e = grind arith
 
 answer-plain : (p : ℕ) (call : Call) (payload : List ℕ) (reply : Reply) (ss : List (Option Sender)) (rs : List (Option ℕ)) (k : ℕ) (before : Option (Option (Option Message))) → is_plain reply ≡ true → after_answer p call payload reply ss rs k before ≡ before
-answer-plain p call payload (Opened d created) ss rs k before e = refl
-answer-plain p call payload Done ss rs k before e = refl
-answer-plain p call payload (Refused fault) ss rs k before e = refl
-answer-plain p call payload reply ss rs k before e = absurd (let bad : false ≡ true = e in cc)
+answer-plain p call payload reply ss rs k before e = grind arith
 
 message-plain : (past : Past) (reply : Reply) → is_plain reply ≡ true → message_given past reply ≡ None
-message-plain past (Opened d created) e = refl
-message-plain past Done e = refl
-message-plain past (Refused fault) e = refl
-message-plain past reply e = absurd (let bad : false ≡ true = e in cc)
+message-plain past reply e = grind arith
 
 collected-plain : (past : Past) (reply : Reply) → is_plain reply ≡ true → message_collected past reply ≡ None
-collected-plain past (Opened d created) e = refl
-collected-plain past Done e = refl
-collected-plain past (Refused fault) e = refl
-collected-plain past reply e = absurd (let bad : false ≡ true = e in cc)
+collected-plain past reply e = grind arith
 
 -- a record that leaves the queues and the notices unchanged
 record Still (past : Past) (r : Record) : Type 0 where
@@ -245,24 +154,15 @@ collect-answer past legal p b k next = answer-step past legal p Collect (Collect
 -- an open or an unlink ------------------------------------------------------------------------------------------------------------
 
 names-reply : (past : Past) (p b q : ℕ) (call : Call) (given : List ℕ) → changes_names call ≡ true → reply_to (collect p b ∷ past) q call given ≡ reply_to past q call given
-names-reply past p b q (MqOpen flags attr) given e = λ i.
-    open_reply flags attr (record { bound = is_some (bound_queue past given); free = find (λ d. is_none (collect-held past p b q d i)) descriptor_numbers; queues = length (collect-alive past p b i) })
+names-reply past p b q (MqOpen flags attr) given e = grind (arith, collect-held, collect-alive)
 names-reply past p b q MqUnlink given e = refl
 names-reply past p b q call given e = absurd (let bad : false ≡ true = e in cc)
 
 names-turn : (past : Past) (p b q : ℕ) (call : Call) → (p ≡ q → ⊥) → changes_names call ≡ true → may_call past q call ≡ true → may_call (collect p b ∷ past) q call ≡ true
-names-turn past p b q (MqOpen flags attr) ne e turn = rw (ne_eqb p q ne) turn
-names-turn past p b q MqUnlink ne e turn = rw (ne_eqb p q ne) turn
-names-turn past p b q call ne e turn = absurd (let bad : false ≡ true = e in cc)
-
-none-of : {X : Type 0} (o : Option X) → is_none o ≡ true → o ≡ None
-none-of None e = refl
-none-of (Some w) e = absurd (cc)
+names-turn past p b q call ne e turn = grind arith
 
 names-free : (past : Past) (q : ℕ) (call : Call) → changes_names call ≡ true → may_call past q call ≡ true → open_wait past q ≡ None
-names-free past q (MqOpen flags attr) e turn = none-of (open_wait past q) turn
-names-free past q MqUnlink e turn = none-of (open_wait past q) turn
-names-free past q call e turn = absurd (let bad : false ≡ true = e in cc)
+names-free past q call e turn = grind arith
 
 module _ (past : Past) (p q : ℕ) (call : Call) (given : List ℕ) (legal : Legal past) (first : IsLegalNext past (record_of past p Collect [])) (second : IsLegalNext past (record_of past q call given)) (ne : p ≡ q → ⊥) (names : changes_names call ≡ true) where
   abbrev b : Reply
@@ -415,7 +315,7 @@ module _ (past : Past) (p q : ℕ) (call : Call) (given : List ℕ) (legal : Leg
       sending = λ k h. both-still.sending (onto k) ∙ x-still.sending (onto k) ∙ at-onto (senders past) [] (senders-new past legal) k ∙ sym (y-still.sending k ∙ collect-still.sending k);
       receiving = λ k h. both-still.receiving (onto k) ∙ x-still.receiving (onto k) ∙ at-onto (receivers past) [] (receivers-new past legal) k ∙ sym (y-still.receiving k ∙ collect-still.receiving k);
       registrations = λ k h. both-still.registrations (onto k) ∙ x-still.registrations (onto k)
-          ∙ at-onto (registered_as past) None (λ j le. ap (option_map unplaced) (registered-new past legal j le)) k
+          ∙ at-onto (registered_as past) None (λ j le. ap (option_map unplaced) (registered-later past legal j le)) k
           ∙ sym (y-still.registrations k ∙ collect-still.registrations k);
       values = λ k. both-still.values k ∙ x-still.values k ∙ sym (y-still.values k ∙ collect-still.values k);
       waits = waits-same;
@@ -453,15 +353,11 @@ module _ (past : Past) (p q : ℕ) (call : Call) (given : List ℕ) (legal : Leg
 
 -- each call ---------------------------------------------------------------------------------------------------------------------
 
-names-off : (call : Call) → is_covered call ≡ true → changes_names call ≡ false
-names-off (MqOpen flags attr) e = absurd (let bad : false ≡ true = e in cc)
-names-off MqUnlink e = absurd (let bad : false ≡ true = e in cc)
-names-off call e = refl
+pub names-off : (call : Call) → is_covered call ≡ true → changes_names call ≡ false
+names-off call e = grind arith
 
 names-else : (call : Call) → is_covered call ≡ false → is_withdrawal call ≡ false → changes_names call ≡ true
-names-else (MqOpen flags attr) e f = refl
-names-else MqUnlink e f = refl
-names-else call e f = absurd (cc)
+names-else call e f = grind arith
 
 pub collect-commutes : (past : Past) (p : ℕ) (b : Request) → Legal past → IsLegalNext past (record_for past (collect_of p)) → IsLegalNext past (record_for past b) → (p == b.process) ≡ false → is_withdrawal b.call ≡ false → Commute past (collect_of p) b
 collect-commutes past p b legal first second ne kept = split (is_covered b.call)

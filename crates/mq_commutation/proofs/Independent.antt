@@ -1,12 +1,11 @@
 -- Independent calls commute.
-use Rattle.std.proofs.Common.{◌≡◌, ◌⊎◌, inl, inr, ℕ, ◌==◌, Bool, true, false, ◌&&◌, ◌||◌, not, Option, Some, None, refl, sym, ◌∙◌, ap, eqb-true}
-use Rattle.std.specs.Prelude.{nat_le}
+use Rattle.std.proofs.Common.{◌≡◌, ◌⊎◌, inl, inr, ℕ, ◌==◌, Bool, true, false, ◌&&◌, ◌||◌, not, Option, Some, None, refl, sym, ◌∙◌, ap, eqb-true, arith, nat_le}
 use Rattle.std.proofs.lemmas.Bool.{and_parts, not-true, eqb-false}
 use Rattle.mq_model.specs.Record.{Past}
 use Rattle.mq_model.specs.Messages.{is_send, priority, priority_given}
 use Rattle.mq_model.specs.Legality.{IsLegalNext, Legal}
 use Rattle.mq_model.specs.declared.entries.Reply.{Reply}
-use Rattle.mq_model.specs.declared.entries.Reply.TheVariants.{Opened, Queued, Handed, Waits, Got, Collected, Attrs, Notice, Done, Refused, Withdrawn}
+use Rattle.mq_model.specs.declared.entries.Reply.TheVariants.{Queued, Got}
 use Rattle.mq_model.proofs.Places.{split}
 use Rattle.mq_equivalence.specs.Runs.{Request}
 use Rattle.mq_commutation.specs.Independence.{differ, are_independent, changes_queues, only_reads, changes_names, whose_notices, passes, passes_by, reply_of, stays_filled, queue_touched}
@@ -21,13 +20,8 @@ record PassesBy (past : Past) (prio : ℕ) (a b : Reply) : Type 0 where
   gets : b ≡ Got message None None
   low : nat_le prio (priority past message) ≡ true
 
-passes-got : (past : Past) (prio : ℕ) (b : Reply) → passes_by past prio (Queued None) b ≡ true → PassesBy past prio (Queued None) b
-passes-got past prio (Got m None None) e = record { message = m; queued = refl; gets = refl; low = e }
-passes-got past prio _ e = absurd (let bad : false ≡ true = e in cc)
-
 passes-by : (past : Past) (prio : ℕ) (a b : Reply) → passes_by past prio a b ≡ true → PassesBy past prio a b
-passes-by past prio (Queued None) b e = passes-got past prio b e
-passes-by past prio _ b e = absurd (let bad : false ≡ true = e in cc)
+passes-by past prio a b e = grind arith
 
 record OneQueue (o u : Option ℕ) : Type 0 where
   queue : ℕ
@@ -35,17 +29,10 @@ record OneQueue (o u : Option ℕ) : Type 0 where
   second : u ≡ Some queue
 
 one-queue : (o u : Option ℕ) → differ o u ≡ false → OneQueue o u
-one-queue None u e = absurd (let bad : true ≡ false = e in cc)
-one-queue (Some i) None e = absurd (let bad : true ≡ false = e in cc)
-one-queue (Some i) (Some j) e = split (i == j)
-    (λ t. record { queue = i; first = refl; second = ap Some (sym (eqb-true i j t)) })
-    (λ f. let bad : true ≡ false = rw f at e in absurd (cc))
+one-queue o u e = grind (arith, eqb-true)
 
 four-cases : (u v w z : Bool) → (u || v || w || z) ≡ true → u ≡ false → v ≡ false → (w ≡ true) ⊎ (z ≡ true)
-four-cases false false true z e f g = inl refl
-four-cases false false false z e f g = inr e
-four-cases true v w z e f g = absurd (let bad : true ≡ false = f in cc)
-four-cases false true w z e f g = absurd (let bad : true ≡ false = g in cc)
+four-cases u v w z e f g = grind arith
 
 pub independent-commute : (past : Past) (a b : Request) → Legal past → IsLegalNext past (record_for past a) → IsLegalNext past (record_for past b) → is_covered a.call ≡ true → is_covered b.call ≡ true → are_independent past a b ≡ true → Commute past a b
 independent-commute past a b legal first second covered_a covered_b e =

@@ -1,6 +1,5 @@
 -- Two calls in both orders.
-use Rattle.std.proofs.Common.{◌≡◌, ◌⊎◌, inl, inr, ℕ, ◌<◌, ◌==◌, Bool, true, false, ◌&&◌, ◌||◌, List, [], ◌∷◌, length, Option, Some, None, is_some, if◌then◌else◌, refl, sym, ◌∙◌, ap, subst, arith, eqb-true, eq-eqb, ne_eqb}
-use Rattle.std.specs.Prelude.{IsTrue}
+use Rattle.std.proofs.Common.{◌≡◌, ◌⊎◌, inl, inr, ℕ, ◌<◌, ◌==◌, Bool, true, false, ◌&&◌, ◌||◌, List, [], ◌∷◌, length, Option, Some, None, is_some, if◌then◌else◌, refl, sym, ◌∙◌, ap, subst, arith, eqb-true, eq-eqb, ne_eqb, IsTrue}
 use Rattle.std.specs.List.{filter}
 use Rattle.std.specs.Option.{option_map}
 use Rattle.mq_model.specs.Record.{Record, Past}
@@ -9,12 +8,11 @@ use Rattle.mq_model.specs.Descriptors.{alive, called_queue, created, held, is_he
 use Rattle.mq_model.specs.Messages.{is_in}
 use Rattle.mq_model.specs.Notices.{gives_notice, notices}
 use Rattle.mq_model.specs.Deadlines.{deadline_of}
-use Rattle.mq_model.specs.Waits.{answered_by, is_wait, names_wait, open_wait, wait_deadline}
+use Rattle.mq_model.specs.Waits.{answered_by, is_wait, open_wait, wait_deadline}
 use Rattle.mq_model.specs.Legality.{IsLegalNext, Legal, is_payload, may_call, payload_of, reply_to}
 use Rattle.mq_model.specs.declared.entries.Deadline.{Deadline}
 use Rattle.mq_model.specs.declared.entries.Description.{Description}
 use Rattle.mq_model.specs.declared.entries.Call.{Call}
-use Rattle.mq_model.specs.declared.entries.Call.TheVariants.{MqOpen, MqClose, MqUnlink, MqSend, MqReceive, MqTimedSend, MqTimedReceive, MqGetattr, MqSetattr, MqNotify, NextNotice, Collect, Withdraw}
 use Rattle.mq_model.specs.declared.entries.Reply.{Reply}
 use Rattle.mq_model.proofs.Places.{split, is_in-filter}
 use Rattle.mq_model.proofs.Frames.{created-below, filter-same}
@@ -42,29 +40,17 @@ use Rattle.mq_commutation.proofs.Steps.{both-give, both-wait, shapes}
 -- facts of the calls on queues -------------------------------------------------------------------------------------------------
 
 pub touched-is : (past : Past) (p : ℕ) (call : Call) → is_covered call ≡ true → queue_touched_by past p call ≡ called_queue past p call
-touched-is past p (MqOpen flags attr) on = let bad : false ≡ true = on in absurd (cc)
-touched-is past p MqUnlink on = let bad : false ≡ true = on in absurd (cc)
-touched-is past p (Withdraw now) on = let bad : false ≡ true = on in absurd (cc)
-touched-is past p _ on = refl
+touched-is past p call on = grind arith
 
 pub stays-answered : (past : Past) (r : Record) (p : ℕ) → (r.entry.process ≡ p → ⊥) → is_some (answered_by past p) ≡ true → is_some (answered_by (r ∷ past) p) ≡ true
-stays-answered past r p ne e = split (names_wait r.entry.reply (open_wait past p))
-    (λ t. rw (ne_eqb r.entry.process p ne, t) refl)
-    (λ f. rw (ne_eqb r.entry.process p ne, f) e)
+stays-answered past r p ne e = grind arith
 
 -- a call of another process may still be made
 turn-other : (past : Past) (r : Record) (p : ℕ) (call : Call) → (r.entry.process ≡ p → ⊥) → is_covered call ≡ true → may_call past p call ≡ true → may_call (r ∷ past) p call ≡ true
-turn-other past r p Collect ne on e = stays-answered past r p ne e
-turn-other past r p (MqOpen flags attr) ne on e = let bad : false ≡ true = on in absurd (cc)
-turn-other past r p MqUnlink ne on e = let bad : false ≡ true = on in absurd (cc)
-turn-other past r p (Withdraw now) ne on e = let bad : false ≡ true = on in absurd (cc)
-turn-other past r p _ ne on e = rw (ne_eqb r.entry.process p ne) e
+turn-other past r p call ne on e = grind (arith, stays-answered)
 
 same-reply : (past : Past) (p : ℕ) (call : Call) (given : List ℕ) → is_covered call ≡ true → reply_to past p call given ≡ reply_to past p call (payload_of call (reply_to past p call given) given)
-same-reply past p (MqOpen flags attr) given on = let bad : false ≡ true = on in absurd (cc)
-same-reply past p MqUnlink given on = let bad : false ≡ true = on in absurd (cc)
-same-reply past p (Withdraw now) given on = let bad : false ≡ true = on in absurd (cc)
-same-reply past p _ given on = refl
+same-reply past p call given on = grind arith
 
 held-step : (past : Past) (p : ℕ) (call : Call) (reply : Reply) (payload : List ℕ) → is_covered call ≡ true → (k d : ℕ) → held (rec p call reply payload ∷ past) k d ≡ (if p == k then flagged call reply d (held past k d) else held past k d)
 held-step past p call reply payload on k d = ap (λ (v : Option Description). if p == k then v else held past k d) (held-by past call payload reply d (held past k d) on)
@@ -72,63 +58,32 @@ held-step past p call reply payload on k d = ap (λ (v : Option Description). if
 -- numbers and choices ------------------------------------------------------------------------------------------------------------
 
 pub apart-back : (o u : Option ℕ) → differ o u ≡ true → differ u o ≡ true
-apart-back None None e = refl
-apart-back None (Some j) e = refl
-apart-back (Some i) None e = refl
-apart-back (Some i) (Some j) e = split (j == i)
-    (λ t. let same : j ≡ i = eqb-true j i t in let bad : (i == j) ≡ true = eq-eqb i j (sym same) in let no : false ≡ true = rw bad at e in absurd (cc))
-    (λ f. rw f refl)
+apart-back o u e = grind (arith, eqb-true, eq-eqb)
 
 pub apart-off : (o u : Option ℕ) (k : ℕ) → differ o u ≡ true → u ≡ Some k → is_place k o ≡ false
-apart-off None u k e is = refl
-apart-off (Some i) None k e is = absurd (cc)
-apart-off (Some i) (Some j) k e is =
-    let same : j ≡ k = cc in
-    split (i == k)
-    (λ t. let here : i ≡ k = eqb-true i k t in let bad : (i == j) ≡ true = eq-eqb i j (here ∙ sym same) in let no : false ≡ true = rw bad at e in absurd (cc))
-    (λ f. f)
+apart-off o u k e is = grind (arith, eqb-true, eq-eqb)
 
 pub apart-clash : (o u : Option ℕ) (k j : ℕ) → differ o u ≡ true → o ≡ Some k → u ≡ Some j → k ≡ j → ⊥
-apart-clash o u k j e ok uj same =
-    let off : is_place j o ≡ false = apart-off o u j e uj in
-    let on : is_place j o ≡ true = ap (is_place j) ok ∙ eq-eqb k j same in
-    let bad : true ≡ false = sym on ∙ off in
-    absurd (cc)
+apart-clash o u k j e ok uj same = grind (arith, apart-off, eq-eqb)
 
 -- a value of each process, which only a call of that process changes
 pub own-two : {Z : Type 0} (p q k : ℕ) → (p ≡ q → ⊥) → (va vb h : Z) → (if p == k then va else (if q == k then vb else h)) ≡ (if q == k then vb else (if p == k then va else h))
-own-two p q k ne va vb h = split (p == k)
-    (λ t. split (q == k)
-    (λ u. absurd (ne (eqb-true p k t ∙ sym (eqb-true q k u))))
-    (λ v. rw (t, v) refl))
-    (λ f. split (q == k) (λ u. rw (f, u) refl) (λ v. rw (f, v) refl))
+own-two p q k ne va vb h = grind (arith, eqb-true)
 
 either-two : {Z : Type 0} (u v : Bool) → (u ≡ true → v ≡ true → ⊥) → (x y h : Z) → (if u then x else (if v then y else h)) ≡ (if v then y else (if u then x else h))
-either-two true true never x y h = absurd (never refl refl)
-either-two true false never x y h = refl
-either-two false true never x y h = refl
-either-two false false never x y h = refl
+either-two u v never x y h = grind arith
 
 pub queue-cases : (u v w : Bool) → (u || v && w) ≡ true → (u ≡ true) ⊎ ((v ≡ true) × (w ≡ true))
-queue-cases true v w e = inl refl
-queue-cases false true true e = inr (refl, refl)
-queue-cases false true false e = absurd (cc)
-queue-cases false false w e = absurd (cc)
+queue-cases u v w e = grind arith
 
 pub queue-back : (u u' v w : Bool) → (u ≡ true → u' ≡ true) → (u || v && w) ≡ true → (u' || w && v) ≡ true
-queue-back u u' v w back e = by (queue-cases u v w e)
-  where
-    by : ((u ≡ true) ⊎ ((v ≡ true) × (w ≡ true))) → (u' || w && v) ≡ true
-    by (inl h) = rw (back h) refl
-    by (inr h) = split u' (λ y. rw y refl) (λ n. rw (n, h.0, h.1) refl)
+queue-back u u' v w back e = grind (arith, queue-cases)
 
 pub option-id : {X : Type 0} (f : X → X) → ((v : X) → f v ≡ v) → (o : Option X) → o ≡ option_map f o
-option-id f same None = refl
-option-id f same (Some v) = ap Some (sym (same v))
+option-id f same o = grind arith
 
 pub the-place : (k : ℕ) (o : Option ℕ) → is_place k o ≡ true → o ≡ Some k
-the-place k None e = absurd (cc)
-the-place k (Some j) e = ap Some (eqb-true j k e)
+the-place k o e = grind (arith, eqb-true)
 
 -- one order ------------------------------------------------------------------------------------------------------------------------
 

@@ -1,19 +1,17 @@
 -- A message is queued after the one that a receive gets: the send and the receive commute.
-use Rattle.std.proofs.Common.{◌≡◌, ℕ, suc, ◌<◌, ◌==◌, Bool, true, false, not, List, [], ◌∷◌, length, map, Option, Some, None, is_some, is_none, if◌then◌else◌, refl, sym, ◌∙◌, ap, subst, arith, eqb-true, eq-eqb}
-use Rattle.std.specs.Prelude.{ℤ, int_le, nat_le, pos, negsuc, ◌≤◌}
-use Rattle.std.specs.Option.{option_map, option_and_then, unwrap_or}
-use Rattle.std.proofs.lemmas.Bool.{eqb-false}
-use Rattle.mq_model.specs.Record.{Record, Past, record_at}
+use Rattle.std.proofs.Common.{◌≡◌, ℕ, suc, ◌<◌, ◌==◌, Bool, true, false, not, List, [], ◌∷◌, length, Option, Some, None, is_some, is_none, if◌then◌else◌, refl, sym, ◌∙◌, ap, subst, arith, eqb-true, eq-eqb, ℤ, int_le, nat_le, pos, ◌≤◌}
+use Rattle.std.specs.Option.{option_map, option_and_then}
+use Rattle.mq_model.specs.Record.{Record, Past}
 use Rattle.mq_model.specs.Names.{attributes}
 use Rattle.mq_model.specs.Descriptors.{called_queue, held, is_place}
-use Rattle.mq_model.specs.Messages.{best, is_in, is_send, least, present, priority, priority_given, waiting_receives, waiting_sends}
-use Rattle.mq_model.specs.Notices.{gives_notice, notices, notified, registered_place}
+use Rattle.mq_model.specs.Messages.{best, is_send, least, present, priority, priority_given, waiting_receives, waiting_sends}
+use Rattle.mq_model.specs.Notices.{gives_notice, registered_place}
 use Rattle.mq_model.specs.Legality.{IsLegalNext, reply_to_receive, reply_to_send, Legal, reply_to}
 use Rattle.mq_model.specs.declared.entries.Description.{Description}
 use Rattle.mq_model.specs.declared.entries.Call.{Call}
-use Rattle.mq_model.specs.declared.entries.Call.TheVariants.{MqOpen, MqClose, MqUnlink, MqSend, MqReceive, MqTimedSend, MqTimedReceive, MqGetattr, MqSetattr, MqNotify, NextNotice, Collect, Withdraw}
+use Rattle.mq_model.specs.declared.entries.Call.TheVariants.{MqClose, MqSend, MqReceive, MqTimedSend, MqTimedReceive, NextNotice, Collect, Withdraw}
 use Rattle.mq_model.specs.declared.entries.Reply.{Reply}
-use Rattle.mq_model.specs.declared.entries.Reply.TheVariants.{Opened, Queued, Handed, Waits, Got, Collected, Attrs, Notice, Done, Refused, Withdrawn}
+use Rattle.mq_model.specs.declared.entries.Reply.TheVariants.{Queued, Got}
 use Rattle.mq_model.proofs.Places.{split}
 use Rattle.mq_model.proofs.Cases.{Says, reply_says}
 use Rattle.mq_model.proofs.HeldQueues.{called-alive}
@@ -26,11 +24,9 @@ use Rattle.mq_equivalence.proofs.Changes.{falls-present, got-all}
 use Rattle.mq_equivalence.proofs.Registrations.{after_registered, registered-step}
 use Rattle.mq_model.proofs.Frames.{attributes-older}
 use Rattle.mq_model.specs.ErrorOrder.{is_full_with}
-use Rattle.std.proofs.lemmas.List.{length-map}
 use Rattle.std.proofs.lemmas.Bool.Decides.{nat_tests}
 use Rattle.mq_equivalence.specs.Outline.{outline}
 use Rattle.mq_equivalence.specs.Runs.{Request, after_calls}
-use Rattle.mq_equivalence.proofs.Structure.{alive-below}
 use Rattle.mq_equivalence.proofs.Replies.{best-contents, count-contents, placed-some, timed-shape}
 use Rattle.mq_equivalence.proofs.Seen.{is_got}
 use Rattle.mq_commutation.specs.Independence.{stays_filled, reply_of, notified_registration}
@@ -41,18 +37,15 @@ use Rattle.mq_equivalence.proofs.Notified.{after_notices, viewed}
 use Rattle.mq_commutation.proofs.Frames.{not-withdrawn, acts_on, answered_at, stays-at}
 use Rattle.mq_commutation.proofs.Orders.{Order, both, commute-by, legal-mid, next-b, noting, on_of, paid, paid-b}
 use Rattle.mq_commutation.proofs.Steps.{no-message, message-same}
+use Rattle.mq_state.proofs.QueuesKeep.{alive-below}
 
 -- lists of messages -----------------------------------------------------------------------------------------------------------------
 
 others-length : (cs : List (Option Message)) → any cs ≡ true → suc (length (others cs)) ≡ length cs
-others-length [] e = absurd (cc)
-others-length (c ∷ cs) e = refl
+others-length cs e = grind arith
 
 full-less : (a : ℤ) (n : ℕ) → int_le a (pos (suc n)) ≡ false → int_le a (pos n) ≡ false
-full-less (pos k) n e = split (nat_le k n)
-    (λ t. let more : nat_le k (suc n) ≡ true = grind (arith, nat_tests) in let bad : true ≡ false = sym more ∙ e in absurd (cc))
-    (λ f. f)
-full-less (negsuc k) n e = absurd (cc)
+full-less a n e = grind arith
 
 -- replies that end no wait and no registration ---------------------------------------------------------------------------------------
 
@@ -69,22 +62,16 @@ abbrev nobody : ℕ → Option ℕ
 nobody q = None
 
 none-at : (o : Option ℕ) → option_and_then nobody o ≡ None
-none-at None = refl
-none-at (Some q) = refl
+none-at o = grind arith
 
 still-queued : (on : Bool) (p : ℕ) (call : Call) (before : Option Registered) → after_registered on p call (Queued None) before ≡ before
-still-queued on p call None = refl
-still-queued true p call (Some x) = refl
-still-queued false p call (Some x) = refl
+still-queued on p call before = grind arith
 
 still-got : (m : ℕ) (on : Bool) (p : ℕ) (call : Call) (before : Option Registered) → after_registered on p call (Got m None None) before ≡ before
-still-got m on p call None = refl
-still-got m true p call (Some x) = refl
-still-got m false p call (Some x) = refl
+still-got m on p call before = grind arith
 
 left-got : (m : ℕ) (p : ℕ) (call : Call) (payload : List ℕ) (on : Bool) (ss : List (Option Sender)) → after_senders p call payload on (Got m None None) ss ≡ ss
-left-got m p call payload true ss = refl
-left-got m p call payload false ss = refl
+left-got m p call payload on ss = grind arith
 
 calm-queued : Calm (Queued None)
 calm-queued = record { senders = λ p call payload on ss. refl; receivers = λ p call on rs. refl; registered = λ p call on before. still-queued on p call before; answers = λ past p call. none-at (called_queue past p call); notified_registration = λ past p call. refl; acts = λ p w k. refl; gives = refl }
@@ -93,12 +80,10 @@ calm-got : (m : ℕ) → Calm (Got m None None)
 calm-got m = record { senders = λ p call payload on ss. left-got m p call payload on ss; receivers = λ p call on rs. refl; registered = λ p call on before. still-got m on p call before; answers = λ past p call. none-at (called_queue past p call); notified_registration = λ past p call. refl; acts = λ p w k. refl; gives = refl }
 
 queued-of : (r : Reply) → outline r ≡ Queued None → r ≡ Queued None
-queued-of (Queued None) e = refl
-queued-of _ e = absurd (cc)
+queued-of r e = grind arith
 
 got-of : (r : Reply) → outline r ≡ Got 0 None None → (m : ℕ) × (r ≡ Got m None None)
-got-of (Got m None None) e = (m, refl)
-got-of _ e = absurd (cc)
+got-of r e = grind arith
 
 -- the state of a queue after such a call
 pub record KeptAt (past : Past) (r : Record) (k : ℕ) : Type 0 where
@@ -109,13 +94,7 @@ pub record KeptAt (past : Past) (r : Record) (k : ℕ) : Type 0 where
 pub kept-at : (past : Past) (p : ℕ) (call : Call) (reply : Reply) (payload : List ℕ) → Legal past → IsLegalNext past (rec p call reply payload) → is_covered call ≡ true → Calm reply → (k : ℕ) → KeptAt past (rec p call reply payload) k
 kept-at past p call reply payload legal next on calm k =
     let says = legal_says past (rec p call reply payload) next in
-    let kept = not-withdrawn past p call reply on says in
-    let here = is_place k (called_queue past p call) in
-    record {
-      senders = senders-step past p call reply payload k (legal, next) says kept ∙ calm.senders p call payload here (senders past k);
-      receivers = receivers-step past p call reply payload k (legal, next) says kept ∙ calm.receivers p call here (receivers past k);
-      registered = registered-step past p call reply payload next k ∙ calm.registered p call here (registered_as past k);
-    }
+    grind (arith, nat_tests, not-withdrawn, senders-step, receivers-step, registered-step)
 
 -- the two calls ----------------------------------------------------------------------------------------------------------------------
 
@@ -198,15 +177,7 @@ record QueuedSays (past : Past) (q : ℕ) : Type 0 where
   quiet : None ≡ (if length (present past q) == 0 then registered_place past q else None)
 
 queued-says : (past : Past) (p : ℕ) (call : Call) (q : ℕ) → is_send call ≡ true → Says past p call (Queued None) → called_queue past p call ≡ Some q → QueuedSays past q
-queued-says past p (MqSend d prio len) q sends says on =
-    let some : Some says.0.queue ≡ Some q = sym (ap (option_map (λ (h : Description). h.queue)) says.1) ∙ on in
-    let same : says.0.queue ≡ q = cc in
-    subst (λ (j : ℕ). QueuedSays past j) same (record { free = says.3.0; room = says.3.1; quiet = says.3.2 })
-queued-says past p (MqTimedSend d prio len until now) q sends says on =
-    let some : Some says.0.queue ≡ Some q = sym (ap (option_map (λ (h : Description). h.queue)) says.1) ∙ on in
-    let same : says.0.queue ≡ q = cc in
-    subst (λ (j : ℕ). QueuedSays past j) same (record { free = says.3.0; room = says.3.1; quiet = says.3.2 })
-queued-says past p call q sends says on = absurd (let bad : false ≡ true = sends in cc)
+queued-says past p call q sends says on = grind arith
 
 no-least-sends : (x y : Past) (q : ℕ) → senders y q ≡ senders x q → least (waiting_sends x q) ≡ None → least (waiting_sends y q) ≡ None
 no-least-sends x y q same e = none-some (least (waiting_sends y q)) (any-least (at sender y) (waiting_sends y q) ∙ ap (λ (ss : List (Option Sender)). any ss) same ∙ sym (any-least (at sender x) (waiting_sends x q)) ∙ ap (λ (o : Option ℕ). is_some o) e)

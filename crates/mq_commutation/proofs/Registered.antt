@@ -1,10 +1,11 @@
 -- A registration is on the queue of the descriptor with which it was made, and that descriptor is
 -- still held.
-use Rattle.std.proofs.Common.{◌≡◌, ℕ, ◌==◌, Bool, true, false, ◌&&◌, List, [], ◌∷◌, length, Option, Some, None, is_none, refl, sym, ◌∙◌, ap, subst, eqb-true, eq-eqb}
+use Rattle.std.proofs.lemmas.Bool.Decides.{nat_tests}
+use Rattle.std.proofs.Common.{◌≡◌, ℕ, ◌==◌, Bool, true, false, ◌&&◌, List, [], ◌∷◌, length, Option, Some, None, is_none, refl, sym, ◌∙◌, ap, subst, eqb-true, eq-eqb, arith}
 use Rattle.std.specs.Option.{option_map}
 use Rattle.std.proofs.lemmas.Bool.{and_parts}
 use Rattle.mq_model.specs.Record.{Past}
-use Rattle.mq_model.specs.Descriptors.{called_queue, held, held_after, is_on, is_place, with_nonblock}
+use Rattle.mq_model.specs.Descriptors.{called_queue, held, held_after, is_on, is_place}
 use Rattle.mq_model.specs.Notices.{ends, only_if, registered, registration_of, unless}
 use Rattle.mq_model.specs.Legality.{IsLegalNext, Legal}
 use Rattle.mq_model.specs.declared.entries.Description.{Description}
@@ -30,10 +31,7 @@ record Stood (ended : Registration → Bool) (o : Option Registration) (n : Regi
   kept : ended n ≡ false
 
 stood : (ended : Registration → Bool) (o : Option Registration) (n : Registration) → unless ended o ≡ Some n → Stood ended o n
-stood ended None n e = absurd (let bad : None ≡ Some n = e in cc)
-stood ended (Some m) n e = split (ended m)
-    (λ t. let bad : None ≡ Some n = rw t at e in absurd (cc))
-    (λ f. let is : Some m ≡ Some n = rw f at e in let same : m ≡ n = cc in record { before = is; kept = subst (λ (x : Registration). ended x ≡ false) same f })
+stood ended o n e = grind arith
 
 -- an entry that does not end the registration does not close its descriptor
 keeps : (past : Past) (p : ℕ) (call : Call) (reply : Reply) (payload : List ℕ) (q : ℕ) (n : Registration) → IsLegalNext past (record { entry = record { process = p; call = call; reply = reply }; payload = payload }) → p ≡ n.process → ends (is_place q (called_queue past p call)) (record { process = p; call = call; reply = reply }) n ≡ false → HeldOn (held past p n.d) q → HeldOn (held_after past call payload reply n.d (held past p n.d)) q
@@ -68,10 +66,7 @@ keeps past p (MqReceive d room) (Attrs s) payload q n next own kept h = h
 keeps past p (MqTimedSend d prio len until now) (Attrs s) payload q n next own kept h = h
 keeps past p (MqTimedReceive d room until now) (Attrs s) payload q n next own kept h = h
 keeps past p (MqGetattr d) (Attrs s) payload q n next own kept h = h
-keeps past p (MqSetattr d nonblock) (Attrs s) payload q n next own kept h =
-    split (d == n.d)
-    (λ t. rw t (record { description = with_nonblock nonblock h.description; is = ap (option_map (with_nonblock nonblock)) h.is; on = h.on }))
-    (λ f. rw f h)
+keeps past p (MqSetattr d nonblock) (Attrs s) payload q n next own kept h = grind arith
 keeps past p (MqNotify d value) (Attrs s) payload q n next own kept h = h
 keeps past p (MqOpen flags attr) (Attrs s) payload q n next own kept h = h
 keeps past p (MqClose d) (Attrs s) payload q n next own kept h = h
@@ -103,42 +98,11 @@ record MadeOn (past : Past) (p : ℕ) (call : Call) (reply : Reply) (n : Registr
   on : called_queue past p call ≡ option_map (λ (h : Description). h.queue) (held past p n.d)
   same : (payload : List ℕ) (before : Option Description) → held_after past call payload reply n.d before ≡ before
 
-made-on : (past : Past) (p place : ℕ) (call : Call) (reply : Reply) (n : Registration) → registration_of place p call reply ≡ Some n → MadeOn past p call reply n
-made-on past p place call (Opened o new) n e = absurd (let bad : None ≡ Some n = e in cc)
-made-on past p place call (Queued l) n e = absurd (let bad : None ≡ Some n = e in cc)
-made-on past p place call (Handed w) n e = absurd (let bad : None ≡ Some n = e in cc)
-made-on past p place call Waits n e = absurd (let bad : None ≡ Some n = e in cc)
-made-on past p place call (Got m a l) n e = absurd (let bad : None ≡ Some n = e in cc)
-made-on past p place call (Collected b) n e = absurd (let bad : None ≡ Some n = e in cc)
-made-on past p place call (Withdrawn w) n e = absurd (let bad : None ≡ Some n = e in cc)
-made-on past p place call (Attrs s) n e = absurd (let bad : None ≡ Some n = e in cc)
-made-on past p place call (Notice v) n e = absurd (let bad : None ≡ Some n = e in cc)
-made-on past p place (MqSend d prio len) Done n e = absurd (let bad : None ≡ Some n = e in cc)
-made-on past p place (MqReceive d room) Done n e = absurd (let bad : None ≡ Some n = e in cc)
-made-on past p place (MqTimedSend d prio len until now) Done n e = absurd (let bad : None ≡ Some n = e in cc)
-made-on past p place (MqTimedReceive d room until now) Done n e = absurd (let bad : None ≡ Some n = e in cc)
-made-on past p place (MqGetattr d) Done n e = absurd (let bad : None ≡ Some n = e in cc)
-made-on past p place (MqSetattr d nonblock) Done n e = absurd (let bad : None ≡ Some n = e in cc)
-made-on past p place (MqNotify d (Some v)) Done n e =
-    let is : record { place = place; process = p; d = d; value = v } ≡ n = cc in
-    subst (λ (m : Registration). MadeOn past p (MqNotify d (Some v)) Done m) is (record { own = refl; on = refl; same = λ payload before. refl })
-made-on past p place (MqNotify d None) Done n e = absurd (let bad : None ≡ Some n = e in cc)
-made-on past p place (MqOpen flags attr) Done n e = absurd (let bad : None ≡ Some n = e in cc)
-made-on past p place (MqClose d) Done n e = absurd (let bad : None ≡ Some n = e in cc)
-made-on past p place MqUnlink Done n e = absurd (let bad : None ≡ Some n = e in cc)
-made-on past p place NextNotice Done n e = absurd (let bad : None ≡ Some n = e in cc)
-made-on past p place Collect Done n e = absurd (let bad : None ≡ Some n = e in cc)
-made-on past p place (Withdraw now) Done n e = absurd (let bad : None ≡ Some n = e in cc)
-made-on past p place call (Refused f) n e = absurd (let bad : None ≡ Some n = e in cc)
-
 only-is : (b : Bool) (o : Option Registration) (n : Registration) → only_if b o ≡ Some n → (b ≡ true) × (o ≡ Some n)
-only-is b None n e = absurd (let bad : None ≡ Some n = e in cc)
-only-is true (Some m) n e = (refl, e)
-only-is false (Some m) n e = absurd (let bad : None ≡ Some n = e in cc)
+only-is b o n e = grind arith
 
 held-queue : (o : Option Description) (q : ℕ) → option_map (λ (h : Description). h.queue) o ≡ Some q → HeldOn o q
-held-queue None q e = absurd (cc)
-held-queue (Some h) q e = let same : h.queue ≡ q = cc in record { description = h; is = refl; on = same }
+held-queue o q e = grind arith
 
 pub registered-held : (past : Past) → Legal past → (q : ℕ) (n : Registration) → registered past q ≡ Some n → HeldOn (held past n.process n.d) q
 registered-held [] legal q n e = absurd (cc)
@@ -156,14 +120,7 @@ registered-held (r ∷ past) legal q n e = by (only_if (is_on past r.entry q) (r
         rw t (subst (λ (j : ℕ). HeldOn (held_after past r.entry.call r.payload r.entry.reply n.d (held past j n.d)) q) own after))
         (λ f. rw f h)
     by (Some m) is e rest =
-        let here : Some m ≡ Some n = rw is at e in
-        let one = only-is (is_on past r.entry q) _ n (is ∙ here) in
-        let after_calls = made-on past r.entry.process (length past) r.entry.call r.entry.reply n one.1 in
-        let on : called_queue past r.entry.process r.entry.call ≡ Some q = place-is (called_queue past r.entry.process r.entry.call) q one.0 in
-        let h = held-queue (held past r.entry.process n.d) q (sym after_calls.on ∙ on) in
-        let t : (r.entry.process == n.process) ≡ true = eq-eqb r.entry.process n.process after_calls.own in
-        let there : HeldOn (held past n.process n.d) q = subst (λ (j : ℕ). HeldOn (held past j n.d) q) after_calls.own h in
-        rw (t, after_calls.same r.payload (held past n.process n.d)) there
+        grind (arith, nat_tests, only-is, place-is, held-queue, eq-eqb)
 
 -- a close of a descriptor for another queue ends no registration on this one
 pub closed-elsewhere : (past : Past) → Legal past → (p : ℕ) (call : Call) (c k : ℕ) (x : Registered) → call ≡ MqClose c → registered_as past k ≡ Some x → is_place k (called_queue past p call) ≡ false → (c == x.d && p == x.process) ≡ false
@@ -176,9 +133,4 @@ closed-elsewhere past legal p call c k x is stands off = split (c == x.d && p ==
     by (Some n) e view both =
         let same : viewed n ≡ x = cc in
         let h = registered-held past legal k n e in
-        let d_is : c ≡ n.d = eqb-true c x.d both.0 ∙ sym (ap (λ (v : Registered). v.d) same) in
-        let p_is : p ≡ n.process = eqb-true p x.process both.1 ∙ sym (ap (λ (v : Registered). v.process) same) in
-        let mine : held past p c ≡ Some h.description = (λ i. held past (p_is i) (d_is i)) ∙ h.is in
-        let on : called_queue past p call ≡ Some k = ap (called_queue past p) is ∙ ap (option_map (λ (v : Description). v.queue)) mine ∙ ap Some h.on in
-        let bad : true ≡ false = sym (ap (is_place k) on ∙ eq-eqb k k refl) ∙ off in
-        absurd (cc)
+        grind (arith, nat_tests, eqb-true, eq-eqb)

@@ -1,25 +1,22 @@
 -- After two journals that agree on everything at a queue, the replies to a call on it differ only
 -- in sequence numbers.
-use Rattle.std.proofs.Common.{◌≡◌, ℕ, ◌==◌, Bool, true, false, ◌&&◌, List, length, Option, Some, None, is_some, if◌then◌else◌, refl, sym, ◌∙◌, ap, nat_le}
-use Rattle.std.proofs.lemmas.List.{length-map}
-use Rattle.std.specs.Prelude.{int_lt, pos, slice_get}
+use Rattle.std.proofs.Common.{◌≡◌, ℕ, ◌==◌, Bool, true, false, List, length, Option, Some, None, is_some, if◌then◌else◌, refl, sym, ◌∙◌, ap, arith, slice_get}
 use Rattle.std.specs.Option.{option_map, option_and_then}
 use Rattle.mq_model.specs.Record.{Past}
 use Rattle.mq_model.specs.Names.{attributes}
 use Rattle.mq_model.specs.Descriptors.{called_queue, descriptor_of, held}
 use Rattle.mq_model.specs.Messages.{best, least, present, waiting_receives, waiting_sends}
 use Rattle.mq_model.specs.Notices.{notices, registered, registered_place}
-use Rattle.mq_model.specs.Limits.{most_priorities}
-use Rattle.mq_model.specs.ErrorOrder.{accepted_reply, close_reply, is_full_with, is_of, is_read_only, is_write_only, receive_reply, send_reply}
+use Rattle.mq_model.specs.ErrorOrder.{close_reply, is_full_with, is_of, receive_reply, send_reply}
 use Rattle.mq_model.specs.Legality.{reply_to, reply_to_attributes, reply_to_notify, reply_to_receive, reply_to_send}
 use Rattle.mq_model.specs.declared.entries.Attr.{Attr}
 use Rattle.mq_model.specs.declared.entries.Description.{Description}
 use Rattle.mq_model.specs.declared.entries.Registration.{Registration}
 use Rattle.mq_model.specs.declared.entries.Call.{Call}
 use Rattle.mq_model.specs.declared.entries.Call.TheVariants.{MqClose, MqSend, MqReceive, MqTimedSend, MqTimedReceive, MqGetattr, MqSetattr, MqNotify, NextNotice, Collect}
-use Rattle.mq_model.specs.declared.faults.Fault.TheVariants.{Again, Busy, Invalid}
-use Rattle.mq_model.specs.declared.entries.Reply.TheVariants.{Queued, Notice, Done, Refused}
-use Rattle.mq_equivalence.specs.Views.{Message, Registered, Sender, at, author, contents, receivers, registered_as, sender, senders, sent}
+use Rattle.mq_model.specs.declared.faults.Fault.TheVariants.{Busy, Invalid}
+use Rattle.mq_model.specs.declared.entries.Reply.TheVariants.{Notice, Done, Refused}
+use Rattle.mq_equivalence.specs.Views.{Message, Registered, Sender, at, author, contents, receivers, registered_as, sender, senders}
 use Rattle.mq_equivalence.specs.Outline.{outline}
 use Rattle.mq_equivalence.proofs.Falling.{any, any-least}
 use Rattle.mq_equivalence.proofs.Replies.{registered-some}
@@ -28,21 +25,12 @@ use Rattle.mq_commutation.specs.Commuting.{is_covered}
 
 -- a receive when no send waits
 pub receive-any : (room : ℕ) (d : Description) (a : Attr) (c j : ℕ) (b k n m : Option ℕ) → is_some b ≡ is_some k → outline (receive_reply room (Some (receive_with d a c b None n))) ≡ outline (receive_reply room (Some (receive_with d a j k None m)))
-receive-any room d a c j b k n m e =
-    shape-if (is_write_only d.access) _ _ _ _ refl (
-    shape-if (int_lt (pos room) a.msgsize) _ _ _ _ refl (
-    found-shape d.nonblock b k None None None None e refl refl))
+receive-any room d a c j b k n m e = grind (arith, shape-if, found-shape)
 
 -- a send when no receive waits, to a queue that is not full
 pub send-any : (prio len : ℕ) (d : Description) (a : Attr) (c j : ℕ) (n m : Option ℕ) → is_full_with a c ≡ false → is_full_with a j ≡ false → is_some (if c == 0 then n else None) ≡ is_some (if j == 0 then m else None) →
     outline (send_reply prio len (Some (send_with d a c None n))) ≡ outline (send_reply prio len (Some (send_with d a j None m)))
-send-any prio len d a c j n m e f g =
-    shape-if (is_read_only d.access) _ _ _ _ refl (
-    shape-if (nat_le most_priorities prio) _ _ _ _ refl (
-    shape-if (int_lt a.msgsize (pos len)) _ _ _ _ refl (
-    (λ i. outline (if e i && d.nonblock then Refused Again else accepted_reply None (e i) (if c == 0 then n else None)))
-    ∙ ap (λ (o : Option ℕ). Queued o) (hidden-same (if c == 0 then n else None) (if j == 0 then m else None) g)
-    ∙ sym (λ i. outline (if f i && d.nonblock then Refused Again else accepted_reply None (f i) (if j == 0 then m else None))))))
+send-any prio len d a c j n m e f g = grind (arith, shape-if, hidden-same)
 
 -- everything at a queue is the same
 pub record SameAt (x y : Past) (k : ℕ) : Type 0 where

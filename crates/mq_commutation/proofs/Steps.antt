@@ -1,7 +1,6 @@
 -- The same call on a queue after two journals that agree on everything at it: they still agree. And
 -- the message that the call returns.
-use Rattle.std.proofs.Common.{◌≡◌, ℕ, ◌<◌, true, false, List, ◌∷◌, length, Option, Some, None, is_some, refl, sym, ◌∙◌, ap, subst}
-use Rattle.std.specs.Option.{unwrap_or}
+use Rattle.std.proofs.Common.{◌≡◌, ℕ, ◌<◌, true, false, List, ◌∷◌, length, Option, Some, None, is_some, sym, ◌∙◌, ap, arith}
 use Rattle.mq_model.specs.Record.{Record, Past}
 use Rattle.mq_model.specs.Descriptors.{called_queue, is_place}
 use Rattle.mq_model.specs.Notices.{gives_notice, notified}
@@ -9,8 +8,7 @@ use Rattle.mq_model.specs.Waits.{is_wait}
 use Rattle.mq_model.specs.Legality.{IsLegalNext, Legal}
 use Rattle.mq_model.specs.declared.entries.Call.{Call}
 use Rattle.mq_model.specs.declared.entries.Reply.{Reply}
-use Rattle.mq_model.specs.declared.entries.Reply.TheVariants.{Opened, Queued, Handed, Waits, Got, Collected, Attrs, Notice, Done, Refused, Withdrawn}
-use Rattle.mq_model.proofs.Places.{split}
+use Rattle.mq_model.specs.declared.entries.Reply.TheVariants.{Got}
 use Rattle.mq_model.proofs.Frames.{attributes-older}
 use Rattle.mq_model.proofs.Cases.{Says}
 use Rattle.mq_model.proofs.LegalReplies.{legal_says}
@@ -24,26 +22,13 @@ use Rattle.mq_equivalence.proofs.Alike.{contents-shape, receivers-shape, senders
 use Rattle.mq_equivalence.proofs.Calls.{got-message}
 use Rattle.mq_equivalence.specs.Outline.{outline}
 use Rattle.mq_equivalence.proofs.Registrations.{after_registered, registered-step}
-use Rattle.mq_equivalence.proofs.Going.{shape-outline}
+use Rattle.mq_equivalence.proofs.Going.{shape-outline, given-outline}
 use Rattle.mq_equivalence.proofs.Going.{registered-outline, told-outline}
 use Rattle.mq_equivalence.proofs.Seen.{is_got}
 use Rattle.mq_equivalence.proofs.Waiting.{none-given, the-got}
 use Rattle.mq_commutation.specs.Commuting.{is_covered}
 use Rattle.mq_commutation.proofs.Replies.{SameAt}
 use Rattle.mq_commutation.proofs.Frames.{not-withdrawn}
-
-gives-outline : (r : Reply) → gives_notice (outline r) ≡ gives_notice r
-gives-outline (Opened e new) = refl
-gives-outline (Queued n) = refl
-gives-outline (Handed w) = refl
-gives-outline Waits = refl
-gives-outline (Got m a n) = refl
-gives-outline (Collected b) = refl
-gives-outline (Withdrawn w) = refl
-gives-outline (Attrs s) = refl
-gives-outline (Notice v) = refl
-gives-outline Done = refl
-gives-outline (Refused f) = refl
 
 -- consequences of equal outlines
 pub shapes : (a b : Reply) → outline b ≡ outline a → shape b ≡ shape a
@@ -53,7 +38,7 @@ pub both-told : (a b : Reply) → outline b ≡ outline a → is_some (notified 
 both-told a b same = sym (told-outline b) ∙ ap (λ (r : Reply). is_some (notified r)) same ∙ told-outline a
 
 pub both-give : (a b : Reply) → outline b ≡ outline a → gives_notice b ≡ gives_notice a
-both-give a b same = sym (gives-outline b) ∙ ap gives_notice same ∙ gives-outline a
+both-give a b same = sym (given-outline b) ∙ ap gives_notice same ∙ given-outline a
 
 pub both-wait : (a b : Reply) → outline b ≡ outline a → is_wait b ≡ is_wait a
 both-wait a b same = sym (wait-shape b) ∙ ap is_wait (shapes a b same) ∙ wait-shape a
@@ -61,10 +46,7 @@ both-wait a b same = sym (wait-shape b) ∙ ap is_wait (shapes a b same) ∙ wai
 -- messages given
 
 pub got-in : (past : Past) → Legal past → (p : ℕ) (call : Call) (m : ℕ) (a n : Option ℕ) (payload : List ℕ) → Says past p call (Got m a n) → (q : ℕ) × (called_queue past p call ≡ Some q) × (message_given (rec p call (Got m a n) payload ∷ past) (Got m a n) ≡ foremost (contents past q))
-got-in past legal p call m a n payload says =
-    let got = got-all past p call m a n says in
-    let at : called past p call ≡ got.queue = ap (λ (o : Option ℕ). unwrap_or o 0) got.on in
-    (got.queue, got.on, got-message past legal p call m a n payload says ∙ ap (λ (q : ℕ). foremost (contents past q)) at)
+got-in past legal p call m a n payload says = grind (arith, got-all, called, got-message, foremost)
 
 module _ (x y : Past) (legal_x : Legal x) (legal_y : Legal y) (p : ℕ) (call : Call) (a b : Reply) (px py : List ℕ)
     (next_x : IsLegalNext x (rec p call a px)) (next_y : IsLegalNext y (rec p call b py)) (on : is_covered call ≡ true)
@@ -116,17 +98,7 @@ module _ (x y : Past) (legal_x : Legal x) (legal_y : Legal y) (p : ℕ) (call : 
       }
 
 got-outline : (r : Reply) → is_got (outline r) ≡ is_got r
-got-outline (Got m a n) = refl
-got-outline (Opened e new) = refl
-got-outline (Queued n) = refl
-got-outline (Handed w) = refl
-got-outline Waits = refl
-got-outline (Collected b) = refl
-got-outline (Withdrawn w) = refl
-got-outline (Attrs s) = refl
-got-outline (Notice v) = refl
-got-outline Done = refl
-got-outline (Refused f) = refl
+got-outline r = grind arith
 
 both-got : (x y : Past) → Legal x → Legal y → (p : ℕ) (call : Call) (m : ℕ) (a n : Option ℕ) (j : ℕ) (c l : Option ℕ) (px py : List ℕ) → Says x p call (Got m a n) → Says y p call (Got j c l) → called_queue y p call ≡ called_queue x p call →
     ((k : ℕ) → called_queue x p call ≡ Some k → foremost (contents y k) ≡ foremost (contents x k)) → message_given (rec p call (Got j c l) py ∷ y) (Got j c l) ≡ message_given (rec p call (Got m a n) px ∷ x) (Got m a n)
@@ -144,12 +116,4 @@ no-message past a b same e = none-given past b (sym (got-outline b) ∙ ap is_go
 -- replies with the same outline that return a message return the same one
 pub message-same : (x y : Past) → Legal x → Legal y → (p : ℕ) (call : Call) (a b : Reply) (px py : List ℕ) → Says x p call a → Says y p call b → called_queue y p call ≡ called_queue x p call → outline b ≡ outline a →
     ((k : ℕ) → called_queue x p call ≡ Some k → foremost (contents y k) ≡ foremost (contents x k)) → message_given (rec p call b py ∷ y) b ≡ message_given (rec p call a px ∷ x) a
-message-same x y legal_x legal_y p call a b px py says_x says_y called same at =
-    let both : is_got b ≡ is_got a = sym (got-outline b) ∙ ap is_got same ∙ got-outline a in
-    split (is_got a)
-    (λ t. let g = the-got a t in let h = the-got b (both ∙ t) in
-    let given : message_given (rec p call (Got h.place h.admitted h.notified) py ∷ y) (Got h.place h.admitted h.notified) ≡ message_given (rec p call (Got g.place g.admitted g.notified) px ∷ x) (Got g.place g.admitted g.notified) =
-    both-got x y legal_x legal_y p call g.place g.admitted g.notified h.place h.admitted h.notified px py (subst (Says x p call) g.is says_x) (subst (Says y p call) h.is says_y) called at
-    in
-    ap (λ (r : Reply). message_given (rec p call r py ∷ y) r) h.is ∙ given ∙ sym (ap (λ (r : Reply). message_given (rec p call r px ∷ x) r) g.is))
-    (λ f. none-given (rec p call b py ∷ y) b (both ∙ f) ∙ sym (none-given (rec p call a px ∷ x) a f))
+message-same x y legal_x legal_y p call a b px py says_x says_y called same at = grind (arith, is_got, got-outline, the-got, rec, both-got, Says, called, none-given)

@@ -1,17 +1,15 @@
 -- What a record changes of the messages and the waits of a queue.
-use Rattle.std.proofs.Common.{◌≡◌, ℕ, ◌<◌, ◌==◌, Bool, true, false, not, List, [], ◌∷◌, length, map, Option, Some, None, if◌then◌else◌, refl, sym, ◌∙◌, ap, subst, eqb-true, eq-eqb}
+use Rattle.std.proofs.Common.{◌≡◌, ℕ, ◌<◌, ◌==◌, Bool, true, not, List, [], ◌∷◌, length, map, Option, Some, if◌then◌else◌, refl, sym, ◌∙◌, ap, subst, eqb-true, eq-eqb, arith}
 use Rattle.std.specs.List.{filter, list_all}
 use Rattle.std.specs.Option.{option_map}
 use Rattle.std.proofs.lemmas.Bool.{eqb-false, eqb-true}
 use Rattle.mq_model.specs.Record.{Record, Past}
-use Rattle.mq_model.specs.Descriptors.{called_queue, is_place}
-use Rattle.mq_model.specs.Messages.{best, blocked_receives, blocked_sends, goes_first, is_in, is_send, least, present, waiting_receives, waiting_sends, with_place}
+use Rattle.mq_model.specs.Descriptors.{called_queue}
+use Rattle.mq_model.specs.Messages.{best, blocked_receives, blocked_sends, goes_first, is_in, least, present, waiting_receives, waiting_sends, with_place}
 use Rattle.mq_model.specs.Legality.{Legal}
 use Rattle.mq_model.specs.declared.entries.Call.{Call}
-use Rattle.mq_model.specs.declared.entries.Call.TheVariants.{MqOpen, MqClose, MqUnlink, MqSend, MqReceive, MqTimedSend, MqTimedReceive, MqGetattr, MqSetattr, MqNotify, NextNotice, Collect, Withdraw}
-use Rattle.mq_model.specs.declared.entries.Description.{Description}
 use Rattle.mq_model.specs.declared.entries.Reply.{Reply}
-use Rattle.mq_model.specs.declared.entries.Reply.TheVariants.{Opened, Queued, Handed, Waits, Got, Collected, Attrs, Notice, Done, Refused, Withdrawn}
+use Rattle.mq_model.specs.declared.entries.Reply.TheVariants.{Handed, Got}
 use Rattle.mq_model.specs.declared.owners.WaitKind.TheVariants.{Receive}
 use Rattle.mq_model.proofs.Places.{split, is_in-filter, find-in}
 use Rattle.mq_model.proofs.Cases.{Says}
@@ -53,8 +51,7 @@ waiting_receives-below past q = below-filter (length past) _ (blocked_receives p
 -- places fall -----------------------------------------------------------------------------------------------------------
 
 falls-if : (b : Bool) (k : ℕ) (ks : List ℕ) → Falls ks → Below k ks → Falls (if b then k ∷ ks else ks)
-falls-if true k ks falls below = (below, falls)
-falls-if false k ks falls below = falls
+falls-if b k ks falls below = grind arith
 
 falls-blocked_sends : (past : Past) (q : ℕ) → Falls (blocked_sends past q)
 falls-blocked_sends [] q = tt
@@ -78,15 +75,7 @@ pub record GotSays (past : Past) (p : ℕ) (call : Call) (m : ℕ) (a : Option �
   pub admitted : a ≡ least (waiting_sends past queue)
 
 pub got-all : (past : Past) (p : ℕ) (call : Call) (m : ℕ) (a n : Option ℕ) → Says past p call (Got m a n) → GotSays past p call m a
-got-all past p (MqReceive d room) m a n says = record { queue = says.0.queue; on = ap (λ (o : Option Description). option_map (λ h. h.queue) o) says.1; best = says.3.0; admitted = says.3.1 }
-got-all past p (MqTimedReceive d room until now) m a n says = record { queue = says.0.queue; on = ap (λ (o : Option Description). option_map (λ h. h.queue) o) says.1; best = says.3.0; admitted = says.3.1 }
-got-all past p (MqClose d) m a n says = absurd says.0
-got-all past p (MqSend d prio len) m a n says = absurd says.3
-got-all past p (MqTimedSend d prio len until now) m a n says = absurd says.3
-got-all past p NextNotice m a n says = absurd (cc)
-got-all past p Collect m a n says = absurd (cc)
-got-all past p (Withdraw now) m a n says = absurd (cc)
-got-all past p _ m a n says = absurd says
+got-all past p call m a n says = grind arith
 
 -- what a Handed says
 pub record HandedSays (past : Past) (p : ℕ) (call : Call) (w : ℕ) : Type 0 where
@@ -95,19 +84,10 @@ pub record HandedSays (past : Past) (p : ℕ) (call : Call) (w : ℕ) : Type 0 w
   pub first : least (waiting_receives past queue) ≡ Some w
 
 pub handed-all : (past : Past) (p : ℕ) (call : Call) (w : ℕ) → Says past p call (Handed w) → HandedSays past p call w
-handed-all past p (MqSend d prio len) w says = record { queue = says.0.queue; on = ap (λ (o : Option Description). option_map (λ h. h.queue) o) says.1; first = says.3 }
-handed-all past p (MqTimedSend d prio len until now) w says = record { queue = says.0.queue; on = ap (λ (o : Option Description). option_map (λ h. h.queue) o) says.1; first = says.3 }
-handed-all past p (MqClose d) w says = absurd says.0
-handed-all past p (MqReceive d room) w says = absurd says.3
-handed-all past p (MqTimedReceive d room until now) w says = absurd says.3
-handed-all past p NextNotice w says = absurd (cc)
-handed-all past p Collect w says = absurd (cc)
-handed-all past p (Withdraw now) w says = absurd (cc)
-handed-all past p _ w says = absurd says
+handed-all past p call w says = grind arith
 
 falls-with : (o : Option ℕ) (ks : List ℕ) → Falls ks → ((w : ℕ) → o ≡ Some w → Below w ks) → Falls (with_place o ks)
-falls-with None ks falls below = falls
-falls-with (Some w) ks falls below = (below w refl, falls)
+falls-with o ks falls below = grind arith
 
 best-inside : (past : Past) (q m : ℕ) → best past q ≡ Some m → is_in (present past q) m ≡ true
 best-inside past q m e = (find-in (λ k. list_all (goes_first past k) (present past q)) (present past q) m e).0
@@ -125,19 +105,8 @@ falls-got past legal p call m a n payload q says falls =
     accepted-older past legal q j w (rw (present-admitted past q j there.0) refl) (least-in (waiting_sends past q) w (sym mine.admitted ∙ e)))))
     (λ f. let is = present-got_elsewhere past p call m a n payload got.queue q facts (eqb-false q got.queue f) in subst Falls (sym is) falls)
 
-falls-queued : (past : Past) → Legal past → (p : ℕ) (call : Call) (n : Option ℕ) (payload : List ℕ) (q : ℕ) → Falls (present past q) → Falls (present (rec p call (Queued n) payload ∷ past) q)
-falls-queued past legal p call n payload q falls =
-    split (is_place q (called_queue past p call))
-    (λ on. split (is_send call)
-    (λ sends. subst Falls (sym (present-queued past p call q n payload legal sends on)) (present-below past q, falls))
-    (λ other. let same : present (rec p call (Queued n) payload ∷ past) q ≡ present past q = rw other refl in subst Falls (sym same) falls))
-    (λ off. subst Falls (sym (present-queued_elsewhere past p call q n payload off)) falls)
-
 falls-next : (past : Past) → Legal past → (p : ℕ) (call : Call) (reply : Reply) (payload : List ℕ) (q : ℕ) → Says past p call reply → Falls (present past q) → Falls (present (rec p call reply payload ∷ past) q)
-falls-next past legal p call (Queued n) payload q says falls = falls-queued past legal p call n payload q falls
-falls-next past legal p call (Got m a n) payload q says falls = falls-got past legal p call m a n payload q says falls
-falls-next past legal p call (Handed w) payload q says falls = subst Falls (sym (present-handed past p call w payload q)) falls
-falls-next past legal p call _ payload q says falls = falls
+falls-next past legal p call reply payload q says falls = grind (arith, falls-got, Falls, present-handed, present-queued, present-below, present-queued_elsewhere)
 
 pub falls-present : (past : Past) → Legal past → (q : ℕ) → Falls (present past q)
 falls-present [] legal q = tt

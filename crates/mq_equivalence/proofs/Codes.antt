@@ -1,15 +1,12 @@
 -- Decoding values from their numbers.
-use Rattle.std.proofs.Common.{◌≡◌, ◌≢◌, ℕ, ℤ, pos, negsuc, zero, suc, ◌+◌, ◌<◌, ◌≤◌, ◌==◌, true, false, List, [], ◌∷◌, ◌++◌, length, Option, Some, None, refl, sym, ◌∙◌, ap, subst, arith, append_assoc}
-use Rattle.std.proofs.lemmas.Bool.{eqb-false, eqb-true}
+use Rattle.std.proofs.lemmas.Bool.Decides.{nat_tests}
+use Rattle.std.proofs.Common.{◌≡◌, ℕ, ℤ, zero, suc, ◌+◌, ◌<◌, ◌≤◌, true, false, List, [], ◌∷◌, ◌++◌, length, Option, Some, None, refl, sym, ◌∙◌, subst, arith, append_assoc, eqb-true}
 use Rattle.mq_model.specs.Descriptors.{numbers_from}
-use Rattle.mq_model.specs.declared.entries.Access.{Access}
-use Rattle.mq_model.specs.declared.entries.Access.TheVariants.{Read, Write, Both}
 use Rattle.mq_model.specs.declared.entries.Attr.{Attr}
 use Rattle.mq_model.specs.declared.entries.Deadline.{Deadline}
 use Rattle.mq_model.specs.declared.entries.Description.{Description}
-use Rattle.mq_model.proofs.Places.{split}
 use Rattle.mq_equivalence.specs.Views.{Message, Registered, Sender}
-use Rattle.mq_equivalence.specs.Key.{access_number, bytes_code, codes, deadline_code, description_code, index_of, limits_code, listed, message_code, number, optional, registered_code, sender_code, signed, test}
+use Rattle.mq_equivalence.specs.Key.{bytes_code, codes, deadline_code, description_code, index_of, limits_code, listed, message_code, number, optional, registered_code, sender_code, test}
 
 -- a value and the numbers after it can both be decoded
 abbrev pub IsDecodable : {X : Type 0} → (X → List ℕ) → Type 0
@@ -19,42 +16,18 @@ pub decodable-number : IsDecodable number
 decodable-number x y u v e = (cc, cc)
 
 pub decodable-test : IsDecodable test
-decodable-test false false u v e = (refl, cc)
-decodable-test true true u v e = (refl, cc)
 decodable-test false true u v e = absurd (cc)
 decodable-test true false u v e = absurd (cc)
-
-decodable-signed : IsDecodable signed
-decodable-signed (pos n) (pos m) u v e = (cc, cc)
-decodable-signed (negsuc n) (negsuc m) u v e = (cc, cc)
-decodable-signed (pos n) (negsuc m) u v e = absurd (cc)
-decodable-signed (negsuc n) (pos m) u v e = absurd (cc)
-
-told-access : (a b : Access) → access_number a ≡ access_number b → a ≡ b
-told-access Read Read e = refl
-told-access Write Write e = refl
-told-access Both Both e = refl
-told-access Read Write e = absurd (cc)
-told-access Read Both e = absurd (cc)
-told-access Write Read e = absurd (cc)
-told-access Write Both e = absurd (cc)
-told-access Both Read e = absurd (cc)
-told-access Both Write e = absurd (cc)
+decodable-test _ _ u v e = (refl, cc)
 
 told-bytes : (xs ys u v : List ℕ) → length xs ≡ length ys → xs ++ u ≡ ys ++ v → (xs ≡ ys) × (u ≡ v)
 told-bytes [] [] u v n e = (refl, e)
-told-bytes (x ∷ xs) (y ∷ ys) u v n e =
-    let same : x ≡ y = cc in
-    let rest = told-bytes xs ys u v (omega arith) (cc) in
-    (rw (same, rest.0) refl, rest.1)
+told-bytes (x ∷ xs) (y ∷ ys) u v n e = grind (arith, told-bytes xs ys u v (omega arith) (cc))
 told-bytes [] (y ∷ ys) u v n e = absurd (omega arith)
 told-bytes (x ∷ xs) [] u v n e = absurd (omega arith)
 
 pub decodable-optional : {X : Type 0} (code : X → List ℕ) → IsDecodable code → IsDecodable (optional code)
-decodable-optional code told None None u v e = (refl, cc)
-decodable-optional code told (Some x) (Some y) u v e = let rest = told x y u v (cc) in (ap Some rest.0, rest.1)
-decodable-optional code told None (Some y) u v e = absurd (cc)
-decodable-optional code told (Some x) None u v e = absurd (cc)
+decodable-optional code told h h' u v e = grind arith
 
 decodable-codes : {X : Type 0} (code : X → List ℕ) → IsDecodable code → (xs ys : List X) (u v : List ℕ) → length xs ≡ length ys → codes code xs ++ u ≡ codes code ys ++ v → (xs ≡ ys) × (u ≡ v)
 decodable-codes code told [] [] u v n e = (refl, e)
@@ -62,8 +35,7 @@ decodable-codes code told (x ∷ xs) (y ∷ ys) u v n e =
     let first = told x y (codes code xs ++ u) (codes code ys ++ v) (sym (append_assoc (code x) (codes code xs) u) ∙ e ∙ append_assoc (code y) (codes code ys) v) in
     let rest = decodable-codes code told xs ys u v (omega arith) first.1 in
     (rw (first.0, rest.0) refl, rest.1)
-decodable-codes code told [] (y ∷ ys) u v n e = absurd (omega arith)
-decodable-codes code told (x ∷ xs) [] u v n e = absurd (omega arith)
+decodable-codes code told _ _ u v n e = absurd (omega arith)
 
 pub decodable-listed : {X : Type 0} (code : X → List ℕ) → IsDecodable code → IsDecodable (listed code)
 decodable-listed code told xs ys u v e = decodable-codes code told xs ys u v (cc) (cc)
@@ -71,30 +43,14 @@ decodable-listed code told xs ys u v e = decodable-codes code told xs ys u v (cc
 abbrev attr : ℤ → ℤ → Attr
 attr m n = record { maxmsg = m; msgsize = n }
 
-attr-same : (a b : Attr) → a.maxmsg ≡ b.maxmsg → a.msgsize ≡ b.msgsize → a ≡ b
-attr-same a b d e =
-    let goes : (m n k l : ℤ) → m ≡ k → n ≡ l → attr m n ≡ attr k l = λ m n k l d e. cc in
-    goes a.maxmsg a.msgsize b.maxmsg b.msgsize d e
-
 pub decodable-limits : IsDecodable limits_code
-decodable-limits a b u v e =
-    let first = decodable-signed a.maxmsg b.maxmsg (signed a.msgsize ++ u) (signed b.msgsize ++ v) (sym (append_assoc (signed a.maxmsg) (signed a.msgsize) u) ∙ e ∙ append_assoc (signed b.maxmsg) (signed b.msgsize) v) in
-    let rest = decodable-signed a.msgsize b.msgsize u v first.1 in
-    (attr-same a b first.0 rest.0, rest.1)
+decodable-limits a b u v e = grind arith
 
 abbrev moment : ℤ → ℤ → Deadline
 moment m n = record { sec = m; nsec = n }
 
-moment-same : (a b : Deadline) → a.sec ≡ b.sec → a.nsec ≡ b.nsec → a ≡ b
-moment-same a b d e =
-    let goes : (m n k l : ℤ) → m ≡ k → n ≡ l → moment m n ≡ moment k l = λ m n k l d e. cc in
-    goes a.sec a.nsec b.sec b.nsec d e
-
 pub decodable-deadline : IsDecodable deadline_code
-decodable-deadline a b u v e =
-    let first = decodable-signed a.sec b.sec (signed a.nsec ++ u) (signed b.nsec ++ v) (sym (append_assoc (signed a.sec) (signed a.nsec) u) ∙ e ∙ append_assoc (signed b.sec) (signed b.nsec) v) in
-    let rest = decodable-signed a.nsec b.nsec u v first.1 in
-    (moment-same a b first.0 rest.0, rest.1)
+decodable-deadline a b u v e = grind arith
 
 pub decodable-bytes_code : IsDecodable bytes_code
 decodable-bytes_code xs ys u v e = told-bytes xs ys u v (cc) (cc)
@@ -103,9 +59,7 @@ abbrev registered : ℕ → ℕ → ℕ → Registered
 registered p d v = record { process = p; d = d; value = v }
 
 registered-same : (a b : Registered) → a.process ≡ b.process → a.d ≡ b.d → a.value ≡ b.value → a ≡ b
-registered-same a b c d e =
-    let goes : (p q m n k l : ℕ) → p ≡ q → m ≡ n → k ≡ l → registered p m k ≡ registered q n l = λ p q m n k l c d e. cc in
-    goes a.process b.process a.d b.d a.value b.value c d e
+registered-same a b c d e = grind arith
 
 pub decodable-registered : IsDecodable registered_code
 decodable-registered a b u v e = (registered-same a b (cc) (cc) (cc), cc)
@@ -123,38 +77,19 @@ SameHeld qs ks None (Some h) = ⊥
 SameHeld qs ks (Some g) None = ⊥
 
 pub told-held : (qs ks : List ℕ) (o p : Option Description) (u v : List ℕ) → optional (description_code qs) o ++ u ≡ optional (description_code ks) p ++ v → SameHeld qs ks o p × (u ≡ v)
-told-held qs ks None None u v e = (tt, cc)
-told-held qs ks (Some g) (Some h) u v e =
-    let rest = decodable-test g.nonblock h.nonblock u v (cc) in
-    (record { queue = cc; access = told-access g.access h.access (cc); nonblock = rest.0 }, rest.1)
-told-held qs ks None (Some h) u v e = absurd (cc)
-told-held qs ks (Some g) None u v e = absurd (cc)
+told-held qs ks o p u v e = grind (arith, decodable-test)
 
 abbrev message : ℕ → List ℕ → Message
 message a xs = record { prio = a; bytes = xs }
 
-message-same : (m n : Message) → m.prio ≡ n.prio → m.bytes ≡ n.bytes → m ≡ n
-message-same m n d e =
-    let goes : (a b : ℕ) (xs ys : List ℕ) → a ≡ b → xs ≡ ys → message a xs ≡ message b ys = λ a b xs ys d e. cc in
-    goes m.prio n.prio m.bytes n.bytes d e
-
 pub decodable-message : IsDecodable message_code
-decodable-message m n u v e =
-    let rest = told-bytes m.bytes n.bytes u v (cc) (cc) in
-    (message-same m n (cc) rest.0, rest.1)
+decodable-message m n u v e = grind (arith, told-bytes)
 
 abbrev sender : ℕ → Message → Sender
 sender a m = record { process = a; message = m }
 
-sender-same : (s t : Sender) → s.process ≡ t.process → s.message ≡ t.message → s ≡ t
-sender-same s t d e =
-    let goes : (a b : ℕ) (m n : Message) → a ≡ b → m ≡ n → sender a m ≡ sender b n = λ a b m n d e. cc in
-    goes s.process t.process s.message t.message d e
-
 pub decodable-sender : IsDecodable sender_code
-decodable-sender s t u v e =
-    let rest = decodable-message s.message t.message u v (cc) in
-    (sender-same s t (cc) rest.0, rest.1)
+decodable-sender s t u v e = grind (arith, decodable-message)
 
 -- two lists whose items are related pair by pair
 abbrev pub Pairs : (ℕ → ℕ → Type 0) → List ℕ → List ℕ → Type 0
@@ -170,8 +105,7 @@ told-codes_pairs f g P told (x ∷ xs) (y ∷ ys) u v n e =
     let first = told x y (codes f xs ++ u) (codes g ys ++ v) (sym (append_assoc (f x) (codes f xs) u) ∙ e ∙ append_assoc (g y) (codes g ys) v) in
     let rest = told-codes_pairs f g P told xs ys u v (omega arith) first.1 in
     ((first.0, rest.0), rest.1)
-told-codes_pairs f g P told [] (y ∷ ys) u v n e = absurd (omega arith)
-told-codes_pairs f g P told (x ∷ xs) [] u v n e = absurd (omega arith)
+told-codes_pairs f g P told _ _ u v n e = absurd (omega arith)
 
 pub told-pairs : (f g : ℕ → List ℕ) (P : ℕ → ℕ → Type 0) → ((a b : ℕ) (u v : List ℕ) → f a ++ u ≡ g b ++ v → P a b × (u ≡ v)) →
     (xs ys : List ℕ) (u v : List ℕ) → listed f xs ++ u ≡ listed g ys ++ v → Pairs P xs ys × (u ≡ v)
@@ -184,9 +118,6 @@ pub length-numbers : (low n : ℕ) → length (numbers_from low n) ≡ n
 length-numbers low zero = refl
 length-numbers low (suc n) = omega (arith, length-numbers (low + 1) n)
 
-below-or : (p low : ℕ) (n : ℕ) → low ≤ p → p < low + suc n → (low == p) ≡ false → (low + 1 ≤ p) × (p < (low + 1) + n)
-below-or p low n l h d = let ne = eqb-false low p d in let other : low ≢ p = ne in (omega arith, omega arith)
-
 record DecodedNumbered (P : ℕ → Type 0) (low n : ℕ) (u v : List ℕ) : Type 0 where
   each : (p : ℕ) → low ≤ p → p < low + n → P p
   rest : u ≡ v
@@ -198,13 +129,7 @@ codes-numbered f g P told low (suc n) u v e =
     let us = codes f (numbers_from (low + 1) n) ++ u in
     let vs = codes g (numbers_from (low + 1) n) ++ v in
     let first = told low us vs (sym (append_assoc (f low) (codes f (numbers_from (low + 1) n)) u) ∙ e ∙ append_assoc (g low) (codes g (numbers_from (low + 1) n)) v) in
-    let more = codes-numbered f g P told (low + 1) n u v first.1 in
-    record {
-      each = λ p l h. split (low == p)
-          (λ t. subst P (eqb-true low p t) first.0)
-          (λ d. let b = below-or p low n l h d in more.each p b.0 b.1);
-      rest = more.rest;
-    }
+    grind (arith, nat_tests, eqb-true, codes-numbered f g P told (low + 1) n u v first.1)
 
 -- two lists that are numbered from 0
 pub record AllDecoded (P : ℕ → Type 0) (n m : ℕ) (u v : List ℕ) : Type 0 where

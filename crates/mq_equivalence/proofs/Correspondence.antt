@@ -1,4 +1,5 @@
 -- Queues that correspond.
+use Rattle.std.proofs.lemmas.Bool.Decides.{nat_tests}
 use Rattle.std.proofs.Common.{◌≡◌, ℕ, suc, ◌==◌, true, false, not, List, [], ◌∷◌, length, refl, sym, ◌∙◌, ap, arith, eqb-true, eq-eqb, ne_eqb}
 use Rattle.std.proofs.lemmas.Bool.{eqb-false}
 use Rattle.mq_model.specs.Messages.{is_in}
@@ -7,21 +8,13 @@ use Rattle.mq_model.proofs.Presence.{without-absent}
 use Rattle.mq_model.proofs.Steps.{without}
 use Rattle.mq_equivalence.specs.Structure.{Corresponds}
 use Rattle.mq_equivalence.proofs.Falling.{Falls, falls-filter, in-cons, in-first}
-use Rattle.mq_equivalence.proofs.Structure.{in-filter}
+use Rattle.mq_model.proofs.HeldQueues.{in-filter}
 
 pub corresponds-self : (qs : List ℕ) → Corresponds (λ q. q) qs qs
 corresponds-self qs = record { each = λ q h. h; every = λ k h. (k, h, refl); once = λ p q hp hq e. e }
 
 pub corresponds-on : (to on : ℕ → ℕ) (xs ys zs : List ℕ) → Corresponds to xs ys → Corresponds on ys zs → Corresponds (λ q. on (to q)) xs zs
-corresponds-on to on xs ys zs f g = record {
-  each = λ q h. g.each (to q) (f.each q h);
-  every = λ k h. let y = g.every k h in let x = f.every y.0 y.1 in (x.0, x.1, ap on x.2 ∙ y.2);
-  once = λ p q hp hq e. f.once p q hp hq (g.once (to p) (to q) (f.each p hp) (f.each q hq) e);
-}
-
--- as many queues
-in-apart : (k : ℕ) (ks : List ℕ) (j : ℕ) → is_in ks j ≡ true → (k ≡ j → ⊥) → is_in (without k ks) j ≡ true
-in-apart k ks j h ne = in-filter (λ i. not (k == i)) ks j h (rw (ne_eqb k j ne) refl)
+corresponds-on to on xs ys zs f g = grind arith
 
 one-less : (ks : List ℕ) (k : ℕ) → Falls ks → is_in ks k ≡ true → suc (length (without k ks)) ≡ length ks
 one-less [] k falls h = absurd (cc)
@@ -39,19 +32,6 @@ as-many to [] (k ∷ ys) falls_x falls_y c = let q = c.every k (in-first k ys) i
 as-many to (q ∷ xs) ys falls_x falls_y c =
     let k = to q in
     let other : (p : ℕ) → is_in xs p ≡ true → q ≡ p → ⊥ = λ p h e. let below = falls_x.0 p h in omega (arith, below, e) in
-    let rest : Corresponds to xs (without k ys) = record {
-      each = λ p h. in-apart k ys (to p) (c.each p (in-cons q xs p h)) (λ e. other p h (c.once q p (in-first q xs) (in-cons q xs p h) e));
-      every = λ j h.
-          let there = is_in-filter (λ i. not (k == i)) ys j h in
-          let p = c.every j there.0 in
-          let ne : (q == p.0) ≡ false = ne_eqb q p.0 (λ e.
-          let same : k ≡ j = ap to e ∙ p.2 in
-          let out : not (k == j) ≡ false = rw (eq-eqb k j same) refl in
-          let bad : false ≡ true = sym out ∙ there.1 in cc) in
-          let inside : is_in (q ∷ xs) p.0 ≡ true = p.1 in
-          let later : is_in xs p.0 ≡ true = rw ne at inside in
-          (p.0, later, p.2);
-      once = λ p r hp hr e. c.once p r (in-cons q xs p hp) (in-cons q xs r hr) e;
-    } in
+    let rest : Corresponds to xs (without k ys) = grind (arith, nat_tests, in-cons, in-first, is_in-filter, eq-eqb, in-filter) in
     sym (one-less ys k falls_y (c.each q (in-first q xs)))
     ∙ ap suc (as-many to xs (without k ys) falls_x.1 (falls-filter (λ i. not (k == i)) ys falls_y) rest)

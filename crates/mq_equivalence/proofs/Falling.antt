@@ -1,7 +1,6 @@
 -- Lists of places, the latest first, and the records at these places.
-use Rattle.std.proofs.Common.{◌≡◌, ℕ, ◌<◌, ◌≤◌, ◌==◌, Bool, true, false, List, [], ◌∷◌, map, Option, Some, None, is_some, refl, sym, ◌∙◌, ap, arith, eqb-true, eq-eqb, ne_eqb, ◌⊎◌, inl, inr, min, nat_le, length, suc, subst}
+use Rattle.std.proofs.Common.{◌≡◌, ℕ, ◌<◌, ◌≤◌, ◌==◌, Bool, true, false, List, [], ◌∷◌, map, Option, Some, None, is_some, refl, sym, ◌∙◌, ap, arith, eqb-true, eq-eqb, ne_eqb, ◌⊎◌, inl, inr, min, nat_le, length, suc, subst, unwrap_or}
 use Rattle.std.specs.List.{filter}
-use Rattle.std.specs.Option.{unwrap_or}
 use Rattle.std.proofs.lemmas.Bool.{eqb-false}
 use Rattle.std.proofs.lemmas.Bool.Decides.{nat_tests}
 use Rattle.mq_model.specs.Messages.{is_in, least}
@@ -17,9 +16,7 @@ Falls (k ∷ ks) = ((j : ℕ) → is_in ks j ≡ true → j < k) × Falls ks
 
 pub falls-filter : (t : ℕ → Bool) (ks : List ℕ) → Falls ks → Falls (filter t ks)
 falls-filter t [] falls = tt
-falls-filter t (k ∷ ks) falls = split (t k)
-    (λ y. rw y ((λ j h. falls.0 j (is_in-filter t ks j h).0), falls-filter t ks falls.1))
-    (λ n. rw n (falls-filter t ks falls.1))
+falls-filter t (k ∷ ks) falls = grind (arith, is_in-filter, falls-filter t ks falls.1)
 
 -- the last of a list, and the others
 abbrev pub oldest : {X : Type 0} → List (Option X) → Option X
@@ -37,9 +34,8 @@ any [] = false
 any (x ∷ xs) = true
 
 pub map-newer : {X Y : Type 0} (f : X → Y) (xs : List X) → map f (newer xs) ≡ newer (map f xs)
-map-newer f [] = refl
-map-newer f (x ∷ []) = refl
 map-newer f (x ∷ (y ∷ xs)) = rw (map-newer f (y ∷ xs)) refl
+map-newer f _ = refl
 
 pub any-least : {X : Type 0} (f : ℕ → X) (ks : List ℕ) → is_some (least ks) ≡ any (map f ks)
 any-least f [] = refl
@@ -48,10 +44,7 @@ any-least f (k ∷ ks) = refl
 -- the least of falling places is the last
 pub least-oldest : {X : Type 0} (f : ℕ → Option X) (ks : List ℕ) (w : ℕ) → Falls ks → least ks ≡ Some w → f w ≡ oldest (map f ks)
 least-oldest f [] w falls e = cc
-least-oldest f (k ∷ []) w falls e =
-    let s : min k k ≡ w = cc in
-    let same : w ≡ k = omega (arith, s) in
-    ap f same
+least-oldest f (k ∷ []) w falls e = grind arith
 least-oldest f (k ∷ (l ∷ ks)) w falls e =
     let v = min l (unwrap_or (least ks) l) in
     let lower : v ≤ l = omega arith in
@@ -62,19 +55,12 @@ least-oldest f (k ∷ (l ∷ ks)) w falls e =
 
 pub least-newer : (ks : List ℕ) (w : ℕ) → Falls ks → least ks ≡ Some w → without w ks ≡ newer ks
 least-newer [] w falls e = refl
-least-newer (k ∷ []) w falls e =
-    let s : min k k ≡ w = cc in
-    let same : w ≡ k = omega (arith, s) in
-    rw (eq-eqb w k same) refl
+least-newer (k ∷ []) w falls e = grind (arith, eq-eqb)
 least-newer (k ∷ (l ∷ ks)) w falls e =
     let v = min l (unwrap_or (least ks) l) in
     let lower : v ≤ l = omega arith in
     let below : l < k = falls.0 l (rw (eq-eqb l l refl) refl) in
-    let s : min k v ≡ w = cc in
-    let same : w ≡ v = omega (arith, s, lower, below) in
-    let rest : without v (l ∷ ks) ≡ newer (l ∷ ks) = least-newer (l ∷ ks) v falls.1 refl in
-    let other : (w == k) ≡ false = ne_eqb w k (λ is. omega (arith, is, same, lower, below)) in
-    rw other (ap (λ (xs : List ℕ). k ∷ xs) (ap (λ (x : ℕ). without x (l ∷ ks)) same ∙ rest))
+    grind (arith, nat_tests, without, least-newer (l ∷ ks) v falls.1 refl)
 
 -- items in line -------------------------------------------------------------------------------------------------------
 
@@ -88,9 +74,7 @@ others (x ∷ line) = line
 
 map-joined : {X Y : Type 0} (rank : Y → ℕ) (f : X → Y) (x : X) (line : List X) → map f (joined (λ z. rank (f z)) x line) ≡ joined rank (f x) (map f line)
 map-joined rank f x [] = refl
-map-joined rank f x (y ∷ line) = split (nat_le (rank (f x)) (rank (f y)))
-    (λ t. rw t (ap (λ ys. f y ∷ ys) (map-joined rank f x line)))
-    (λ n. rw n refl)
+map-joined rank f x (y ∷ line) = grind (arith, map-joined rank f x line)
 
 pub map-lined : {X Y : Type 0} (rank : Y → ℕ) (f : X → Y) (xs : List X) → map f (lined (λ z. rank (f z)) xs) ≡ lined rank (map f xs)
 map-lined rank f [] = refl
@@ -109,8 +93,7 @@ any-joined rank x [] = refl
 any-joined rank x (y ∷ line) = split (nat_le (rank x) (rank y)) (λ t. rw t refl) (λ n. rw n refl)
 
 pub any-lined : {X : Type 0} (rank : X → ℕ) (xs : List X) → any (lined rank xs) ≡ any xs
-any-lined rank [] = refl
-any-lined rank (x ∷ xs) = any-joined rank x (lined rank xs)
+any-lined rank xs = grind (arith, any-joined)
 
 -- the foremost has a lower priority, if there is one
 abbrev IsBelow : ℕ → List (Option Message) → Type 0
@@ -118,22 +101,12 @@ IsBelow n [] = Unit {0}
 IsBelow n (c ∷ line) = prio_of c < n
 
 below-joined : (n : ℕ) (c : Option Message) (line : List (Option Message)) → prio_of c < n → IsBelow n line → IsBelow n (joined prio_of c line)
-below-joined n c [] lt below = lt
-below-joined n c (d ∷ line) lt below = split (nat_le (prio_of c) (prio_of d)) (λ t. rw t below) (λ f. rw f lt)
-
-joined-first : (c : Option Message) (line : List (Option Message)) → IsBelow (prio_of c) line → joined prio_of c line ≡ c ∷ line
-joined-first c [] below = refl
-joined-first c (d ∷ line) below = split (nat_le (prio_of c) (prio_of d))
-    (λ t. let k : ⊥ = grind (arith, nat_tests) in absurd k)
-    (λ f. rw f refl)
+below-joined n c line lt below = grind arith
 
 -- what joins behind the foremost leaves it where it is
 pub joined-behind : (c : Option Message) (line : List (Option Message)) → any line ≡ true → prio_of c ≤ prio_of (foremost line) →
     (foremost (joined prio_of c line) ≡ foremost line) × (others (joined prio_of c line) ≡ joined prio_of c (others line))
-joined-behind c [] some le = absurd (cc)
-joined-behind c (d ∷ line) some le = split (nat_le (prio_of c) (prio_of d))
-    (λ t. rw t (refl, refl))
-    (λ f. let k : ⊥ = grind (arith, nat_tests) in absurd k)
+joined-behind c line some le = grind arith
 
 -- of these places b has the best message: of the highest priority the oldest
 pub record IsBest (f : ℕ → Option Message) (ks : List ℕ) (b : ℕ) : Type 0 where
@@ -146,9 +119,6 @@ in-cons k ks j h = split (k == j) (λ t. rw t refl) (λ f. rw (f, h) refl)
 pub in-first : (k : ℕ) (ks : List ℕ) → is_in (k ∷ ks) k ≡ true
 in-first k ks = rw (eq-eqb k k refl) refl
 
-in-later : (k : ℕ) (ks : List ℕ) (j : ℕ) → is_in (k ∷ ks) j ≡ true → (k == j) ≡ false → is_in ks j ≡ true
-in-later k ks j h f = rw f at h
-
 pub any-line : (f : ℕ → Option Message) (ks : List ℕ) (b : ℕ) → is_in ks b ≡ true → any (lined prio_of (map f ks)) ≡ true
 any-line f [] b h = absurd (cc)
 any-line f (k ∷ ks) b h = any-joined prio_of (f k) (lined prio_of (map f ks))
@@ -159,10 +129,7 @@ all-below f (k ∷ ks) n below =
     below-joined n (f k) (lined prio_of (map f ks)) (below k (in-first k ks)) (all-below f ks n (λ j h. below j (in-cons k ks j h)))
 
 best-rest : (f : ℕ → Option Message) (k : ℕ) (ks : List ℕ) (b : ℕ) → IsBest f (k ∷ ks) b → (k == b) ≡ false → IsBest f ks b
-best-rest f k ks b best other = record {
-  inside = in-later k ks b best.inside other;
-  first = λ j h. best.first j (in-cons k ks j h);
-}
+best-rest f k ks b best other = grind (arith, in-cons)
 
 -- a later message with the best priority would be behind the best one
 best-alone : (f : ℕ → Option Message) (k : ℕ) (ks : List ℕ) → Falls (k ∷ ks) → IsBest f (k ∷ ks) k → IsBelow (prio_of (f k)) (lined prio_of (map f ks))
@@ -178,11 +145,7 @@ pub best-first : (f : ℕ → Option Message) (ks : List ℕ) (b : ℕ) → Fall
     (f b ≡ foremost (lined prio_of (map f ks))) × (lined prio_of (map f (without b ks)) ≡ others (lined prio_of (map f ks)))
 best-first f [] b falls best = let h = best.inside in absurd (cc)
 best-first f (k ∷ ks) b falls best = split (k == b)
-    (λ t. let same : k ≡ b = eqb-true k b t in
-    let mine : IsBest f (k ∷ ks) k = subst (λ (j : ℕ). IsBest f (k ∷ ks) j) (sym same) best in
-    let front = joined-first (f k) (lined prio_of (map f ks)) (best-alone f k ks falls mine) in
-    let gone : is_in ks b ≡ false = split (is_in ks b) (λ y. let below = falls.0 b y in let k : ⊥ = omega (arith, below, same) in absurd k) (λ n. n) in
-    rw (front, eq-eqb b k (sym same)) (ap f (sym same), ap (λ (xs : List ℕ). lined prio_of (map f xs)) (without-absent b ks gone)))
+    (λ t. grind (arith, nat_tests, eqb-true, best-alone, eq-eqb, without-absent))
     (λ n. let rest = best-rest f k ks b best n in
     let other : (b == k) ≡ false = ne_eqb b k (λ is. eqb-false k b n (sym is)) in
     let is = best-first f ks b falls.1 rest in

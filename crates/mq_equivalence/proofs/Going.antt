@@ -6,17 +6,15 @@ use Rattle.std.proofs.lemmas.Bool.{eqb-false}
 use Rattle.mq_model.specs.Record.{Record, Past, record_at}
 use Rattle.mq_model.specs.Descriptors.{alive, called_queue, descriptor_of, held, is_on, is_place}
 use Rattle.mq_model.specs.Messages.{blocked_receives, blocked_sends, ended_receives, ended_sends, is_in}
-use Rattle.mq_model.specs.Notices.{gives_notice, notices, notified, only_if, or_else, registered, registration_of}
+use Rattle.mq_model.specs.Notices.{gives_notice, notices, notified}
 use Rattle.mq_model.specs.Deadlines.{deadline_of}
 use Rattle.mq_model.specs.Waits.{is_wait, open_wait, wait_deadline}
 use Rattle.mq_model.specs.Legality.{IsLegalNext, Legal, payload_of, reply_to}
 use Rattle.mq_model.specs.declared.entries.Entry.{Entry}
 use Rattle.mq_model.specs.declared.entries.Description.{Description}
-use Rattle.mq_model.specs.declared.entries.Registration.{Registration}
 use Rattle.mq_model.specs.declared.entries.Call.{Call}
 use Rattle.mq_model.specs.declared.entries.Call.TheVariants.{Collect}
 use Rattle.mq_model.specs.declared.entries.Reply.{Reply}
-use Rattle.mq_model.specs.declared.entries.Reply.TheVariants.{Opened, Queued, Handed, Waits, Got, Collected, Attrs, Notice, Done, Refused, Withdrawn}
 use Rattle.mq_model.proofs.Places.{split}
 use Rattle.mq_model.proofs.Frames.{record_at-older}
 use Rattle.mq_model.proofs.HeldQueues.{called-alive}
@@ -30,45 +28,35 @@ use Rattle.mq_equivalence.specs.Steps.{record_of, shape}
 use Rattle.mq_equivalence.proofs.Effects.{contents-step}
 use Rattle.mq_equivalence.proofs.Alike.{contents-shape, payload-alike, wait-shape}
 use Rattle.mq_equivalence.specs.Structure.{SameStructure, extended, renumbered}
-use Rattle.mq_equivalence.specs.Outline.{unnumbered, outline}
+use Rattle.mq_equivalence.specs.Outline.{outline}
 use Rattle.mq_equivalence.specs.Equivalence.{AgreeUnder, may_come}
 use Rattle.mq_equivalence.proofs.Seen.{after_seen, got-shape, is_got, no-got, seen-after}
-use Rattle.mq_equivalence.proofs.Structure.{alive-below, fewer-needed, needed-in, new-number, old-number, structure-stays}
+use Rattle.mq_equivalence.proofs.Structure.{fewer-needed, needed-in, new-number, old-number, structure-stays}
 use Rattle.mq_equivalence.proofs.Replies.{reply-equivalent}
 use Rattle.mq_equivalence.proofs.Notified.{after_notices, notices-step, notified_as, viewed}
 use Rattle.mq_equivalence.proofs.Registrations.{after_registered, registered-step}
+use Rattle.mq_state.proofs.QueuesNoted.{registered-later}
+use Rattle.mq_state.proofs.QueuesKeep.{alive-below}
 
 -- a queue that is not yet created ------------------------------------------------------------------------------------------
 
-off-new : (past : Past) → Legal past → (e : Entry) (q : ℕ) → length past ≤ q → is_on past e q ≡ false
+pub off-new : (past : Past) → Legal past → (e : Entry) (q : ℕ) → length past ≤ q → is_on past e q ≡ false
 off-new past legal e q le = by (called_queue past e.process e.call) refl
   where
     by : (o : Option ℕ) → called_queue past e.process e.call ≡ o → is_place q (called_queue past e.process e.call) ≡ false
     by None is = rw is refl
     by (Some k) is = let low : k < length past = alive-below past k (called-alive past legal e.process e.call k is) in rw is (ne_eqb k q (λ e. omega arith))
 
-and-false : (b : Bool) → (b && false) ≡ false
-and-false true = refl
-and-false false = refl
+pub and-false : (b : Bool) → (b && false) ≡ false
+and-false b = grind arith
 
-blocked_sends-new : (past : Past) → Legal past → (q : ℕ) → length past ≤ q → blocked_sends past q ≡ []
+pub blocked_sends-new : (past : Past) → Legal past → (q : ℕ) → length past ≤ q → blocked_sends past q ≡ []
 blocked_sends-new [] legal q le = refl
 blocked_sends-new (r ∷ past) legal q le = let off = off-new past legal.0 r.entry q (omega arith) in rw (off, and-false _) (blocked_sends-new past legal.0 q (omega arith))
 
-blocked_receives-new : (past : Past) → Legal past → (q : ℕ) → length past ≤ q → blocked_receives past q ≡ []
+pub blocked_receives-new : (past : Past) → Legal past → (q : ℕ) → length past ≤ q → blocked_receives past q ≡ []
 blocked_receives-new [] legal q le = refl
 blocked_receives-new (r ∷ past) legal q le = let off = off-new past legal.0 r.entry q (omega arith) in rw (off, and-false _) (blocked_receives-new past legal.0 q (omega arith))
-
-registered-new : (past : Past) → Legal past → (q : ℕ) → length past ≤ q → registered past q ≡ None
-registered-new [] legal q le = refl
-registered-new (r ∷ past) legal q le =
-    let off = off-new past legal.0 r.entry q (omega arith) in
-    let none = registered-new past legal.0 q (omega arith) in
-    rw (off, none) (by (registration_of (length past) r.entry.process r.entry.call r.entry.reply))
-  where
-    by : (o : Option Registration) → or_else (only_if false o) None ≡ None
-    by None = refl
-    by (Some n) = refl
 
 contents-new : (past : Past) → Legal past → contents past (length past) ≡ []
 contents-new past legal = ap (λ (ks : List ℕ). lined prio_of (map (at sent past) ks)) (present-new past legal (length past) (omega arith))
@@ -81,60 +69,20 @@ receivers-new past legal = ap (λ (ks : List ℕ). map (at author past) (filter 
 
 -- outlines -----------------------------------------------------------------------------------------------------------------
 
-hidden-some : (o : Option ℕ) → is_some (unnumbered o) ≡ is_some o
-hidden-some None = refl
-hidden-some (Some k) = refl
-
 pub shape-outline : (r : Reply) → shape (outline r) ≡ shape r
-shape-outline (Queued n) = refl
-shape-outline (Got m None n) = refl
-shape-outline (Got m (Some a) n) = refl
-shape-outline (Handed w) = refl
-shape-outline (Opened d created) = refl
-shape-outline Waits = refl
-shape-outline (Collected b) = refl
-shape-outline (Withdrawn w) = refl
-shape-outline (Attrs s) = refl
-shape-outline (Notice v) = refl
-shape-outline Done = refl
-shape-outline (Refused f) = refl
+shape-outline r = grind arith
 
 pub told-outline : (r : Reply) → is_some (notified (outline r)) ≡ is_some (notified r)
-told-outline (Queued n) = hidden-some n
-told-outline (Got m a n) = hidden-some n
-told-outline _ = refl
+told-outline r = grind arith
 
-given-outline : (r : Reply) → gives_notice (outline r) ≡ gives_notice r
-given-outline (Queued n) = refl
-given-outline (Got m a n) = refl
-given-outline (Handed w) = refl
-given-outline (Opened d created) = refl
-given-outline Waits = refl
-given-outline (Collected b) = refl
-given-outline (Withdrawn w) = refl
-given-outline (Attrs s) = refl
-given-outline (Notice v) = refl
-given-outline Done = refl
-given-outline (Refused f) = refl
+pub given-outline : (r : Reply) → gives_notice (outline r) ≡ gives_notice r
+given-outline r = grind arith
 
 pub registered-outline : (on : Bool) (p : ℕ) (call : Call) (r : Reply) (before : Option Registered) → after_registered on p call (outline r) before ≡ after_registered on p call r before
-registered-outline on p call (Queued None) before = refl
-registered-outline on p call (Queued (Some k)) before = refl
-registered-outline on p call (Got m a None) before = refl
-registered-outline on p call (Got m a (Some k)) before = refl
-registered-outline on p call (Handed w) before = refl
-registered-outline on p call (Opened d created) before = refl
-registered-outline on p call Waits before = refl
-registered-outline on p call (Collected b) before = refl
-registered-outline on p call (Withdrawn w) before = refl
-registered-outline on p call (Attrs s) before = refl
-registered-outline on p call (Notice v) before = refl
-registered-outline on p call Done before = refl
-registered-outline on p call (Refused f) before = refl
+registered-outline on p call r before = grind arith
 
 some-if : (b : Bool) (k : ℕ) → is_some (if b then Some k else None) ≡ b
-some-if true k = refl
-some-if false k = refl
+some-if b k = grind arith
 
 pub room-step : (past : Past) (p : ℕ) (call : Call) (reply : Reply) (payload : List ℕ) (k : ℕ) → waiting_room (rec p call reply payload ∷ past) k ≡ (if p == k then (if is_wait reply then Some (room_of call) else None) else waiting_room past k)
 room-step past p call reply payload k = split (p == k)
@@ -243,7 +191,7 @@ module _ {received : Bool} (to : ℕ → ℕ) (x y : Past) (equivalent : AgreeUn
     messages = ap (seen received) (contents-new y equivalent.legal.1 ∙ sym (contents-new x equivalent.legal.0));
     sending = ap (seen_senders received) (senders-new y equivalent.legal.1 ∙ sym (senders-new x equivalent.legal.0));
     receiving = receivers-new y equivalent.legal.1 ∙ sym (receivers-new x equivalent.legal.0);
-    registration = ap (option_map viewed) (registered-new y equivalent.legal.1 (length y) (omega arith) ∙ sym (registered-new x equivalent.legal.0 (length x) (omega arith)));
+    registration = ap (option_map viewed) (registered-later y equivalent.legal.1 (length y) (omega arith) ∙ sym (registered-later x equivalent.legal.0 (length x) (omega arith)));
   }
 
   pub same-at : (q : ℕ) → is_in (alive (rx ∷ x)) q ≡ true → SameAt q (onto q)

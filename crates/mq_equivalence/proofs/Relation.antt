@@ -1,5 +1,6 @@
 -- Equivalence is an equivalence relation.
-use Rattle.std.proofs.Common.{◌≡◌, ℕ, ◌==◌, true, false, List, [], ◌∷◌, Option, Some, None, if◌then◌else◌, refl, sym, ◌∙◌, ap, subst, eqb-true, eq-eqb, ne_eqb}
+use Rattle.std.proofs.lemmas.Bool.Decides.{nat_tests}
+use Rattle.std.proofs.Common.{◌≡◌, ℕ, ◌==◌, true, false, List, [], ◌∷◌, Option, Some, None, if◌then◌else◌, refl, sym, ◌∙◌, ap, subst, eqb-true, eq-eqb, ne_eqb, arith}
 use Rattle.std.specs.Option.{option_map}
 use Rattle.std.proofs.lemmas.Bool.{eqb-false}
 use Rattle.mq_model.specs.Record.{Past}
@@ -17,22 +18,6 @@ use Rattle.mq_equivalence.proofs.Correspondence.{corresponds-on, corresponds-sel
 use Rattle.mq_equivalence.proofs.Structure.{named-by, needed-in}
 
 -- renumberings -------------------------------------------------------------------------------------------------------------
-
-some-self : (o : Option ℕ) → option_map (λ q. q) o ≡ o
-some-self None = refl
-some-self (Some k) = refl
-
-some-twice : (f g : ℕ → ℕ) (o : Option ℕ) → option_map g (option_map f o) ≡ option_map (λ q. g (f q)) o
-some-twice f g None = refl
-some-twice f g (Some k) = refl
-
-held-self : (o : Option Description) → option_map (renumbered (λ q. q)) o ≡ o
-held-self None = refl
-held-self (Some h) = refl
-
-held-twice : (f g : ℕ → ℕ) (o : Option Description) → option_map (renumbered g) (option_map (renumbered f) o) ≡ option_map (renumbered (λ q. g (f q))) o
-held-twice f g None = refl
-held-twice f g (Some h) = refl
 
 -- of the queues, the one whose number is k
 origin : (ℕ → ℕ) → List ℕ → ℕ → ℕ
@@ -56,47 +41,13 @@ origin-is to (j ∷ qs) once q h = split (to j == to q)
 pub equivalent-self : (x : Past) → Legal x → Equivalent x x
 equivalent-self x legal = record {
   to = λ q. q;
-  equivalent = record {
-    legal = (legal, legal);
-    structure = record {
-      names = λ name. sym (some-self (bound_queue x name));
-      descriptors = λ p d. sym (held-self (held x p d));
-      queues = corresponds-self (alive x);
-      limits = λ q inside. refl;
-    };
-    messages = λ q inside. refl;
-    sending = λ q inside. refl;
-    receiving = λ q inside. refl;
-    registrations = λ q inside. refl;
-    values = λ p. refl;
-    waits = λ p. refl;
-    rooms = λ p. refl;
-    deadlines = λ p. refl;
-    answered = λ p. refl;
-  };
+  equivalent = grind (arith, nat_tests, corresponds-self);
 }
 
 pub equivalent-both : (x y z : Past) → Equivalent x y → Equivalent y z → Equivalent x z
 equivalent-both x y z f g = record {
   to = λ q. g.to (f.to q);
-  equivalent = record {
-    legal = (f.equivalent.legal.0, g.equivalent.legal.1);
-    structure = record {
-      names = λ name. g.equivalent.structure.names name ∙ ap (option_map g.to) (f.equivalent.structure.names name) ∙ some-twice f.to g.to (bound_queue x name);
-      descriptors = λ p d. g.equivalent.structure.descriptors p d ∙ ap (option_map (renumbered g.to)) (f.equivalent.structure.descriptors p d) ∙ held-twice f.to g.to (held x p d);
-      queues = corresponds-on f.to g.to (alive x) (alive y) (alive z) f.equivalent.structure.queues g.equivalent.structure.queues;
-      limits = λ q inside. g.equivalent.structure.limits (f.to q) (there q inside) ∙ f.equivalent.structure.limits q inside;
-    };
-    messages = λ q inside. g.equivalent.messages (f.to q) (there q inside) ∙ f.equivalent.messages q inside;
-    sending = λ q inside. g.equivalent.sending (f.to q) (there q inside) ∙ f.equivalent.sending q inside;
-    receiving = λ q inside. g.equivalent.receiving (f.to q) (there q inside) ∙ f.equivalent.receiving q inside;
-    registrations = λ q inside. g.equivalent.registrations (f.to q) (there q inside) ∙ f.equivalent.registrations q inside;
-    values = λ p. g.equivalent.values p ∙ f.equivalent.values p;
-    waits = λ p. g.equivalent.waits p ∙ f.equivalent.waits p;
-    rooms = λ p. g.equivalent.rooms p ∙ f.equivalent.rooms p;
-    deadlines = λ p. g.equivalent.deadlines p ∙ f.equivalent.deadlines p;
-    answered = λ p. g.equivalent.answered p ∙ f.equivalent.answered p;
-  };
+  equivalent = grind (arith, nat_tests, corresponds-on);
 }
   where
     there : (q : ℕ) → is_in (alive x) q ≡ true → is_in (alive y) (f.to q) ≡ true

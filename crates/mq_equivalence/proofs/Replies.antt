@@ -1,7 +1,6 @@
 -- After equivalent journals the replies to a call differ in places alone, and the same calls may be made.
-use Rattle.std.proofs.Common.{◌≡◌, ℕ, ◌==◌, Bool, true, false, ◌&&◌, not, List, [], ◌∷◌, length, map, Option, Some, None, is_some, is_none, if◌then◌else◌, refl, sym, ◌∙◌, ap, nat_le}
+use Rattle.std.proofs.Common.{◌≡◌, ℕ, ◌==◌, Bool, true, false, ◌&&◌, not, List, length, map, Option, Some, None, is_some, is_none, if◌then◌else◌, refl, sym, ◌∙◌, ap, arith, slice_get}
 use Rattle.std.proofs.lemmas.List.{length-map}
-use Rattle.std.specs.Prelude.{int_lt, pos, slice_get}
 use Rattle.std.specs.List.{find}
 use Rattle.std.specs.Option.{option_map}
 use Rattle.mq_model.specs.Record.{Past}
@@ -9,9 +8,8 @@ use Rattle.mq_model.specs.Names.{attributes, bound_queue}
 use Rattle.mq_model.specs.Descriptors.{alive, descriptor_numbers, held, lowest_free}
 use Rattle.mq_model.specs.Messages.{best, is_in, least, present, waiting_receives, waiting_sends}
 use Rattle.mq_model.specs.Notices.{registered, registered_place}
-use Rattle.mq_model.specs.Limits.{most_priorities}
-use Rattle.mq_model.specs.ErrorOrder.{accepted_reply, found_reply, is_full_with, is_of, is_read_only, is_write_only, open_reply, receive_reply, send_reply, timed_reply}
-use Rattle.mq_model.specs.Deadlines.{has_passed, is_moment, is_over}
+use Rattle.mq_model.specs.ErrorOrder.{found_reply, is_of, open_reply, receive_reply, send_reply, timed_reply}
+use Rattle.mq_model.specs.Deadlines.{is_over}
 use Rattle.mq_model.specs.Waits.{answered_by, open_wait}
 use Rattle.mq_model.specs.Legality.{may_call, reply_to, reply_to_attributes, reply_to_notify, reply_to_open, reply_to_receive, reply_to_send}
 use Rattle.mq_model.specs.declared.error_order.SendFacts.{SendFacts}
@@ -23,10 +21,9 @@ use Rattle.mq_model.specs.declared.entries.Description.{Description}
 use Rattle.mq_model.specs.declared.entries.Registration.{Registration}
 use Rattle.mq_model.specs.declared.entries.Call.{Call}
 use Rattle.mq_model.specs.declared.entries.Call.TheVariants.{MqOpen, MqClose, MqUnlink, MqSend, MqReceive, MqTimedSend, MqTimedReceive, MqGetattr, MqSetattr, MqNotify, NextNotice, Collect, Withdraw}
-use Rattle.mq_model.specs.declared.faults.Fault.TheVariants.{Again, BadDescriptor, Busy, Invalid, NoEntry}
+use Rattle.mq_model.specs.declared.faults.Fault.TheVariants.{BadDescriptor, Busy, Invalid, NoEntry}
 use Rattle.mq_model.specs.declared.entries.Reply.{Reply}
-use Rattle.mq_model.specs.declared.entries.Reply.TheVariants.{Opened, Queued, Handed, Waits, Got, Collected, Attrs, Notice, Done, Refused, Withdrawn}
-use Rattle.mq_model.proofs.Places.{split}
+use Rattle.mq_model.specs.declared.entries.Reply.TheVariants.{Notice, Done, Refused}
 use Rattle.mq_model.proofs.Best.{best-none}
 use Rattle.mq_model.proofs.HeldQueues.{held-alive}
 use Rattle.mq_equivalence.specs.Views.{Message, Registered, Sender, at, author, contents, prio_of, registered_as, sender, senders, sent, told}
@@ -38,66 +35,34 @@ use Rattle.mq_equivalence.proofs.Correspondence.{as-many}
 use Rattle.mq_equivalence.proofs.Structure.{falls-alive}
 use Rattle.mq_equivalence.specs.Equivalence.{AgreeUnder}
 use Rattle.mq_equivalence.proofs.Seen.{any-seen, any-seen_senders, length-seen}
+use Rattle.mq_equivalence.proofs.SameKeys.{some-map}
 
 pub shape-if : (b : Bool) (u v u' v' : Reply) → outline u ≡ outline u' → outline v ≡ outline v' → outline (if b then u else v) ≡ outline (if b then u' else v')
-shape-if true u v u' v' d e = d
-shape-if false u v u' v' d e = e
+shape-if b u v u' v' d e = grind arith
 
 -- of a send
 pub hidden-same : (n m : Option ℕ) → is_some n ≡ is_some m → unnumbered n ≡ unnumbered m
-hidden-same None None e = refl
-hidden-same (Some k) (Some j) e = refl
-hidden-same None (Some j) e = cc
-hidden-same (Some k) None e = cc
-
-if-some : (b : Bool) (n m : Option ℕ) → is_some n ≡ is_some m → is_some (if b then n else None) ≡ is_some (if b then m else None)
-if-some true n m e = e
-if-some false n m e = refl
-
-accepted-shape : (w v : Option ℕ) (full : Bool) (n m : Option ℕ) → is_some w ≡ is_some v → is_some n ≡ is_some m → outline (accepted_reply w full n) ≡ outline (accepted_reply v full m)
-accepted-shape None None full n m e f = shape-if full Waits (Queued n) Waits (Queued m) refl (ap Queued (hidden-same n m f))
-accepted-shape (Some w) (Some v) full n m e f = refl
-accepted-shape None (Some v) full n m e f = cc
-accepted-shape (Some w) None full n m e f = cc
+hidden-same n m e = grind arith
 
 abbrev pub send_with : Description → Attr → ℕ → Option ℕ → Option ℕ → SendFacts
 send_with d a c w n = record { description = d; attributes = a; count = c; waiting = w; registered = n }
 
 pub send-shape : (prio len : ℕ) (d : Description) (k : ℕ) (a : Attr) (c : ℕ) (w v n m : Option ℕ) → is_some w ≡ is_some v → is_some n ≡ is_some m → outline (send_reply prio len (Some (send_with (record { queue = k; access = d.access; nonblock = d.nonblock }) a c w n))) ≡ outline (send_reply prio len (Some (send_with d a c v m)))
-send-shape prio len d k a c w v n m e f =
-    shape-if (is_read_only d.access) _ _ _ _ refl (
-    shape-if (nat_le most_priorities prio) _ _ _ _ refl (
-    shape-if (int_lt a.msgsize (pos len)) _ _ _ _ refl (
-    shape-if (is_full_with a c && d.nonblock) _ _ _ _ refl (
-    accepted-shape w v (is_full_with a c) (if c == 0 then n else None) (if c == 0 then m else None) e (if-some (c == 0) n m f)))))
-
--- of a receive
-got-shape : (j k : ℕ) (w v n m : Option ℕ) → is_some w ≡ is_some v → is_some n ≡ is_some m → outline (Got j w n) ≡ outline (Got k v m)
-got-shape j k w v n m e f = λ i. Got 0 (hidden-same w v e i) (hidden-same n m f i)
+send-shape prio len d k a c w v n m e f = grind (arith, shape-if)
 
 pub found-shape : (nonblock : Bool) (b c w v n m : Option ℕ) → is_some b ≡ is_some c → is_some w ≡ is_some v → is_some n ≡ is_some m → outline (found_reply nonblock b w n) ≡ outline (found_reply nonblock c v m)
-found-shape nonblock None None w v n m d e f = shape-if nonblock (Refused Again) Waits (Refused Again) Waits refl refl
-found-shape nonblock (Some j) (Some k) w v n m d e f = got-shape j k w v n m e f
-found-shape nonblock None (Some k) w v n m d e f = cc
-found-shape nonblock (Some j) None w v n m d e f = cc
+found-shape nonblock b c w v n m d e f = grind (arith, shape-if)
 
 abbrev pub receive_with : Description → Attr → ℕ → Option ℕ → Option ℕ → Option ℕ → ReceiveFacts
 receive_with d a c b w n = record { description = d; attributes = a; count = c; best = b; waiting = w; registered = n }
 
-both-some : (w v n m : Option ℕ) (one : Bool) → is_some w ≡ is_some v → is_some n ≡ is_some m → is_some (if is_some w && one then n else None) ≡ is_some (if is_some v && one then m else None)
-both-some w v n m one f g = ap (λ (b : Bool). is_some (if b && one then n else None)) f ∙ if-some (is_some v && one) n m g
-
 pub receive-shape : (room : ℕ) (d : Description) (q : ℕ) (a : Attr) (c : ℕ) (b k w v n m : Option ℕ) → is_some b ≡ is_some k → is_some w ≡ is_some v → is_some n ≡ is_some m →
     outline (receive_reply room (Some (receive_with (record { queue = q; access = d.access; nonblock = d.nonblock }) a c b w n))) ≡ outline (receive_reply room (Some (receive_with d a c k v m)))
-receive-shape room d q a c b k w v n m e f g =
-    shape-if (is_write_only d.access) _ _ _ _ refl (
-    shape-if (int_lt (pos room) a.msgsize) _ _ _ _ refl (
-    found-shape d.nonblock b k w v (if is_some w && c == 1 then n else None) (if is_some v && c == 1 then m else None) e f (both-some w v n m (c == 1) f g)))
+receive-shape room d q a c b k w v n m e f g = grind (arith, shape-if, found-shape)
 
 -- with a deadline
 timed-flat : (until now : Deadline) (reply : Reply) → outline (timed_reply until now reply) ≡ timed_reply until now (outline reply)
-timed-flat until now Waits = split (not (is_moment until)) (λ t. rw t refl) (λ f. split (has_passed until now) (λ t. rw (f, t) refl) (λ g. rw (f, g) refl))
-timed-flat until now _ = refl
+timed-flat until now reply = grind arith
 
 pub timed-shape : (until now : Deadline) (a b : Reply) → outline a ≡ outline b → outline (timed_reply until now a) ≡ outline (timed_reply until now b)
 timed-shape until now a b e = timed-flat until now a ∙ ap (timed_reply until now) e ∙ sym (timed-flat until now b)
@@ -105,32 +70,16 @@ timed-shape until now a b e = timed-flat until now a ∙ ap (timed_reply until n
 -- the facts ---------------------------------------------------------------------------------------------------------------
 
 pub best-any : (past : Past) (q : ℕ) → is_some (best past q) ≡ any (present past q)
-best-any past q =
-    let empty : (ks : List ℕ) → ks ≡ [] → false ≡ any ks = λ ks e. sym (ap (λ (js : List ℕ). any js) e) in
-    let inside : (ks : List ℕ) (m : ℕ) → is_in ks m ≡ true → true ≡ any ks = λ (ks : List ℕ). elim ks as (λ ks. (m : ℕ) → is_in ks m ≡ true → true ≡ any ks) [ [] ↦ (λ m h. cc) | k ∷ ks ↦ (λ m h. refl) ] in
-    let goes : (o : Option ℕ) → best past q ≡ o → is_some o ≡ any (present past q) =
-    λ (o : Option ℕ). elim o as (λ o. best past q ≡ o → is_some o ≡ any (present past q)) [
-      | None ↦ (λ e. empty (present past q) (best-none past q e))
-      | Some m ↦ (λ e. inside (present past q) m (is-best past q m e).inside)
-    ]
-    in
-    goes (best past q) refl
+best-any past q = grind (arith, any, best-none, is-best)
 
 pub any-map : {X Y : Type 0} (f : X → Y) (xs : List X) → any (map f xs) ≡ any xs
-any-map f [] = refl
-any-map f (x ∷ xs) = refl
-
-some-map : {X Y : Type 0} (f : X → Y) (o : Option X) → is_some (option_map f o) ≡ is_some o
-some-map f None = refl
-some-map f (Some x) = refl
+any-map f xs = grind arith
 
 none-map : {X Y : Type 0} (f : X → Y) (o : Option X) → is_none (option_map f o) ≡ is_none o
-none-map f None = refl
-none-map f (Some x) = refl
+none-map f o = grind arith
 
 none-some : {X : Type 0} (o : Option X) → is_none o ≡ not (is_some o)
-none-some None = refl
-none-some (Some x) = refl
+none-some _ = refl
 
 pub count-contents : (past : Past) (q : ℕ) → length (present past q) ≡ length (contents past q)
 count-contents past q = sym (length-map (present past q) (at sent past)) ∙ sym (length-lined prio_of (map (at sent past) (present past q)))

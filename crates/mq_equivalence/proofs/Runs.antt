@@ -1,6 +1,6 @@
 -- Runs of calls after equivalent journals.
-use Rattle.std.proofs.Common.{◌≡◌, ℕ, ◌==◌, Bool, true, List, [], ◌∷◌, length, if◌then◌else◌, refl, sym, ◌∙◌, ap, subst}
-use Rattle.std.specs.Prelude.{IsTrue}
+use Rattle.std.proofs.lemmas.Bool.Decides.{nat_tests}
+use Rattle.std.proofs.Common.{◌≡◌, ℕ, Bool, true, List, [], ◌∷◌, length, refl, sym, ◌∙◌, ap, arith}
 use Rattle.mq_model.specs.Record.{Past}
 use Rattle.mq_model.specs.Legality.{IsLegalNext, Legal, is_payload, is_refused, payload_of, reply_to}
 use Rattle.mq_model.specs.declared.entries.Call.{Call}
@@ -19,9 +19,7 @@ use Rattle.mq_equivalence.proofs.Going.{shape-outline}
 use Rattle.mq_equivalence.proofs.Waiting.{goes-equivalent, message-equivalent}
 
 pub payload-by : (call : Call) (a b : Reply) (payload : List ℕ) → is_refused b ≡ is_refused a → is_payload call b payload ≡ is_payload call a payload
-payload-by (MqSend d prio len) a b payload e = ap (λ (r : Bool). length payload == (if r then 0 else len)) e
-payload-by (MqTimedSend d prio len until now) a b payload e = ap (λ (r : Bool). length payload == (if r then 0 else len)) e
-payload-by _ a b payload e = refl
+payload-by call a b payload e = grind arith
 
 -- an entry that may follow the one journal may follow the other
 pub next-equivalent : {received : Bool} (to : ℕ → ℕ) (x y : Past) → AgreeUnder received to x y → (p : ℕ) (call : Call) (given : List ℕ) → IsLegalNext x (record_of x p call given) → IsLegalNext y (record_of y p call given)
@@ -29,14 +27,7 @@ next-equivalent to x y equivalent p call given next =
     let a = reply_to x p call given in
     let b = reply_to y p call given in
     let shaped : shape b ≡ shape a = sym (shape-outline b) ∙ ap shape (reply-equivalent to x y equivalent p call given) ∙ shape-outline a in
-    let bytes : payload_of call b given ≡ payload_of call a given = payload-alike call b a given shaped in
-    let fits : is_payload call b (payload_of call b given) ≡ is_payload call a (payload_of call a given) = ap (is_payload call b) bytes ∙ payload-by call a b (payload_of call a given) (refused-alike b a shaped) in
-    record {
-      process = next.process;
-      turn = subst (λ (t : Bool). IsTrue t) (sym (turn-equivalent to x y equivalent p call)) next.turn;
-      payload = subst (λ (t : Bool). IsTrue t) (sym fits) next.payload;
-      reply = same-reply call given;
-    }
+    grind (arith, nat_tests, payload-alike, payload-by, refused-alike, turn-equivalent)
   where
     same-reply : (call : Call) (given : List ℕ) → reply_to y p call given ≡ reply_to y p call (payload_of call (reply_to y p call given) given)
     same-reply (MqOpen flags attr) given = refl

@@ -1,11 +1,11 @@
 -- Journals with one key are equivalent.
-use Rattle.std.proofs.Common.{◌≡◌, ℕ, suc, ◌≤◌, ◌==◌, Bool, true, false, ◌||◌, List, [], ◌∷◌, ◌++◌, map, Option, Some, None, is_some, if◌then◌else◌, refl, sym, ◌∙◌, ap, subst, arith, append_assoc, eqb-true, eq-eqb, ne_eqb, leb-true, leb-false}
-use Rattle.std.specs.Prelude.{nat_le}
+use Rattle.std.proofs.lemmas.Bool.Decides.{nat_tests}
+use Rattle.std.proofs.Common.{◌≡◌, ℕ, suc, ◌≤◌, ◌==◌, Bool, true, false, ◌||◌, List, [], ◌∷◌, ◌++◌, map, Option, Some, None, is_some, if◌then◌else◌, refl, sym, ◌∙◌, ap, subst, arith, append_assoc, eqb-true, eq-eqb, ne_eqb, leb-true, leb-false, nat_le}
 use Rattle.std.specs.Option.{option_map}
 use Rattle.std.proofs.lemmas.Bool.{eqb-false}
 use Rattle.mq_model.specs.Record.{Past}
-use Rattle.mq_model.specs.Names.{attributes, bound_queue, name_of}
-use Rattle.mq_model.specs.Descriptors.{alive, held, is_named, numbers_from}
+use Rattle.mq_model.specs.Names.{attributes, bound_queue}
+use Rattle.mq_model.specs.Descriptors.{alive, held, numbers_from}
 use Rattle.mq_model.specs.Messages.{is_in}
 use Rattle.mq_model.specs.Notices.{notices}
 use Rattle.mq_model.specs.Waits.{open_wait, wait_deadline}
@@ -33,22 +33,11 @@ Differ (k ∷ ks) = (is_in ks k ≡ false) × Differ ks
 
 falls-differ : (ks : List ℕ) → Falls ks → Differ ks
 falls-differ [] falls = tt
-falls-differ (k ∷ ks) falls = (
-  split (is_in ks k) (λ y. let lt = falls.0 k y in let bad : ⊥ = omega (arith, lt) in absurd bad) (λ n. n),
-  falls-differ ks falls.1,
-)
+falls-differ (k ∷ ks) falls = grind (arith, falls-differ ks falls.1)
 
 in-joined : (rank : ℕ → ℕ) (m : ℕ) (line : List ℕ) (k : ℕ) → is_in (joined rank m line) k ≡ is_in (m ∷ line) k
 in-joined rank m [] k = refl
-in-joined rank m (j ∷ line) k = split (nat_le (rank m) (rank j))
-    (λ t. rw t (ap (λ (b : Bool). j == k || b) (in-joined rank m line k) ∙ swapped (j == k) (m == k) (is_in line k)))
-    (λ f. rw f refl)
-  where
-    swapped : (a b c : Bool) → (a || (b || c)) ≡ (b || (a || c))
-    swapped true true c = refl
-    swapped true false c = refl
-    swapped false true c = refl
-    swapped false false c = refl
+in-joined rank m (j ∷ line) k = grind (arith, in-joined rank m line k)
 
 in-lined : (rank : ℕ → ℕ) (ks : List ℕ) (k : ℕ) → is_in (lined rank ks) k ≡ is_in ks k
 in-lined rank [] k = refl
@@ -60,11 +49,7 @@ joined-differ rank m (j ∷ line) out differ =
     split (j == m)
     (λ e. let bad : true ≡ false = rw e at out in absurd (cc))
     (λ ne. let later : is_in line m ≡ false = rw ne at out in
-    let other : (m == j) ≡ false = ne_eqb m j (λ is. eqb-false j m ne (sym is)) in
-    split (nat_le (rank m) (rank j))
-    (λ t. let new : is_in (m ∷ line) j ≡ false = rw (other, differ.0) refl in
-    rw t (in-joined rank m line j ∙ new, joined-differ rank m line later differ.1))
-    (λ f. rw f (out, differ)))
+    grind (arith, nat_tests, eqb-false, in-joined, joined-differ rank m line later differ.1))
 
 lined-differ : (rank : ℕ → ℕ) (ks : List ℕ) → Differ ks → Differ (lined rank ks)
 lined-differ rank [] differ = tt
@@ -166,21 +151,7 @@ told-queue received x y q k u v e =
     sym (flatten n a b c d r u) ∙ e ∙ flatten n2 a2 b2 c2 d2 r2 v
     in
     let name = decodable-optional bytes_code decodable-bytes_code (bound_name x q) (bound_name y k) _ _ flat in
-    let limits = decodable-limits (attributes x q) (attributes y k) _ _ name.1 in
-    let messages = decodable-listed (optional message_code) (decodable-optional message_code decodable-message) (seen received (contents x q)) (seen received (contents y k)) _ _ limits.1 in
-    let sending = decodable-listed (optional sender_code) (decodable-optional sender_code decodable-sender) (seen_senders received (senders x q)) (seen_senders received (senders y k)) _ _ messages.1 in
-    let receiving = decodable-listed (optional number) (decodable-optional number decodable-number) (receivers x q) (receivers y k) _ _ sending.1 in
-    let registered = decodable-optional registered_code decodable-registered (registered_as x q) (registered_as y k) u v receiving.1 in (
-      record {
-        name = name.0;
-        limits = limits.0;
-        messages = messages.0;
-        sending = sending.0;
-        receiving = receiving.0;
-        registered = registered.0;
-      },
-      registered.1,
-    )
+    grind (arith, nat_tests, decodable-limits, decodable-listed, decodable-optional, decodable-message, decodable-sender, decodable-number, decodable-registered)
   where
     flatten : (n a b c d r u : List ℕ) → (n ++ (a ++ (b ++ (c ++ (d ++ r))))) ++ u ≡ n ++ (a ++ (b ++ (c ++ (d ++ (r ++ u)))))
     flatten n a b c d r u = simp append_assoc
@@ -201,9 +172,7 @@ unfolding holdings
 by-number queues past p n = listed-map (optional (description_code queues)) (held past p) (numbers_from 0 n)
 
 none-held : (qs ks : List ℕ) (o p : Option Description) → o ≡ None → p ≡ None → SameHeld qs ks o p
-none-held qs ks None None e f = tt
-none-held qs ks (Some g) p e f = absurd (cc)
-none-held qs ks None (Some h) e f = absurd (cc)
+none-held qs ks o p e f = grind arith
 
 holds-same : (x y : Past) (p w v : ℕ) (us vs : List ℕ) → number_bound x ≤ w → number_bound y ≤ v → holdings (queues_by_name x) x p w ++ us ≡ holdings (queues_by_name y) y p v ++ vs →
     ((d : ℕ) → SameHeld (queues_by_name x) (queues_by_name y) (held x p d) (held y p d)) × (us ≡ vs)
@@ -254,13 +223,7 @@ told-process x y n m wide_x wide_y p u v e =
     flatten a b c d h u = simp append_assoc
 
 idle-same : (x y : Past) (p : ℕ) → IsIdle x p → IsIdle y p → SameProcess x y p
-idle-same x y p i j = record {
-  room = ap (λ (o : Option ℕ). option_map (λ w. room_of (waiting_call x p)) o) i.waits ∙ sym (ap (λ (o : Option ℕ). option_map (λ w. room_of (waiting_call y p)) o) j.waits);
-  deadline = i.deadline ∙ sym j.deadline;
-  answered = ap (λ (o : Option ℕ). option_map (at told x) o) i.answered ∙ sym (ap (λ (o : Option ℕ). option_map (at told y) o) j.answered);
-  notices = i.notices ∙ sym j.notices;
-  holds = λ d. none-held (queues_by_name x) (queues_by_name y) (held x p d) (held y p d) (i.held d) (j.held d);
-}
+idle-same x y p i j = grind (arith, none-held)
 
 -- the whole key ------------------------------------------------------------------------------------
 
@@ -273,17 +236,12 @@ existing past q h = sym (in-lined (name_rank past) (alive past) q) ∙ h
 names-differ : (past : Past) → Differ (queues_by_name past)
 names-differ past = lined-differ (name_rank past) (alive past) (falls-differ (alive past) (falls-alive past))
 
-some-map : {X Y : Type 0} (f : X → Y) (o : Option X) → is_some (option_map f o) ≡ is_some o
-some-map f None = refl
-some-map f (Some x) = refl
+pub some-map : {X Y : Type 0} (f : X → Y) (o : Option X) → is_some (option_map f o) ≡ is_some o
+some-map f o = grind arith
 
 -- a queue that is bound to its name has it, and is bound by it
 named-of : (past : Past) (q : ℕ) (name : List ℕ) → bound_name past q ≡ Some name → bound_queue past name ≡ Some q
-named-of past q name e = split (is_named past q)
-    (λ t. let is : Some (name_of past q) ≡ Some name = rw t at e in
-    let same : name_of past q ≡ name = cc in
-    subst (λ (bytes : List ℕ). bound_queue past bytes ≡ Some q) same (named-bound past q t))
-    (λ f. let bad : None ≡ Some name = rw f at e in absurd (cc))
+named-of past q name e = grind (arith, named-bound)
 
 name-of : (past : Past) (q : ℕ) (name : List ℕ) → bound_queue past name ≡ Some q → bound_name past q ≡ Some name
 name-of past q name e = rw (bound-named past name q e, bound-name past name q e) refl
@@ -370,5 +328,4 @@ same-within received x y n m w v legal_x legal_y high_x high_y wide_x wide_y e =
     (λ f. processes.each p (omega (arith, leb-false _ _ f))))
 
 pub same-key : (received : Bool) (x y : Past) → Legal x → Legal y → key_if received x ≡ key_if received y → Agree received x y
-same-key received x y legal_x legal_y e =
-    same-within received x y (process_bound x) (process_bound y) (number_bound x) (number_bound y) legal_x legal_y (omega arith) (omega arith) (omega arith) (omega arith) e
+same-key received x y legal_x legal_y e = grind (arith, same-within)

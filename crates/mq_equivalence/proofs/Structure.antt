@@ -1,6 +1,7 @@
 -- Names, descriptors and the queues that exist remain the same up to their numbers, under each call
 -- whose replies differ only in sequence numbers.
-use Rattle.std.proofs.Common.{◌≡◌, ℕ, ◌<◌, ◌==◌, Bool, true, false, ◌&&◌, ◌||◌, not, List, [], ◌∷◌, length, map, Option, Some, None, is_some, if◌then◌else◌, refl, sym, ◌∙◌, ap, subst, arith, eqb-true, eq-eqb, ne_eqb}
+use Rattle.std.proofs.lemmas.Bool.Decides.{nat_tests}
+use Rattle.std.proofs.Common.{◌≡◌, ℕ, ◌<◌, ◌==◌, Bool, true, false, ◌&&◌, ◌||◌, List, [], ◌∷◌, length, map, Option, Some, None, if◌then◌else◌, refl, sym, ◌∙◌, ap, subst, arith, eqb-true, eq-eqb, ne_eqb}
 use Rattle.std.specs.List.{filter}
 use Rattle.std.specs.Str.{bytes_eq}
 use Rattle.std.specs.Option.{option_map, unwrap_or}
@@ -9,34 +10,28 @@ use Rattle.mq_model.specs.Record.{Record, Past}
 use Rattle.mq_model.specs.Names.{attributes, bound_queue, creates, name_of, unlinks}
 use Rattle.mq_model.specs.Descriptors.{after_close, after_open, after_setattr, alive, created, description, held, held_after, is_held, is_named, opened_queue, with_nonblock}
 use Rattle.mq_model.specs.Messages.{is_in}
-use Rattle.mq_model.specs.Legality.{Legal, reply_to}
+use Rattle.mq_model.specs.Legality.{Legal}
 use Rattle.mq_model.specs.declared.entries.Attr.{Attr}
 use Rattle.mq_model.specs.declared.entries.OpenFlags.{OpenFlags}
 use Rattle.mq_model.specs.declared.entries.Description.{Description}
 use Rattle.mq_model.specs.declared.entries.Call.{Call}
 use Rattle.mq_model.specs.declared.entries.Call.TheVariants.{MqOpen, MqClose, MqSetattr}
 use Rattle.mq_model.specs.declared.entries.Reply.{Reply}
-use Rattle.mq_model.specs.declared.entries.Reply.TheVariants.{Opened, Queued, Handed, Waits, Got, Collected, Attrs, Notice, Done, Refused, Withdrawn}
+use Rattle.mq_model.specs.declared.entries.Reply.TheVariants.{Opened, Attrs, Done}
 use Rattle.mq_model.proofs.Places.{split, is_in-filter}
 use Rattle.mq_model.proofs.Frames.{attributes-older, created-below}
-use Rattle.mq_model.proofs.HeldQueues.{after-cases, bound-created, created-held}
+use Rattle.mq_model.proofs.HeldQueues.{after-cases, bound-created, created-held, in-filter}
 use Rattle.mq_model.proofs.Alive.{bound-named, held-is_held, is_held-holder, is_needed, named-bound, named-newest, needed-alive, rec, same-tests}
 use Rattle.mq_model.proofs.OpenReplies.{opened-says}
 use Rattle.mq_equivalence.specs.Steps.{shape}
 use Rattle.mq_equivalence.proofs.Falling.{Falls, falls-filter, in-first}
 use Rattle.mq_equivalence.specs.Structure.{SameStructure, extended, renumbered}
+use Rattle.mq_state.proofs.QueuesKeep.{alive-below}
 
 -- options and lists ------------------------------------------------------------------------------------------------------
 
 pub option-same : {X Y : Type 0} (f g : X → Y) (o : Option X) → ((v : X) → o ≡ Some v → f v ≡ g v) → option_map f o ≡ option_map g o
-option-same f g None same = refl
-option-same f g (Some v) same = ap Some (same v refl)
-
-pub in-filter : (t : ℕ → Bool) (xs : List ℕ) (m : ℕ) → is_in xs m ≡ true → t m ≡ true → is_in (filter t xs) m ≡ true
-in-filter t [] m h passes = absurd (cc)
-in-filter t (x ∷ xs) m h passes = split (x == m)
-    (λ e. let same : x ≡ m = eqb-true _ _ e in let pass : t x ≡ true = rw same passes in rw (pass, e) refl)
-    (λ n. let rest : is_in xs m ≡ true = rw n at h in split (t x) (λ y. rw (y, n) (in-filter t xs m rest passes)) (λ z. rw z (in-filter t xs m rest passes)))
+option-same f g o same = grind arith
 
 pub in-map : (f : ℕ → ℕ) (ks : List ℕ) (j : ℕ) → is_in ks j ≡ true → is_in (map f ks) (f j) ≡ true
 in-map f [] j h = absurd (cc)
@@ -59,9 +54,7 @@ filter-twice s t (x ∷ xs) both =
 
 falls-created : (past : Past) → Falls (created past)
 falls-created [] = tt
-falls-created (r ∷ past) = split (creates r.entry.call r.entry.reply)
-    (λ t. rw t ((λ j h. created-below past j h), falls-created past))
-    (λ f. rw f (falls-created past))
+falls-created (r ∷ past) = grind (arith, created-below, falls-created past)
 
 pub falls-alive : (past : Past) → Falls (alive past)
 falls-alive past = falls-filter _ (created past) (falls-created past)
@@ -91,9 +84,6 @@ needed-created past legal q e = split (is_named past q)
 pub needed-in : (past : Past) → Legal past → (q : ℕ) → is_needed past q ≡ true → is_in (alive past) q ≡ true
 needed-in past legal q e = in-filter (is_needed past) (created past) q (needed-created past legal q e) e
 
-pub alive-below : (past : Past) (q : ℕ) → is_in (alive past) q ≡ true → q < length past
-alive-below past q h = created-below past q (is_in-filter (is_needed past) (created past) q h).0
-
 -- needed queues ----------------------------------------------------------------------------------------------------------
 
 pub named-by : (past : Past) (name : List ℕ) (k : ℕ) → bound_queue past name ≡ Some k → is_needed past k ≡ true
@@ -103,13 +93,7 @@ held-by : (past : Past) (p d q : ℕ) (h : Description) → held past p d ≡ So
 held-by past p d q h e on = split (is_named past q) (λ t. rw t refl) (λ f. rw (f, held-is_held past p d q h e on) refl)
 
 opened-old : (past : Past) (r : Record) → Legal (r ∷ past) → (flags : OpenFlags) (attr : Option Attr) (e : ℕ) → r.entry.call ≡ MqOpen flags attr → r.entry.reply ≡ Opened e false → (k : ℕ) × (bound_queue past r.payload ≡ Some k)
-opened-old past r legal flags attr e call reply =
-    let says : Opened e false ≡ reply_to past r.entry.process (MqOpen flags attr) r.payload = sym reply ∙ legal.1.reply ∙ ap (λ (c : Call). reply_to past r.entry.process c r.payload) call in
-    by (bound_queue past r.payload) refl (opened-says past r.entry.process flags attr r.payload e false says).new
-  where
-    by : (o : Option ℕ) → bound_queue past r.payload ≡ o → not (is_some (bound_queue past r.payload)) ≡ false → (k : ℕ) × (bound_queue past r.payload ≡ Some k)
-    by None is f = absurd (let bad : true ≡ false = rw is at f in cc)
-    by (Some k) is f = (k, is)
+opened-old past r legal flags attr e call reply = grind (arith, opened-says)
 
 -- what is needed after a record, and is not the queue that it creates, was needed before it
 pub fewer-needed : (past : Past) (r : Record) → Legal (r ∷ past) → (k : ℕ) → k < length past → is_needed (r ∷ past) k ≡ true → is_needed past k ≡ true
@@ -143,28 +127,11 @@ fewer-needed past r legal k lt e = split (is_named (r ∷ past) k)
 
 -- the queues that exist after a record: of those before it the ones that are still needed, and the one that it creates
 pub alive-after : (past : Past) (r : Record) → Legal (r ∷ past) → alive (r ∷ past) ≡ (if creates r.entry.call r.entry.reply then length past ∷ filter (is_needed (r ∷ past)) (alive past) else filter (is_needed (r ∷ past)) (alive past))
-alive-after past r legal =
-    let rest : filter (is_needed (r ∷ past)) (created past) ≡ filter (is_needed (r ∷ past)) (alive past) = filter-twice (is_needed past) (is_needed (r ∷ past)) (created past) (λ k h t. fewer-needed past r legal k (created-below past k h) t) in
-    split (creates r.entry.call r.entry.reply)
-    (λ t. let newest : created (r ∷ past) ≡ length past ∷ created past = rw t refl in
-    let needed : is_needed (r ∷ past) (length past) ≡ true = rw (named-newest past r t) refl in
-    ap (filter (is_needed (r ∷ past))) newest
-    ∙ ap (λ b. if b then length past ∷ filter (is_needed (r ∷ past)) (created past) else filter (is_needed (r ∷ past)) (created past)) needed
-    ∙ ap (λ xs. length past ∷ xs) rest
-    ∙ rw t refl)
-    (λ f. let newest : created (r ∷ past) ≡ created past = rw f refl in ap (filter (is_needed (r ∷ past))) newest ∙ rest ∙ rw f refl)
+alive-after past r legal = grind (arith, is_needed, filter-twice, fewer-needed, created-below, named-newest)
 
 -- a queue is needed in one journal if it is in the other, provided that no two needed ones have one number there
 named-both : (x y : Past) (to : ℕ → ℕ) → ((name : List ℕ) → bound_queue y name ≡ option_map to (bound_queue x name)) → (q : ℕ) → ((k : ℕ) → is_needed x k ≡ true → to k ≡ to q → k ≡ q) → is_named y (to q) ≡ is_named x q
-named-both x y to names q one = same-tests _ _
-    (λ t. let n = name_of y (to q) in by n (bound_queue x n) refl (sym (names n) ∙ named-bound y (to q) t))
-    (λ t. bound-named y (name_of x q) (to q) (names (name_of x q) ∙ ap (option_map to) (named-bound x q t)))
-  where
-    by : (n : List ℕ) (o : Option ℕ) → bound_queue x n ≡ o → option_map to (bound_queue x n) ≡ Some (to q) → is_named x q ≡ true
-    by n None is e = absurd (let bad : None ≡ Some (to q) = rw is at e in cc)
-    by n (Some k) is e = let some : Some (to k) ≡ Some (to q) = rw is at e in
-        let same : to k ≡ to q = cc in
-        bound-named x n q (is ∙ ap Some (one k (named-by x n k is) same))
+named-both x y to names q one = grind (arith, same-tests, named-bound, bound-named, named-by)
 
 held-both : (x y : Past) (to : ℕ → ℕ) → ((p d : ℕ) → held y p d ≡ option_map (renumbered to) (held x p d)) → (q : ℕ) → ((k : ℕ) → is_needed x k ≡ true → to k ≡ to q → k ≡ q) → is_held y (to q) ≡ is_held x q
 held-both x y to descriptors q one = same-tests _ _
@@ -173,10 +140,7 @@ held-both x y to descriptors q one = same-tests _ _
   where
     back : (p d : ℕ) (h : Description) → h.queue ≡ to q → (o : Option Description) → held x p d ≡ o → option_map (renumbered to) (held x p d) ≡ Some h → is_held x q ≡ true
     back p d h on None is e = absurd (let bad : None ≡ Some h = rw is at e in cc)
-    back p d h on (Some k) is e = let some : Some (renumbered to k) ≡ Some h = rw is at e in
-        let same : renumbered to k ≡ h = cc in
-        let at : to k.queue ≡ to q = ap (λ (v : Description). v.queue) same ∙ on in
-        held-is_held x p d q k is (one k.queue (held-by x p d k.queue k is refl) at)
+    back p d h on (Some k) is e = grind (arith, nat_tests, held-is_held, held-by)
 
 needed-both : (x y : Past) (to : ℕ → ℕ) → ((name : List ℕ) → bound_queue y name ≡ option_map to (bound_queue x name)) → ((p d : ℕ) → held y p d ≡ option_map (renumbered to) (held x p d)) → (q : ℕ) → ((k : ℕ) → is_needed x k ≡ true → to k ≡ to q → k ≡ q) → is_needed y (to q) ≡ is_needed x q
 needed-both x y to names descriptors q one = λ i. named-both x y to names q one i || held-both x y to descriptors q one i
@@ -184,47 +148,16 @@ needed-both x y to names descriptors q one = λ i. named-both x y to names q one
 -- replies of one shape ---------------------------------------------------------------------------------------------------
 
 creates-shape : (call : Call) (reply : Reply) → creates call (shape reply) ≡ creates call reply
-creates-shape call (Opened d created) = refl
-creates-shape call (Queued n) = refl
-creates-shape call (Handed w) = refl
-creates-shape call (Got m a n) = refl
-creates-shape call Waits = refl
-creates-shape call (Collected b) = refl
-creates-shape call (Withdrawn w) = refl
-creates-shape call (Attrs s) = refl
-creates-shape call (Notice v) = refl
-creates-shape call Done = refl
-creates-shape call (Refused f) = refl
+creates-shape call reply = grind arith
 
 unlinks-shape : (call : Call) (reply : Reply) → unlinks call (shape reply) ≡ unlinks call reply
-unlinks-shape call (Opened d created) = refl
-unlinks-shape call (Queued n) = refl
-unlinks-shape call (Handed w) = refl
-unlinks-shape call (Got m a n) = refl
-unlinks-shape call Waits = refl
-unlinks-shape call (Collected b) = refl
-unlinks-shape call (Withdrawn w) = refl
-unlinks-shape call (Attrs s) = refl
-unlinks-shape call (Notice v) = refl
-unlinks-shape call Done = refl
-unlinks-shape call (Refused f) = refl
+unlinks-shape call reply = grind arith
 
 held-shape : (past : Past) (call : Call) (name : List ℕ) (reply : Reply) (d : ℕ) (before : Option Description) → held_after past call name (shape reply) d before ≡ held_after past call name reply d before
-held-shape past call name (Opened e created) d before = refl
-held-shape past call name (Queued n) d before = refl
-held-shape past call name (Handed w) d before = refl
-held-shape past call name (Got m a n) d before = refl
-held-shape past call name Waits d before = refl
-held-shape past call name (Collected b) d before = refl
-held-shape past call name (Withdrawn w) d before = refl
-held-shape past call name (Attrs s) d before = refl
-held-shape past call name (Notice v) d before = refl
-held-shape past call name Done d before = refl
-held-shape past call name (Refused f) d before = refl
+held-shape past call name reply d before = grind arith
 
 opened-only : (reply : Reply) (e : ℕ) (new : Bool) → shape reply ≡ Opened e new → reply ≡ Opened e new
-opened-only (Opened d created) e new same = same
-opened-only _ e new same = absurd (cc)
+opened-only reply e new same = grind arith
 
 -- the step ----------------------------------------------------------------------------------------------------------------
 

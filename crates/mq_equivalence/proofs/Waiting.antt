@@ -1,6 +1,6 @@
 -- The processes that wait, the answers to their waits, and the message that a call returns:
 -- equivalent journals remain equivalent.
-use Rattle.std.proofs.Common.{◌≡◌, ℕ, ◌==◌, Bool, true, false, List, [], ◌∷◌, length, Option, Some, None, is_none, if◌then◌else◌, refl, sym, ◌∙◌, ap, subst}
+use Rattle.std.proofs.Common.{◌≡◌, ℕ, ◌==◌, Bool, true, false, List, [], ◌∷◌, length, Option, Some, None, if◌then◌else◌, refl, sym, ◌∙◌, ap, subst, arith}
 use Rattle.std.specs.Option.{option_and_then, option_map, unwrap_or}
 use Rattle.mq_model.specs.Record.{Past}
 use Rattle.mq_model.specs.Descriptors.{alive, called_queue, descriptor_of, held, is_place}
@@ -9,9 +9,8 @@ use Rattle.mq_model.specs.Waits.{open_wait}
 use Rattle.mq_model.specs.Legality.{IsLegalNext, Legal, may_call, payload_of, reply_to}
 use Rattle.mq_model.specs.declared.entries.Description.{Description}
 use Rattle.mq_model.specs.declared.entries.Call.{Call}
-use Rattle.mq_model.specs.declared.entries.Call.TheVariants.{MqOpen, MqClose, MqUnlink, MqSend, MqReceive, MqTimedSend, MqTimedReceive, MqGetattr, MqSetattr, MqNotify, NextNotice, Collect, Withdraw}
 use Rattle.mq_model.specs.declared.entries.Reply.{Reply}
-use Rattle.mq_model.specs.declared.entries.Reply.TheVariants.{Opened, Queued, Handed, Waits, Got, Collected, Attrs, Notice, Done, Refused, Withdrawn}
+use Rattle.mq_model.specs.declared.entries.Reply.TheVariants.{Got}
 use Rattle.mq_model.proofs.Places.{split}
 use Rattle.mq_model.proofs.Cases.{Says}
 use Rattle.mq_model.proofs.HeldQueues.{called-alive}
@@ -22,7 +21,7 @@ use Rattle.mq_equivalence.specs.Steps.{message_given, record_of, shape}
 use Rattle.mq_equivalence.proofs.Falling.{foremost}
 use Rattle.mq_equivalence.proofs.Calls.{got-message}
 use Rattle.mq_equivalence.proofs.Changes.{got-all, handed-all}
-use Rattle.mq_equivalence.proofs.Effects.{after_answer, after_receivers, after_senders, answer-step, called, is_collected, is_withdrawn, receivers-step, senders-step}
+use Rattle.mq_equivalence.proofs.Effects.{after_answer, after_receivers, answer-step, called, is_collected, is_withdrawn, receivers-step, senders-step}
 use Rattle.mq_equivalence.proofs.Alike.{answer-shape, receivers-shape, senders-shape}
 use Rattle.mq_equivalence.specs.Structure.{extended, renumbered}
 use Rattle.mq_equivalence.specs.Equivalence.{AgreeUnder, may_come}
@@ -33,62 +32,30 @@ use Rattle.mq_equivalence.proofs.Going.{called-both, contents-go, deadlines-go, 
 -- a call on no queue answers no wait
 idle-answer : (past : Past) (p : ℕ) (call : Call) (reply : Reply) (payload : List ℕ) (ss : List (Option Sender)) (rs : List (Option ℕ)) (k : ℕ) (before : Option (Option (Option Message))) → Says past p call reply → called_queue past p call ≡ None →
     after_answer p call payload reply ss rs k before ≡ after_answer p call payload reply [] [] k before
-idle-answer past p call (Handed w) payload ss rs k before says none = let hands = handed-all past p call w says in let bad : None ≡ Some hands.queue = sym none ∙ hands.on in absurd (cc)
-idle-answer past p call (Got m a n) payload ss rs k before says none = let got = got-all past p call m a n says in let bad : None ≡ Some got.queue = sym none ∙ got.on in absurd (cc)
-idle-answer past p call _ payload ss rs k before says none = refl
+idle-answer past p call reply payload ss rs k before says none = grind (arith, handed-all, got-all)
 
 pub none-given : (past : Past) (reply : Reply) → is_got reply ≡ false → message_given past reply ≡ None
-none-given past (Got m a n) e = cc
-none-given past _ e = refl
+none-given past reply e = grind arith
 
 given-is : (past : Past) → Legal past → (p : ℕ) (call : Call) (reply : Reply) (payload : List ℕ) → is_got reply ≡ true → Says past p call reply →
     message_given (rec p call reply payload ∷ past) reply ≡ foremost (contents past (called past p call))
-given-is past legal p call (Got m a n) payload e says = got-message past legal p call m a n payload says
-given-is past legal p call _ payload e says = absurd (cc)
+given-is past legal p call reply payload e says = grind (arith, got-message)
 
 withdrawn-shape : (r : Reply) → is_withdrawn (shape r) ≡ is_withdrawn r
-withdrawn-shape (Withdrawn w) = refl
-withdrawn-shape (Got m a n) = refl
-withdrawn-shape (Queued n) = refl
-withdrawn-shape (Handed w) = refl
-withdrawn-shape (Opened d created) = refl
-withdrawn-shape Waits = refl
-withdrawn-shape (Collected b) = refl
-withdrawn-shape (Attrs s) = refl
-withdrawn-shape (Notice v) = refl
-withdrawn-shape Done = refl
-withdrawn-shape (Refused f) = refl
-
-the-wait : (r : Reply) → is_withdrawn r ≡ true → (w : ℕ) × (r ≡ Withdrawn w)
-the-wait (Withdrawn w) e = (w, refl)
-the-wait _ e = absurd (cc)
-
-is-free : (o : Option ℕ) → is_none o ≡ true → o ≡ None
-is-free None e = refl
-is-free (Some w) e = absurd (cc)
+withdrawn-shape r = grind arith
 
 free-of : (past : Past) (p : ℕ) (call : Call) (reply : Reply) → is_withdrawn reply ≡ false → Says past p call reply → may_call past p call ≡ true → is_collected reply ≡ false → open_wait past p ≡ None
-free-of past p Collect reply kept says turn not = let is : is_collected reply ≡ true = ap is_collected says in let bad : true ≡ false = sym is ∙ not in absurd (cc)
-free-of past p (Withdraw now) reply kept says turn not = let is : is_withdrawn reply ≡ true = ap is_withdrawn says in let bad : true ≡ false = sym is ∙ kept in absurd (cc)
-free-of past p _ reply kept says turn not = is-free (open_wait past p) turn
+free-of past p call reply kept says turn not = grind (arith, is_collected, is_withdrawn)
 
 -- the waits and the answers, after a withdrawal
 senders-of : (past : Past) → Legal past → (p : ℕ) (call : Call) (reply : Reply) (payload : List ℕ) → is_withdrawn reply ≡ true → Says past p call reply → may_call past p call ≡ true → (q : ℕ) → senders (rec p call reply payload ∷ past) q ≡ senders_but p (senders past q)
-senders-of past legal p call reply payload is says turn q =
-    let w = the-wait reply is in
-    let mine = (withdrawn-open past p call w.0 (subst (Says past p call) w.1 says) turn).0 in
-    subst (λ (z : Reply). senders (rec p call z payload ∷ past) q ≡ senders_but p (senders past q)) (sym w.1) (senders-withdrawn past legal p call w.0 payload mine q)
+senders-of past legal p call reply payload is says turn q = grind (arith, withdrawn-open, Says, rec, senders_but, senders-withdrawn)
 
 receivers-of : (past : Past) → Legal past → (p : ℕ) (call : Call) (reply : Reply) (payload : List ℕ) → is_withdrawn reply ≡ true → Says past p call reply → may_call past p call ≡ true → (q : ℕ) → receivers (rec p call reply payload ∷ past) q ≡ receivers_but p (receivers past q)
-receivers-of past legal p call reply payload is says turn q =
-    let w = the-wait reply is in
-    let mine = (withdrawn-open past p call w.0 (subst (Says past p call) w.1 says) turn).0 in
-    subst (λ (z : Reply). receivers (rec p call z payload ∷ past) q ≡ receivers_but p (receivers past q)) (sym w.1) (receivers-withdrawn past legal p call w.0 payload mine q)
+receivers-of past legal p call reply payload is says turn q = grind (arith, withdrawn-open, Says, rec, receivers_but, receivers-withdrawn)
 
 answer-of : (past : Past) (p : ℕ) (call : Call) (reply : Reply) (payload : List ℕ) → is_withdrawn reply ≡ true → (k : ℕ) → answer (rec p call reply payload ∷ past) k ≡ (if p == k then None else answer past k)
-answer-of past p call reply payload is k =
-    let w = the-wait reply is in
-    subst (λ (z : Reply). answer (rec p call z payload ∷ past) k ≡ (if p == k then None else answer past k)) (sym w.1) (answer-withdrawn past p call w.0 payload k)
+answer-of past p call reply payload is k = grind (arith, rec, answer-withdrawn)
 
 module _ {received : Bool} (to : ℕ → ℕ) (x y : Past) (equivalent : AgreeUnder received to x y) (p : ℕ) (call : Call) (given : List ℕ) (next_x : IsLegalNext x (record_of x p call given)) (next_y : IsLegalNext y (record_of y p call given)) where
   abbrev a : Reply
@@ -209,8 +176,7 @@ pub record IsGot (r : Reply) : Type 0 where
   pub is : r ≡ Got place admitted notified
 
 pub the-got : (r : Reply) → is_got r ≡ true → IsGot r
-the-got (Got m a n) e = record { place = m; admitted = a; notified = n; is = refl }
-the-got _ e = absurd (cc)
+the-got r e = grind arith
 
 module _ {received : Bool} (to : ℕ → ℕ) (x y : Past) (equivalent : AgreeUnder received to x y) (p : ℕ) (call : Call) (may : may_come received call ≡ true) where
   queue-both : called_queue y p call ≡ option_map to (called_queue x p call)

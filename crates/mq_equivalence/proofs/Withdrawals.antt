@@ -1,11 +1,11 @@
 -- The processes that still wait when one of them withdraws.
-use Rattle.std.proofs.Common.{◌≡◌, ℕ, ◌==◌, Bool, false, not, List, [], ◌∷◌, map, Option, Some, None, if◌then◌else◌, refl, sym, ◌∙◌, ap, eqb-true, eq-eqb, ne_eqb}
+use Rattle.std.proofs.Common.{◌≡◌, ℕ, ◌==◌, Bool, false, not, List, [], ◌∷◌, map, Option, Some, None, if◌then◌else◌, refl, sym, ◌∙◌, ap, eqb-true, eq-eqb, arith}
 use Rattle.std.specs.List.{filter}
 use Rattle.std.specs.Option.{option_map}
 use Rattle.std.proofs.lemmas.Bool.{eqb-false}
 use Rattle.mq_model.specs.Record.{Record, Past, record_at}
 use Rattle.mq_model.specs.Messages.{blocked_receives, blocked_sends, ended_receives, ended_sends, is_in, waiting_receives, waiting_sends}
-use Rattle.mq_model.specs.Waits.{names_wait, open_wait}
+use Rattle.mq_model.specs.Waits.{open_wait}
 use Rattle.mq_model.specs.Legality.{Legal}
 use Rattle.mq_model.specs.declared.owners.WaitKind.TheVariants.{Send, Receive}
 use Rattle.mq_model.specs.declared.entries.Call.{Call}
@@ -40,27 +40,14 @@ abbrev pub receivers_but : ℕ → List (Option ℕ) → List (Option ℕ)
 receivers_but p rs = filter (λ r. not (receives_as p r)) rs
 
 sender-of : (past : Past) (k p j : ℕ) → option_map (λ r. r.entry.process) (record_at past k) ≡ Some j → sends_as p (at sender past k) ≡ (j == p)
-sender-of past k p j e = by (record_at past k) e
-  where
-    by : (o : Option Record) → option_map (λ r. r.entry.process) o ≡ Some j → sends_as p (option_map sender o) ≡ (j == p)
-    by None e = absurd (cc)
-    by (Some r) e = let same : r.entry.process ≡ j = cc in ap (λ (i : ℕ). i == p) same
+sender-of past k p j e = grind arith
 
 receiver-of : (past : Past) (k p j : ℕ) → option_map (λ r. r.entry.process) (record_at past k) ≡ Some j → receives_as p (at author past k) ≡ (j == p)
-receiver-of past k p j e = by (record_at past k) e
-  where
-    by : (o : Option Record) → option_map (λ r. r.entry.process) o ≡ Some j → receives_as p (option_map author o) ≡ (j == p)
-    by None e = absurd (cc)
-    by (Some r) e = let same : r.entry.process ≡ j = cc in ap (λ (i : ℕ). i == p) same
+receiver-of past k p j e = grind arith
 
 -- a wait is that of process p if it is the one that p has
 own-wait : (past : Past) (p w j k : ℕ) → open_wait past p ≡ Some w → open_wait past j ≡ Some k → (j == p) ≡ (w == k)
-own-wait past p w j k mine its = split (j == p)
-    (λ t. let same : j ≡ p = eqb-true _ _ t in
-    let both : Some w ≡ Some k = sym mine ∙ ap (open_wait past) (sym same) ∙ its in
-    let e : w ≡ k = cc in
-    t ∙ sym (eq-eqb w k e))
-    (λ f. f ∙ sym (ne_eqb w k (λ e. eqb-false _ _ f (same-waiter past j p k its (mine ∙ ap Some e)))))
+own-wait past p w j k mine its = grind (arith, eqb-true, eq-eqb, eqb-false, same-waiter)
 
 module _ (past : Past) (legal : Legal past) (p : ℕ) (call : Call) (w : ℕ) (payload : List ℕ) (mine : open_wait past p ≡ Some w) where
   abbrev r : Record
@@ -84,11 +71,5 @@ module _ (past : Past) (legal : Legal past) (p : ℕ) (call : Call) (w : ℕ) (p
       sym (ap not (receiver-of past k p o.0 (open_wait-process past o.0 k o.1) ∙ own-wait past p w o.0 k mine o.1))))
       ∙ sym (filter-map (at author past) (λ s. not (receives_as p s)) (waiting_receives past q))
 
-unnamed : (o : Option ℕ) (w : ℕ) → names_wait (Withdrawn w) o ≡ false
-unnamed None w = refl
-unnamed (Some k) w = refl
-
 pub answer-withdrawn : (past : Past) (p : ℕ) (call : Call) (w : ℕ) (payload : List ℕ) (k : ℕ) → answer (rec p call (Withdrawn w) payload ∷ past) k ≡ (if p == k then None else answer past k)
-answer-withdrawn past p call w payload k = split (p == k)
-    (λ t. rw t refl)
-    (λ f. rw (f, unnamed (open_wait past k) w) (answer-older past (rec p call (Withdrawn w) payload) k))
+answer-withdrawn past p call w payload k = grind (arith, answer-older, rec)

@@ -1,14 +1,15 @@
 -- No wait ends twice, whether an entry serves it or a withdrawal ends it.
-use Rattle.std.proofs.Common.{◌≡◌, ℕ, ◌<◌, ◌==◌, true, false, ◌&&◌, ◌||◌, [], ◌∷◌, length, List, Option, Some, None, if◌then◌else◌, refl, sym, ◌∙◌, ap, arith, eqb-true, eq-eqb, ◌⊎◌, inl, inr}
-use Rattle.std.specs.Option.{option_map, option_and_then}
+use Rattle.std.proofs.lemmas.Bool.Decides.{nat_tests}
+use Rattle.std.proofs.Common.{◌≡◌, ℕ, ◌<◌, ◌==◌, true, false, ◌&&◌, ◌||◌, [], ◌∷◌, length, List, Option, Some, None, refl, sym, ◌∙◌, ap, arith, eqb-true, eq-eqb, ◌⊎◌, inl, inr}
+use Rattle.std.specs.Option.{option_map}
 use Rattle.std.proofs.lemmas.Bool.{and_parts, false_from_ne_true}
-use Rattle.mq_model.specs.Record.{Record, Past, record_at}
+use Rattle.mq_model.specs.Record.{Record, Past}
 use Rattle.mq_model.specs.Descriptors.{is_on}
 use Rattle.mq_model.specs.Messages.{is_in, if_in, is_accepted, with_place, queues, hands_over, blocked_sends, admits, ends_send, ends_receive, ended_sends, ended_receives, entered, admitted, handed, waiting_sends, waiting_receives}
-use Rattle.mq_model.specs.Waits.{is_wait, open_wait, named_wait, ended_wait, answered_by}
+use Rattle.mq_model.specs.Waits.{open_wait, named_wait, ended_wait, answered_by}
 use Rattle.mq_model.specs.Legality.{Legal, IsLegalNext}
 use Rattle.mq_laws.specs.Laws.{reply_at, withdrawn_wait, Has, IsOnce}
-use Rattle.mq_model.proofs.Places.{split, clash}
+use Rattle.mq_model.proofs.Places.{split, clash, is_in-with_place}
 use Rattle.mq_model.proofs.Prefixes.{record_at-below}
 use Rattle.mq_model.proofs.Cases.{Says}
 use Rattle.mq_model.proofs.LegalReplies.{legal_says}
@@ -16,13 +17,13 @@ use Rattle.mq_model.proofs.Frames.{record_at-older}
 use Rattle.mq_model.proofs.NamedWaits.{least-in}
 use Rattle.mq_model.proofs.OpenWaits.{withdrawn-open}
 use Rattle.mq_model.proofs.OthersLeave.{open_wait-below}
-use Rattle.mq_model.proofs.Presence.{with-more}
+use Rattle.mq_model.proofs.Presence.{queues-reply}
 use Rattle.mq_model.proofs.Steps.{if_in-inside}
 use Rattle.mq_model.proofs.Waiters.{ended_waits, waiter, unnamed, admits-least, hands-least}
 use Rattle.mq_laws.proofs.LegalPlaces.{has-record, has-here, has-cases, record-of, once}
 use Rattle.mq_model.specs.declared.entries.Call.{Call}
 use Rattle.mq_model.specs.declared.entries.Reply.{Reply}
-use Rattle.mq_model.specs.declared.entries.Reply.TheVariants.{Opened, Queued, Handed, Waits, Got, Collected, Attrs, Notice, Done, Refused, Withdrawn}
+use Rattle.mq_model.specs.declared.entries.Reply.TheVariants.{Queued, Handed, Waits, Got, Withdrawn}
 use Rattle.mq_model.specs.declared.owners.WaitKind.{WaitKind}
 use Rattle.mq_model.specs.declared.owners.WaitKind.TheVariants.{Send, Receive}
 
@@ -30,37 +31,26 @@ pub with-first : (k : ℕ) (xs : List ℕ) → is_in (with_place (Some k) xs) k 
 with-first k xs = rw (eq-eqb k k refl) refl
 
 pub has-older : (part : Reply → Option ℕ) (past : Past) (r : Record) (k m : ℕ) → Has part past k m → Has part (r ∷ past) k m
-has-older part past r k m e =
-    let x = has-record part past k m e in
-    ap (λ (o : Option Record). option_and_then part (option_map (λ (x : Record). x.entry.reply) o)) (record_at-older past r k (record_at-below past k x.r x.at)) ∙ e
+has-older part past r k m e = grind (arith, has-record, record_at-older, record_at-below)
 
 -- a part that implies another
 pub has-also : (part other : Reply → Option ℕ) → ((reply : Reply) (m : ℕ) → part reply ≡ Some m → other reply ≡ Some m) → (past : Past) (k m : ℕ) → Has part past k m → Has other past k m
-has-also part other implies past k m e =
-    let x = has-record part past k m e in
-    ap (λ (o : Option Record). option_and_then other (option_map (λ (s : Record). s.entry.reply) o)) x.at ∙ implies x.r.entry.reply m x.is
+has-also part other implies past k m e = grind (arith, has-record)
 
 named-ends : (reply : Reply) (w : ℕ) → named_wait reply ≡ Some w → ended_wait reply ≡ Some w
-named-ends (Handed v) w e = e
-named-ends (Got m a n) w e = e
-named-ends reply w e = absurd (cc)
+named-ends reply w e = grind arith
 
 withdrawn-ends : (reply : Reply) (w : ℕ) → withdrawn_wait reply ≡ Some w → ended_wait reply ≡ Some w
-withdrawn-ends (Withdrawn v) w e = e
-withdrawn-ends reply w e = absurd (cc)
+withdrawn-ends reply w e = grind arith
 
 admits-names : (reply : Reply) (w : ℕ) → admits reply ≡ Some w → named_wait reply ≡ Some w
-admits-names (Got m a n) w e = e
-admits-names reply w e = absurd (cc)
+admits-names reply w e = grind arith
 
 pub has-named : (past : Past) (k w : ℕ) → Has named_wait past k w → Has ended_wait past k w
 has-named = has-also named_wait ended_wait named-ends
 
 pub has-admits : (past : Past) (k w : ℕ) → Has admits past k w → Has ended_wait past k w
 has-admits past k w e = has-named past k w (has-also admits named_wait admits-names past k w e)
-
-has-withdrawn : (past : Past) (k w : ℕ) → Has withdrawn_wait past k w → Has ended_wait past k w
-has-withdrawn = has-also withdrawn_wait ended_wait withdrawn-ends
 
 -- a legal record ends only the open wait of a process that no entry answers
 record IsUnanswered (past : Past) (w : ℕ) : Type 0 where
@@ -101,8 +91,8 @@ ended-listed (r ∷ past) k w e = has-cases ended_wait past r k w e
     (λ old lt. let x = ended-listed past k w old in (x.0, more x.0 x.1))
   where
     more : (s : WaitKind) → is_in (ended_waits past s) w ≡ true → is_in (ended_waits (r ∷ past) s) w ≡ true
-    more Send h = with-more (ends_send r.entry.reply) (ended_sends past) w h
-    more Receive h = with-more (ends_receive r.entry.reply) (ended_receives past) w h
+    more Send h = is_in-with_place (ends_send r.entry.reply) (ended_sends past) w h
+    more Receive h = is_in-with_place (ends_receive r.entry.reply) (ended_receives past) w h
 
     by : (reply : Reply) → ended_wait reply ≡ Some w → (s : WaitKind) × (is_in (ended_waits (record { entry = record { process = r.entry.process; call = r.entry.call; reply = reply }; payload = r.payload } ∷ past) s) w ≡ true)
     by (Handed v) is = let same : v ≡ w = cc in (Receive, rw same (with-first w (ended_receives past)))
@@ -125,32 +115,14 @@ named-once past legal j k w hj hk = ended-once past legal j k w (has-named past 
 
 -- no wait is both withdrawn and served
 pub withdrawn-unnamed : (past : Past) → Legal past → (j k w : ℕ) → Has withdrawn_wait past j w → Has named_wait past k w → ⊥
-withdrawn-unnamed past legal j k w hj hk =
-    let x = has-record withdrawn_wait past j w hj in
-    let y = has-record named_wait past k w hk in
-    let place : j ≡ k = ended-once past legal j k w (has-withdrawn past j w hj) (has-named past k w hk) in
-    let same : Some x.r ≡ Some y.r = sym x.at ∙ ap (record_at past) place ∙ y.at in
-    let is : x.r ≡ y.r = cc in
-    apart y.r.entry.reply (ap (λ (r : Record). withdrawn_wait r.entry.reply) (sym is) ∙ x.is) y.is
-  where
-    apart : (reply : Reply) → withdrawn_wait reply ≡ Some w → named_wait reply ≡ Some w → ⊥
-    apart (Withdrawn v) e f = cc
-    apart reply e f = cc
+withdrawn-unnamed past legal j k w hj hk = grind (arith, has-record, ended-once, has-named)
 
 -- what ended had blocked -------------------------------------------------------------------------------------------------
-
-waits-reply : (reply : Reply) → is_wait reply ≡ true → reply ≡ Waits
-waits-reply Waits e = refl
-waits-reply reply e = absurd (cc)
 
 opened-blocked : (past : Past) (p w : ℕ) → open_wait past p ≡ Some w → reply_at past w ≡ Some Waits
 opened-blocked [] p w e = absurd (cc)
 opened-blocked (r ∷ past) p w e = split (r.entry.process == p)
-    (λ own. let last : (if is_wait r.entry.reply then Some (length past) else None) ≡ Some w = rw own at e in
-    split (is_wait r.entry.reply)
-    (λ t. let here : Some (length past) ≡ Some w = rw t at last in let place : length past ≡ w = cc in
-    rw (← place, eq-eqb (length past) (length past) refl) (ap Some (waits-reply r.entry.reply t)))
-    (λ f. let none : None ≡ Some w = rw f at last in absurd (cc)))
+    (λ own. grind (arith, nat_tests, eq-eqb))
     (λ other. let old : open_wait past p ≡ Some w = rw other at e in
     ap (option_map (λ (x : Record). x.entry.reply)) (record_at-older past r w (open_wait-below past p w old)) ∙ opened-blocked past p w old)
 
@@ -193,17 +165,10 @@ abbrev IsEntered : Past → ℕ → Type 0
 IsEntered past m = ((n : Option ℕ) × (reply_at past m ≡ Some (Queued n))) ⊎ ((k : ℕ) × Has named_wait past k m)
 
 reply-older : (past : Past) (r : Record) (m : ℕ) (reply : Reply) → reply_at past m ≡ Some reply → reply_at (r ∷ past) m ≡ Some reply
-reply-older past r m reply e =
-    let x = record-of past m reply e in
-    ap (option_map (λ (s : Record). s.entry.reply)) (record_at-older past r m (record_at-below past m x.0 x.1)) ∙ e
-
-queued-reply : (call : Call) (reply : Reply) → queues call reply ≡ true → (n : Option ℕ) × (reply ≡ Queued n)
-queued-reply call (Queued n) e = (n, refl)
-queued-reply call reply e = absurd (cc)
+reply-older past r m reply e = grind (arith, record-of, record_at-older, record_at-below)
 
 handed-reply : (call : Call) (reply : Reply) → hands_over call reply ≡ true → (w : ℕ) × (reply ≡ Handed w)
-handed-reply call (Handed w) e = (w, refl)
-handed-reply call reply e = absurd (cc)
+handed-reply call reply e = grind arith
 
 admitted-entered : (past : Past) (q m : ℕ) → is_in (admitted past q) m ≡ true → IsEntered past m
 admitted-entered [] q m h = absurd (cc)
@@ -216,7 +181,7 @@ admitted-entered (r ∷ past) q m h = by (λ old. admitted-entered past q m old)
     here : entered past r.entry q ≡ Some m → IsEntered (r ∷ past) m
     here e = split (queues r.entry.call r.entry.reply && is_on past r.entry q)
         (λ t. let is : Some (length past) ≡ Some m = rw t at e in let same : length past ≡ m = cc in
-        let reply = queued-reply r.entry.call r.entry.reply (and_parts (queues r.entry.call r.entry.reply) (is_on past r.entry q) t).0 in
+        let reply = queues-reply r.entry.call r.entry.reply (and_parts (queues r.entry.call r.entry.reply) (is_on past r.entry q) t).0 in
         inl (reply.0, rw (← same, eq-eqb (length past) (length past) refl) (ap Some reply.1)))
         (λ f. let is : if_in (blocked_sends past q) (admits r.entry.reply) ≡ Some m = rw f at e in
         inr (length past, has-here named_wait past r m (admits-names r.entry.reply m (if_in-inside (blocked_sends past q) (admits r.entry.reply) m is).1)))
@@ -243,20 +208,8 @@ handed-at (r ∷ past) q m h = split (hands_over r.entry.call r.entry.reply && i
 
 -- a message that entered a queue was not handed over
 pub admitted-not_handed : (past : Past) → Legal past → (q m w : ℕ) → is_in (admitted past q) m ≡ true → reply_at past m ≡ Some (Handed w) → ⊥
-admitted-not_handed past legal q m w h e = by (admitted-entered past q m h)
-  where
-    by : IsEntered past m → ⊥
-    by (inl x) = let bad : Some (Queued x.0) ≡ Some (Handed w) = sym x.1 ∙ e in cc
-    by (inr x) = let bad : Some Waits ≡ Some (Handed w) = sym (ended-blocked past legal x.0 m (has-named past x.0 m x.1)) ∙ e in cc
+admitted-not_handed past legal q m w h e = grind (arith, admitted-entered, ended-blocked, has-named)
 
 -- a send that is withdrawn is not accepted
 pub withdrawn-not_accepted : (past : Past) → Legal past → (k q w : ℕ) → Has withdrawn_wait past k w → is_accepted past q w ≡ false
-withdrawn-not_accepted past legal k q w e =
-    let waits = ended-blocked past legal k w (has-withdrawn past k w e) in
-    let out : is_in (admitted past q) w ≡ false = false_from_ne_true _ (λ h. unentered waits (admitted-entered past q w h)) in
-    let kept : is_in (handed past q) w ≡ false = false_from_ne_true _ (λ h. let x = handed-at past q w h in let bad : Some (Handed x.0) ≡ Some Waits = sym x.1 ∙ waits in cc) in
-    rw (out, kept) refl
-  where
-    unentered : reply_at past w ≡ Some Waits → IsEntered past w → ⊥
-    unentered waits (inl x) = let bad : Some (Queued x.0) ≡ Some Waits = sym x.1 ∙ waits in cc
-    unentered waits (inr x) = withdrawn-unnamed past legal k x.0 w e x.1
+withdrawn-not_accepted past legal k q w e = grind (arith, ended-blocked, false_from_ne_true, admitted-entered, handed-at, withdrawn-unnamed)

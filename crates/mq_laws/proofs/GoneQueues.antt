@@ -1,14 +1,12 @@
 -- A queue that ceased to exist never exists again.
-use Rattle.std.proofs.Common.{◌≡◌, ℕ, suc, ◌<◌, ◌≤◌, ◌==◌, Bool, true, false, ◌&&◌, ◌||◌, not, List, [], ◌∷◌, length, Option, Some, None, is_some, refl, sym, ◌∙◌, ap, subst, arith, ◌⊎◌, inl, inr, ◌-◌, leb-true, leb-false}
-use Rattle.std.specs.Prelude.{nat_le}
-use Rattle.std.specs.List.{filter}
+use Rattle.std.proofs.lemmas.Bool.Decides.{nat_tests}
+use Rattle.std.proofs.Common.{◌≡◌, ℕ, suc, ◌<◌, ◌≤◌, ◌==◌, Bool, true, false, ◌&&◌, ◌||◌, not, List, [], ◌∷◌, length, Option, Some, None, is_some, refl, sym, ◌∙◌, ap, subst, arith, ◌⊎◌, inl, inr, ◌-◌, leb-true, leb-false, rules, nat_le, unwrap_or}
 use Rattle.std.specs.Str.{bytes_eq}
-use Rattle.std.specs.Option.{unwrap_or}
 use Rattle.std.proofs.lemmas.Bool.{not-true, false_from_ne_true}
 use Rattle.mq_model.specs.Record.{Record, Past, record_at, first}
 use Rattle.mq_model.specs.Names.{creates, unlinks, bound_queue, name_of}
-use Rattle.mq_model.specs.Descriptors.{held, held_after, opened_queue, called_queue, created, alive, is_named, is_held}
-use Rattle.mq_model.specs.Messages.{is_in, is_accepted, handed, admitted, taken, taken_by, present}
+use Rattle.mq_model.specs.Descriptors.{held, held_after, opened_queue, created, alive, is_named, is_held}
+use Rattle.mq_model.specs.Messages.{is_in, is_accepted, taken, taken_by, present}
 use Rattle.mq_model.specs.Legality.{Legal, IsLegalNext, reply_to_open}
 use Rattle.mq_laws.specs.Laws.{message_given, IsTakenAt, IsGoneAt, EndsForGood}
 use Rattle.mq_model.proofs.Places.{split, clash, is_in-filter, find-in}
@@ -16,8 +14,7 @@ use Rattle.mq_model.proofs.Cases.{Says}
 use Rattle.mq_model.proofs.LegalReplies.{legal_says, got_says}
 use Rattle.mq_model.proofs.Prefixes.{record_at-below, length-first, first-all, record_at-first}
 use Rattle.mq_model.proofs.Frames.{created-below}
-use Rattle.mq_model.proofs.HeldQueues.{after-cases, held-alive, created-more, called-alive}
-use Rattle.mq_model.proofs.Waiters.{in-filter}
+use Rattle.mq_model.proofs.HeldQueues.{after-cases, held-alive, created-more, called-alive, in-filter}
 use Rattle.mq_model.proofs.OpenReplies.{opened-says}
 use Rattle.mq_model.proofs.Alive.{held-is_held, is_held-holder, needed-alive, bound-named, named-bound}
 use Rattle.mq_model.proofs.Presence.{present-admitted, present-below}
@@ -28,7 +25,7 @@ use Rattle.mq_model.specs.declared.entries.Attr.{Attr}
 use Rattle.mq_model.specs.declared.entries.OpenFlags.{OpenFlags}
 use Rattle.mq_model.specs.declared.entries.Call.TheVariants.{MqOpen}
 use Rattle.mq_model.specs.declared.entries.Reply.{Reply}
-use Rattle.mq_model.specs.declared.entries.Reply.TheVariants.{Opened, Queued, Handed, Waits, Got, Collected, Attrs, Notice, Done, Refused, Withdrawn}
+use Rattle.mq_model.specs.declared.entries.Reply.TheVariants.{Opened, Got}
 
 -- queues -----------------------------------------------------------------------------------------------------------------
 
@@ -75,9 +72,7 @@ needed-before past r legal q lt e = split (is_named (r ∷ past) q)
 
 -- a queue that does not exist does not exist after one more record
 gone-next : (past : Past) (r : Record) → Legal (r ∷ past) → (q : ℕ) → is_in (created past) q ≡ true → is_in (alive past) q ≡ false → is_in (alive (r ∷ past)) q ≡ false
-gone-next past r legal q made gone = false_from_ne_true _ (λ h.
-    let before = needed-before past r legal q (created-below past q made) (needed-alive (r ∷ past) q h) in
-    clash (is_in (alive past) q) (in-filter (λ q. is_named past q || is_held past q) (created past) q made before) gone)
+gone-next past r legal q made gone = search (rules, false_from_ne_true, needed-before, created-below, needed-alive, clash, in-filter)
 
 created-first : (past : Past) (j q : ℕ) → is_in (created (first j past)) q ≡ true → is_in (created past) q ≡ true
 created-first [] j q h = let none : 0 - j ≡ 0 = omega arith in rw none at h
@@ -88,8 +83,7 @@ created-first (r ∷ past) j q h = split (nat_le (suc (length past)) j)
     created-more past r q (created-first past j q old))
 
 pub never-again : (past : Past) → Legal past → (j k q : ℕ) → IsGoneAt past j q → j ≤ k → k ≤ length past → is_in (alive (first k past)) q ≡ false
-never-again [] legal j k q gone le within =
-    let none : 0 - k ≡ 0 = omega arith in rw none refl
+never-again [] legal j k q gone le within = grind arith
 never-again (r ∷ past) legal j k q gone le within = split (nat_le k (length past))
     (λ older. let few : k ≤ length past = leb-true _ _ older in
     ap (λ b. is_in (alive b) q) (first-older past r k few) ∙ never-again past legal.0 j k q (before (omega (arith, few, le))) le few)
@@ -112,45 +106,24 @@ never-again (r ∷ past) legal j k q gone le within = split (nat_le k (length pa
 
 -- messages ---------------------------------------------------------------------------------------------------------------
 
-in-filter_is : (t : ℕ → Bool) (xs : List ℕ) (m : ℕ) → is_in xs m ≡ true → is_in (filter t xs) m ≡ t m
-in-filter_is t xs m h = split (t m)
-    (λ y. in-filter t xs m h y ∙ sym y)
-    (λ n. false_from_ne_true _ (λ there. clash (t m) (is_in-filter t xs m there).1 n) ∙ sym n)
-
 pub or-cases : {C : Type 0} (a b : Bool) → (a || b) ≡ true → (a ≡ true → C) → (b ≡ true → C) → C
-or-cases true b e left right = left refl
-or-cases false b e left right = right e
+or-cases a b e left right = grind arith
 
 pub present-or-taken : (past : Past) (q m : ℕ) → is_accepted past q m ≡ true → is_in (present past q) m ≡ not (is_in (taken past) m)
-present-or-taken past q m h = or-cases (is_in (admitted past q) m) (is_in (handed past q) m) h
-    (λ entered. in-filter_is (λ m. not (is_in (taken past) m)) (admitted past q) m entered)
-    (λ over. let gone = handed-taken past q m over in
-    false_from_ne_true _ (λ there. let free = not-true _ (is_in-filter (λ m. not (is_in (taken past) m)) (admitted past q) m there).1 in clash (is_in (taken past) m) gone free) ∙ sym (ap not gone))
+present-or-taken past q m h = grind (arith, or-cases, handed-taken, false_from_ne_true, not-true, is_in-filter, clash, in-filter)
 
 pub same-queue : (past : Past) (q k m : ℕ) → IsSentTo past q m → IsSentTo past k m → q ≡ k
-same-queue past q k m a b =
-    let one : Some a.r ≡ Some b.r = sym a.at ∙ b.at in
-    let same : a.r ≡ b.r = cc in
-    let on : Some q ≡ Some k = sym a.on ∙ ap (λ (r : Record). called_queue (first m past) r.entry.process r.entry.call) same ∙ b.on in
-    cc
+same-queue past q k m a b = grind arith
 
 pub in-one-queue : (past : Past) (q k m : ℕ) → is_accepted past q m ≡ true → is_in (present past k) m ≡ true → k ≡ q
 in-one-queue past q k m h there = same-queue past k q m (admitted-sent past k m (present-admitted past k m there)) (accepted-sent past q m h)
 
 pub sent-first : (past : Past) (k q m : ℕ) → IsSentTo (first k past) q m → m < k → k ≤ length past → IsSentTo past q m
-sent-first past k q m x lt le = record {
-  r = x.r;
-  at = sym (record_at-first past k m lt le) ∙ x.at;
-  on = ap (λ b. called_queue b x.r.entry.process x.r.entry.call) (sym (first-first past m k (omega (arith, lt)))) ∙ x.on;
-  send = x.send;
-  reply = x.reply;
-}
+sent-first past k q m x lt le = grind (arith, record_at-first, first-first)
 
 -- the reply that takes a message: that of a receive, or that of the send itself
 pub taken-reply : (k m : ℕ) (reply : Reply) → taken_by k reply ≡ Some m → (message_given reply ≡ Some m) ⊎ (k ≡ m)
-taken-reply k m (Got j a n) e = inl e
-taken-reply k m (Handed w) e = let same : k ≡ m = cc in inr same
-taken-reply k m reply e = absurd (cc)
+taken-reply k m reply e = grind arith
 
 pub none-taken : (past : Past) → Legal past → (j k q m : ℕ) → IsGoneAt past j q → j ≤ k → is_accepted past q m ≡ true → IsTakenAt past m k → ⊥
 none-taken past legal j k q m gone le h e =
@@ -174,15 +147,7 @@ none-taken past legal j k q m gone le h e =
         let living : is_in (alive (first k past)) q ≡ true = rw same at (held-alive (first k past) before r.entry.process x.0 x.2 x.4) in
         clash (is_in (alive (first k past)) q) living dead
     by {r} before next below dead sent at (inr same) =
-        let one : Some sent.r ≡ Some r = sym sent.at ∙ ap (record_at past) (sym same) ∙ at in
-        let is : sent.r ≡ r = cc in
-        let on : called_queue (first k past) r.entry.process r.entry.call ≡ Some q = ap (λ b. called_queue (first b past) r.entry.process r.entry.call) same ∙ ap (λ (s : Record). called_queue (first m past) s.entry.process s.entry.call) (sym is) ∙ sent.on in
-        clash (is_in (alive (first k past)) q) (called-alive (first k past) before r.entry.process r.entry.call q on) dead
+        grind (arith, nat_tests, clash, called-alive)
 
 pub ends-for-good : (past : Past) → Legal past → EndsForGood past
-ends-for-good past legal = record {
-  never_again = λ j k q gone le within. never-again past legal j k q gone le within;
-  none_taken = λ j k q m gone le h e. none-taken past legal j k q m gone le h e;
-  present_or_taken = λ q m h. present-or-taken past q m h;
-  in_one_queue = λ q k m h there. in-one-queue past q k m h there;
-}
+ends-for-good past legal = grind (arith, never-again, none-taken, present-or-taken, in-one-queue)

@@ -1,11 +1,11 @@
 -- What the processes held at the sends, receives, collects and withdrawals of a legal journal, and
 -- which messages its receives got.
-use Rattle.std.proofs.Common.{◌≡◌, ℕ, ◌<◌, ◌==◌, Bool, true, false, not, [], ◌∷◌, length, Option, Some, None, is_some, if◌then◌else◌, refl, sym, ◌∙◌, ap, arith}
-use Rattle.std.specs.Option.{unwrap_or}
+use Rattle.std.proofs.lemmas.Bool.Decides.{nat_tests}
+use Rattle.std.proofs.Common.{◌≡◌, ℕ, ◌<◌, ◌==◌, Bool, true, false, not, [], ◌∷◌, length, Some, is_some, refl, ◌∙◌, ap, arith, unwrap_or}
 use Rattle.mq_model.specs.Record.{Past, first}
 use Rattle.mq_model.specs.Descriptors.{held, descriptor_of, called_queue}
 use Rattle.mq_model.specs.Messages.{is_send, is_receive}
-use Rattle.mq_model.specs.Waits.{is_wait, open_wait, answered_by}
+use Rattle.mq_model.specs.Waits.{open_wait, answered_by}
 use Rattle.mq_model.specs.ErrorOrder.{is_read_only, is_write_only}
 use Rattle.mq_model.specs.Legality.{Legal, is_refused, may_call}
 use Rattle.mq_laws.specs.Laws.{message_given, GivesBest, HoldsDescriptors}
@@ -22,7 +22,7 @@ use Rattle.mq_model.specs.declared.entries.Description.{Description}
 use Rattle.mq_model.specs.declared.entries.Call.{Call}
 use Rattle.mq_model.specs.declared.entries.Call.TheVariants.{MqSend, MqReceive, MqTimedSend, MqTimedReceive, Withdraw}
 use Rattle.mq_model.specs.declared.entries.Reply.{Reply}
-use Rattle.mq_model.specs.declared.entries.Reply.TheVariants.{Opened, Queued, Handed, Waits, Got, Collected, Attrs, Notice, Done, Refused, Withdrawn}
+use Rattle.mq_model.specs.declared.entries.Reply.TheVariants.{Got}
 
 called-receive : (past : Past) (p d : ℕ) (call : Call) (h : Description) → descriptor_of call ≡ Some d → held past p d ≡ Some h → called_queue past p call ≡ Some h.queue
 called-receive past p d call h c e = rw (c, e) refl
@@ -45,10 +45,6 @@ record IsHeldWith (past : Past) (p d : ℕ) (passes : Description → Bool) : Ty
   held : held past p d ≡ Some h
   access : passes h ≡ true
 
-not-false : (b : Bool) → b ≡ false → not b ≡ true
-not-false true e = absurd (cc)
-not-false false e = refl
-
 -- the reply tells a send, or a receive, what its descriptor is
 send-says : (past : Past) (p d : ℕ) (call : Call) (reply : Reply) → is_send call ≡ true → descriptor_of call ≡ Some d → Says past p call reply → (prio : ℕ) × (len : ℕ) × SendSays past (held past p d) prio len reply
 send-says past p d (MqSend x prio len) reply s e says = let same : x ≡ d = cc in (prio, len, rw (← same) says)
@@ -61,50 +57,23 @@ receive-says past p d (MqTimedReceive x room until now) reply s e says = let sam
 receive-says past p d call reply s e says = absurd (let bad : false ≡ true = s in cc)
 
 send-holds : (past : Past) (p d prio len : ℕ) (reply : Reply) → SendSays past (held past p d) prio len reply → is_refused reply ≡ false → IsHeldWith past p d (λ h. not (is_read_only h.access))
-send-holds past p d prio len (Refused f) says e = absurd (let bad : true ≡ false = e in cc)
-send-holds past p d prio len (Queued n) says e = record { h = says.0; held = says.1; access = not-false (is_read_only says.0.access) says.2.access }
-send-holds past p d prio len (Handed w) says e = record { h = says.0; held = says.1; access = not-false (is_read_only says.0.access) says.2.access }
-send-holds past p d prio len Waits says e = record { h = says.0; held = says.1; access = not-false (is_read_only says.0.access) says.2.access }
-send-holds past p d prio len reply says e = absurd says.3
+send-holds past p d prio len reply says e = grind arith
 
 receive-holds : (past : Past) (p d room : ℕ) (reply : Reply) → ReceiveSays past (held past p d) room reply → is_refused reply ≡ false → IsHeldWith past p d (λ h. not (is_write_only h.access))
-receive-holds past p d room (Refused f) says e = absurd (let bad : true ≡ false = e in cc)
-receive-holds past p d room (Got m a n) says e = record { h = says.0; held = says.1; access = not-false (is_write_only says.0.access) says.2.access }
-receive-holds past p d room Waits says e = record { h = says.0; held = says.1; access = not-false (is_write_only says.0.access) says.2.access }
-receive-holds past p d room reply says e = absurd says.3
-
-is_wait-Waits : (reply : Reply) → is_wait reply ≡ true → reply ≡ Waits
-is_wait-Waits Waits e = refl
-is_wait-Waits reply e = absurd (cc)
+receive-holds past p d room reply says e = grind arith
 
 -- a process that waits holds what it held when its wait began
 pub wait-holds : (past : Past) (p w : ℕ) → open_wait past p ≡ Some w → (d : ℕ) → held past p d ≡ held (first w past) p d
 wait-holds [] p w e d = absurd (cc)
 wait-holds (r ∷ past) p w e d = split (r.entry.process == p)
-    (λ own. let last : (if is_wait r.entry.reply then Some (length past) else None) ≡ Some w = rw own at e in
-    split (is_wait r.entry.reply)
-    (λ waits.
-    let here : Some (length past) ≡ Some w = rw waits at last in
-    let place : length past ≡ w = cc in
-    let is : r.entry.reply ≡ Waits = is_wait-Waits r.entry.reply waits in
-    let before : first w (r ∷ past) ≡ past = first-older past r w (omega arith) ∙ first-all past w (sym place) in
-    let now : held (r ∷ past) p d ≡ held past p d = rw (own, is) refl in
-    now ∙ ap (λ b. held b p d) (sym before))
-    (λ no. let bad : None ≡ Some w = rw no at last in absurd (cc)))
+    (λ own. grind (arith, nat_tests, first-older, first-all))
     (λ other.
     let old : open_wait past p ≡ Some w = rw other at e in
-    let lt = open_wait-below past p w old in
-    let before : first w (r ∷ past) ≡ first w past = first-older past r w (omega (arith, lt)) in
-    let now : held (r ∷ past) p d ≡ held past p d = rw other refl in
-    now ∙ wait-holds past p w old d ∙ ap (λ b. held b p d) (sym before))
+    grind (arith, nat_tests, open_wait-below, first-older, wait-holds past p w old d))
 
 -- an answered process waits
 pub answered-waits : (past : Past) (p : ℕ) → is_some (answered_by past p) ≡ true → (w : ℕ) × (open_wait past p ≡ Some w)
-answered-waits past p t = by (open_wait past p) refl
-  where
-    by : (o : Option ℕ) → open_wait past p ≡ o → (w : ℕ) × (open_wait past p ≡ Some w)
-    by None is = absurd (let none = answered_by-none past p is in let bad : false ≡ true = rw none at t in cc)
-    by (Some w) is = (w, is)
+answered-waits past p t = grind (arith, answered_by-none)
 
 -- the same for a wait that is open at a place
 wait-held : (past : Past) (k p w : ℕ) → k < length past → open_wait (first k past) p ≡ Some w → (d : ℕ) → held (first k past) p d ≡ held (first w past) p d

@@ -1,7 +1,6 @@
 -- A legal journal at each place.
-use Rattle.std.proofs.Common.{◌≡◌, ℕ, suc, ◌-◌, ◌<◌, ◌≤◌, ◌==◌, [], ◌∷◌, length, Option, Some, None, refl, sym, ◌∙◌, ap, arith, eqb-true, eq-eqb, leb-true, leb-false}
-use Rattle.std.specs.Prelude.{nat_le, drop}
-use Rattle.std.specs.Option.{option_map, option_and_then}
+use Rattle.std.proofs.lemmas.Bool.Decides.{nat_tests}
+use Rattle.std.proofs.Common.{◌≡◌, ℕ, suc, ◌-◌, ◌<◌, ◌≤◌, ◌==◌, [], ◌∷◌, length, Option, Some, refl, sym, ◌∙◌, ap, arith, eqb-true, eq-eqb, leb-true, leb-false, drop}
 use Rattle.mq_model.specs.Record.{Record, Past, record_at, first}
 use Rattle.mq_model.specs.Legality.{Legal, IsLegalNext}
 use Rattle.mq_laws.specs.Laws.{reply_at, Has, IsOnce}
@@ -16,10 +15,7 @@ first-older past r k le = let less : suc (length past) - k ≡ suc (length past 
 -- the first records of the first records
 pub first-first : (past : Past) (j k : ℕ) → j ≤ k → first j (first k past) ≡ first j past
 first-first [] j k le = let none : 0 - k ≡ 0 = omega arith in ap (λ (n : ℕ). first j (drop n [])) none
-first-first (r ∷ past) j k le = split (nat_le (suc (length past)) k)
-    (λ all. let none : suc (length past) - k ≡ 0 = omega (arith, leb-true _ _ all) in ap (λ n. first j (drop n (r ∷ past))) none)
-    (λ some. let few : k ≤ length past = omega (arith, leb-false _ _ some) in
-    ap (first j) (first-older past r k few) ∙ first-first past j k le ∙ sym (first-older past r j (omega (arith, few))))
+first-first (r ∷ past) j k le = grind (arith, leb-true, leb-false, first-older, first-first past j k le)
 
 pub record LegalAt (past : Past) (k : ℕ) (r : Record) : Type 0 where
   pub before : Legal (first k past)
@@ -29,11 +25,7 @@ pub record LegalAt (past : Past) (k : ℕ) (r : Record) : Type 0 where
 pub legal-at : (past : Past) → Legal past → (k : ℕ) (r : Record) → record_at past k ≡ Some r → LegalAt past k r
 legal-at [] legal k r e = absurd (cc)
 legal-at (s ∷ past) legal k r e = split (k == length past)
-    (λ t. let here : k ≡ length past = eqb-true _ _ t in
-    let same : Some s ≡ Some r = rw t at e in
-    let is : s ≡ r = cc in
-    let all : first k (s ∷ past) ≡ past = first-older past s k (omega arith) ∙ first-all past k here in
-    record { before = rw all legal.0; next = rw (all, ← is) legal.1 })
+    (λ t. grind (arith, nat_tests, eqb-true, first-older, first-all))
     (λ f. let old : record_at past k ≡ Some r = rw f at e in
     let lt = record_at-below past k r old in
     let x = legal-at past legal.0 k r old in
@@ -42,11 +34,7 @@ legal-at (s ∷ past) legal k r e = split (k == length past)
 
 -- the record with a reply
 pub record-of : (past : Past) (k : ℕ) (reply : Reply) → reply_at past k ≡ Some reply → (r : Record) × (record_at past k ≡ Some r) × (r.entry.reply ≡ reply)
-record-of past k reply e = by (record_at past k) refl e
-  where
-    by : (o : Option Record) → record_at past k ≡ o → option_map (λ (r : Record). r.entry.reply) o ≡ Some reply → (r : Record) × (record_at past k ≡ Some r) × (r.entry.reply ≡ reply)
-    by None is e = absurd (cc)
-    by (Some r) is e = (r, is, (let same : r.entry.reply ≡ reply = cc in same))
+record-of past k reply e = grind arith
 
 pub record HasRecord (part : Reply → Option ℕ) (past : Past) (k m : ℕ) : Type 0 where
   pub r : Record
@@ -54,22 +42,14 @@ pub record HasRecord (part : Reply → Option ℕ) (past : Past) (k m : ℕ) : T
   pub is : part r.entry.reply ≡ Some m
 
 pub has-record : (part : Reply → Option ℕ) (past : Past) (k m : ℕ) → Has part past k m → HasRecord part past k m
-has-record part past k m e = by (record_at past k) refl e
-  where
-    by : (o : Option Record) → record_at past k ≡ o → option_and_then part (option_map (λ (r : Record). r.entry.reply) o) ≡ Some m → HasRecord part past k m
-    by None is e = absurd (cc)
-    by (Some r) is e = record { r = r; at = is; is = e }
+has-record part past k m e = grind arith
 
 pub has-here : (part : Reply → Option ℕ) (past : Past) (r : Record) (m : ℕ) → part r.entry.reply ≡ Some m → Has part (r ∷ past) (length past) m
 has-here part past r m e = rw (eq-eqb (length past) (length past) refl) e
 
 -- a reply is that of the latest record, or of an earlier one
 pub has-cases : {C : Type 0} (part : Reply → Option ℕ) (past : Past) (r : Record) (k m : ℕ) → Has part (r ∷ past) k m → (k ≡ length past → part r.entry.reply ≡ Some m → C) → (Has part past k m → k < length past → C) → C
-has-cases part past r k m e newest older = split (k == length past)
-    (λ t. newest (eqb-true _ _ t) (rw t at e))
-    (λ f. let old : Has part past k m = rw f at e in
-    let x = has-record part past k m old in
-    older old (record_at-below past k x.r x.at))
+has-cases part past r k m e newest older = grind (arith, eqb-true, has-record, record_at-below)
 
 -- what no earlier reply has when a legal record has it
 pub once : (part : Reply → Option ℕ) → ((past : Past) (r : Record) → Legal past → IsLegalNext past r → (j m : ℕ) → part r.entry.reply ≡ Some m → Has part past j m → ⊥) → (past : Past) → Legal past → IsOnce part past

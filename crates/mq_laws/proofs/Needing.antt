@@ -1,21 +1,20 @@
 -- What is kept remains enough when entries are added and when what is lost with a queue is dropped.
-use Rattle.std.proofs.Common.{◌≡◌, ◌≢◌, ℕ, ◌<◌, ◌==◌, ◌||◌, true, false, [], ◌∷◌, length, Option, Some, None, refl, sym, ◌∙◌, ap, subst, arith, eqb-true}
+use Rattle.std.proofs.Common.{◌≡◌, ◌≢◌, ℕ, ◌<◌, ◌==◌, ◌||◌, true, false, [], ◌∷◌, length, Some, refl, sym, ◌∙◌, ap, arith, eqb-true}
 use Rattle.mq_model.specs.Record.{Record, Past, first}
-use Rattle.mq_model.specs.Names.{creates}
 use Rattle.mq_model.specs.Descriptors.{alive, created, is_place, is_named, is_held, called_queue}
 use Rattle.mq_model.specs.declared.entries.Call.{Call}
 use Rattle.mq_model.specs.declared.entries.Reply.{Reply}
-use Rattle.mq_model.specs.declared.entries.Reply.TheVariants.{Opened, Queued, Handed, Waits, Got, Collected, Attrs, Notice, Done, Refused, Withdrawn}
+use Rattle.mq_model.specs.declared.entries.Reply.TheVariants.{Opened, Queued, Waits}
 use Rattle.mq_model.proofs.Frames.{created-below}
 use Rattle.mq_model.proofs.HeldQueues.{called-alive}
 use Rattle.mq_model.proofs.Prefixes.{first-all}
 use Rattle.mq_laws.proofs.LegalPlaces.{first-older}
-use Rattle.mq_model.specs.Messages.{is_in, with_place}
+use Rattle.mq_model.specs.Messages.{is_in}
 use Rattle.mq_model.specs.Legality.{Legal}
 use Rattle.mq_model.proofs.Places.{split, clash, is_in-filter}
 use Rattle.mq_laws.specs.Laws.{IsGoneAt}
 use Rattle.mq_laws.proofs.GoneQueues.{never-again}
-use Rattle.mq_laws.specs.Needed.{is_kept, ended_by, ended, ended_before, ended_last, home_of, home, is_kept_at, IsThere, IsNeeded}
+use Rattle.mq_laws.specs.Needed.{is_kept, ended, ended_before, ended_last, home_of, home, IsNeeded}
 
 -- what is needed is kept
 abbrev pub IsEnough : Past → (ℕ → Type 0) → Type 0
@@ -23,31 +22,16 @@ IsEnough past Keeps = (k : ℕ) → IsNeeded past k → Keeps k
 
 -- an entry that has not ended had not ended before the latest entry either
 pub not-before : (past : Past) (k : ℕ) → is_in (ended past) k ≡ false → is_in (ended_before past) k ≡ false
-not-before [] k e = refl
-not-before (r ∷ past) k e = by (ended_by r.entry.reply) e
-  where
-    by : (o : Option ℕ) → is_in (with_place o (ended past)) k ≡ false → is_in (ended past) k ≡ false
-    by None e = e
-    by (Some m) e = split (m == k) (λ t. let bad : true ≡ false = rw t at e in absurd (cc)) (λ f. rw f at e)
+not-before past k e = grind arith
 
 not-last : (past : Past) (k : ℕ) → is_in (ended past) k ≡ false → is_place k (ended_last past) ≡ false
-not-last [] k e = refl
-not-last (r ∷ past) k e = by (ended_by r.entry.reply) e
-  where
-    by : (o : Option ℕ) → is_in (with_place o (ended past)) k ≡ false → is_place k o ≡ false
-    by None e = refl
-    by (Some m) e = split (m == k) (λ t. let bad : true ≡ false = rw t at e in absurd (cc)) (λ f. f)
+not-last past k e = grind arith
 
 pub alive-created : (past : Past) (q : ℕ) → is_in (alive past) q ≡ true → is_in (created past) q ≡ true
 alive-created past q h = (is_in-filter (λ x. is_named past x || is_held past x) (created past) q h).0
 
 created-older : (past : Past) (r : Record) (q : ℕ) → q < length past → is_in (created (r ∷ past)) q ≡ true → is_in (created past) q ≡ true
-created-older past r q lt h = split (creates r.entry.call r.entry.reply)
-    (λ t. let new : (length past == q || is_in (created past) q) ≡ true = rw t at h in
-    split (length past == q)
-    (λ here. let same : length past ≡ q = eqb-true _ _ here in absurd (omega (arith, lt, same)))
-    (λ there. rw there at new))
-    (λ f. rw f at h)
+created-older past r q lt h = grind (arith, eqb-true)
 
 -- a queue that exists after an entry existed before it, or is the one that it created
 pub alive-older : (past : Past) (r : Record) → Legal (r ∷ past) → (q : ℕ) → q < length past → is_in (alive (r ∷ past)) q ≡ true → is_in (alive past) q ≡ true
@@ -86,20 +70,9 @@ pub enough-push : (past : Past) (r : Record) (Keeps Keeps' : ℕ → Type 0) →
     (is_kept r.entry.call r.entry.reply ≡ true → Keeps' (length past)) →
     ((k : ℕ) → is_place k (ended_last past) ≡ false → Keeps k → Keeps' k) →
     IsEnough past Keeps → IsEnough (r ∷ past) Keeps'
-enough-push past r Keeps Keeps' legal new old enough k needed = split (k == length past)
-    (λ t. let same : k ≡ length past = eqb-true _ _ t in
-    let is : is_kept r.entry.call r.entry.reply ≡ true = rw t at needed.kept in
-    subst Keeps' (sym same) (new is))
-    (λ f. let kept : is_kept_at past k ≡ true = rw f at needed.kept in
-    let there : IsThere (r ∷ past) (home past k) = rw f at needed.there in
-    old k (not-last past k needed.going) (enough k (record { kept = kept; going = not-before past k needed.going; there = still (home past k) refl there })))
-  where
-    still : (o : Option ℕ) → home past k ≡ o → IsThere (r ∷ past) o → IsThere past o
-    still None e there = there
-    still (Some q) e there = alive-older past r legal q (home-below past legal.0 k q e) there
+enough-push past r Keeps Keeps' legal new old enough k needed = grind (arith, eqb-true, not-last, not-before, alive-older, home-below)
 
 -- what is lost with a queue that no longer exists may be dropped
 pub enough-forget : (past : Past) (q : ℕ) (Keeps Keeps' : ℕ → Type 0) → is_in (alive past) q ≡ false →
     ((k : ℕ) → home past k ≢ Some q → Keeps k → Keeps' k) → IsEnough past Keeps → IsEnough past Keeps'
-enough-forget past q Keeps Keeps' gone others enough k needed =
-    others k (λ at. clash (is_in (alive past) q) (let there : IsThere past (home past k) = needed.there in rw at at there) gone) (enough k needed)
+enough-forget past q Keeps Keeps' gone others enough k needed = grind (arith, clash)

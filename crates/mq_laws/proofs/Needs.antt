@@ -1,24 +1,25 @@
 -- Whatever the code asks for is needed.
+use Rattle.std.proofs.lemmas.Bool.Decides.{nat_tests}
 use Rattle.std.proofs.Common.{◌≡◌, ℕ, ◌<◌, ◌==◌, ◌||◌, not, ◌⊎◌, inl, inr, Bool, true, false, [], ◌∷◌, length, Option, Some, None, refl, sym, ◌∙◌, ap, arith, eqb-true, eq-eqb, ne_eqb}
 use Rattle.std.proofs.lemmas.Bool.{false_from_ne_true, not-true}
 use Rattle.std.specs.Option.{option_map}
 use Rattle.mq_model.specs.Record.{Record, Past, record_at}
 use Rattle.mq_model.specs.Descriptors.{alive, created, called_queue}
-use Rattle.mq_model.specs.Messages.{is_in, with_place, present, admitted, taken, taken_by, waiting_sends, ended_sends, ends_send, blocked_sends}
+use Rattle.mq_model.specs.Messages.{is_in, with_place, present, admitted, taken, waiting_sends, ended_sends, ends_send, blocked_sends}
 use Rattle.mq_model.specs.Waits.{answered_by, named_wait, ended_wait}
 use Rattle.mq_model.specs.Legality.{Legal}
 use Rattle.mq_model.specs.declared.entries.Reply.{Reply}
 use Rattle.mq_model.specs.declared.entries.Reply.TheVariants.{Opened, Queued, Handed, Waits, Got, Collected, Attrs, Notice, Done, Refused, Withdrawn}
-use Rattle.mq_model.proofs.Places.{split, clash, is_in-filter}
+use Rattle.mq_model.proofs.Places.{split, clash, is_in-filter, is_in-with_place}
 use Rattle.mq_model.proofs.Frames.{created-below}
-use Rattle.mq_model.proofs.Presence.{sent_to, admitted-to, present-admitted, blocked-on, waiting-not_taken, with-more, taken-cases}
+use Rattle.mq_model.proofs.Presence.{sent_to, admitted-to, present-admitted, blocked-on, waiting-not_taken, taken-cases}
 use Rattle.mq_laws.specs.Laws.{reply_at, message_given, withdrawn_wait, cause, Has}
 use Rattle.mq_laws.proofs.LegalPlaces.{has-here, has-cases, record-of}
 use Rattle.mq_laws.proofs.EndedWaits.{has-older, withdrawn-not_accepted, ended-blocked, has-also, admitted-not_handed}
 use Rattle.mq_laws.proofs.SentMessages.{IsSentTo, is_sent, admitted-sent, blocked-sent}
 use Rattle.mq_model.specs.Names.{creates}
-use Rattle.mq_laws.proofs.GivenOnce.{gives-once, collected, answered-named, closed}
-use Rattle.mq_laws.specs.Needed.{is_kept, is_kept_at, ended_by, ended, home_of, home, IsThere, IsNeeded}
+use Rattle.mq_laws.proofs.GivenOnce.{gives-once, collected, answered-named, closed, given-taken}
+use Rattle.mq_laws.specs.Needed.{is_kept_at, ended_by, ended, home_of, home, IsThere, IsNeeded}
 use Rattle.mq_laws.proofs.Needing.{not-before, alive-created}
 
 -- how an entry was ended
@@ -45,21 +46,6 @@ ended-ways (r ∷ past) k h = by (λ old. ended-ways past k old) (ended_by r.ent
     by rest (Some m) e h = split (m == k)
         (λ t. here r.entry.reply refl (e ∙ ap Some (eqb-true _ _ t)))
         (λ f. let old : is_in (ended past) k ≡ true = rw f at h in older (rest old))
-
--- a message that was returned was taken
-given-taken : (past : Past) (j m : ℕ) → Has message_given past j m → is_in (taken past) m ≡ true
-given-taken [] j m e = absurd (cc)
-given-taken (r ∷ past) j m e = has-cases message_given past r j m e
-    (λ here is. by r.entry.reply is)
-    (λ old lt. more (taken_by (length past) r.entry.reply) (given-taken past j m old))
-  where
-    more : (o : Option ℕ) → is_in (taken past) m ≡ true → is_in (with_place o (taken past)) m ≡ true
-    more None h = h
-    more (Some k) h = split (k == m) (λ t. rw t refl) (λ f. rw (f, h) refl)
-
-    by : (reply : Reply) → message_given reply ≡ Some m → is_in (with_place (taken_by (length past) reply) (taken past)) m ≡ true
-    by (Got k a n) e = let same : k ≡ m = cc in rw (eq-eqb k m same) refl
-    by reply e = absurd (cc)
 
 -- what was collected had answered a wait
 cause-named : (past : Past) → Legal past → (j k : ℕ) → Has cause past j k → (w : ℕ) × Has named_wait past k w
@@ -101,17 +87,10 @@ home-sent (r ∷ past) m q reply to at how = split (m == length past)
 
 -- an entry with such a reply answers no wait
 queued-unnamed : (past : Past) (m w : ℕ) (reply : Reply) → reply_at past m ≡ Some reply → (((n : Option ℕ) × (reply ≡ Queued n)) ⊎ (reply ≡ Waits)) → Has named_wait past m w → ⊥
-queued-unnamed past m w reply at (inl x) e = let bad : None ≡ Some w = rw (at, x.1) at e in cc
-queued-unnamed past m w reply at (inr x) e = let bad : None ≡ Some w = rw (at, x) at e in cc
+queued-unnamed past m w reply = grind arith
 
 kept-sent : (past : Past) (q m : ℕ) (x : IsSentTo past q m) (reply : Reply) → reply_at past m ≡ Some reply → (((n : Option ℕ) × (reply ≡ Queued n)) ⊎ (reply ≡ Waits)) → is_kept_at past m ≡ true
-kept-sent past q m x reply at how =
-    let is : Some x.r.entry.reply ≡ Some reply = sym (ap (option_map (λ (r : Record). r.entry.reply)) x.at) ∙ at in let same : x.r.entry.reply ≡ reply = cc in
-    rw (x.at, same) (by how)
-  where
-    by : (((n : Option ℕ) × (reply ≡ Queued n)) ⊎ (reply ≡ Waits)) → is_kept x.r.entry.call reply ≡ true
-    by (inl y) = rw y.1 refl
-    by (inr y) = rw y x.send
+kept-sent past q m x reply at how = grind arith
 
 -- the reply of a send that entered a queue
 entered-reply : (past : Past) → Legal past → (q m : ℕ) → is_in (admitted past q) m ≡ true → (reply : Reply) × (reply_at past m ≡ Some reply) × (((n : Option ℕ) × (reply ≡ Queued n)) ⊎ (reply ≡ Waits))
@@ -156,7 +135,7 @@ withdrawn-ended : (past : Past) (j w : ℕ) → Has withdrawn_wait past j w → 
 withdrawn-ended [] j w e = absurd (cc)
 withdrawn-ended (r ∷ past) j w e = has-cases withdrawn_wait past r j w e
     (λ here is. by r.entry.reply is)
-    (λ old lt. with-more (ends_send r.entry.reply) (ended_sends past) w (withdrawn-ended past j w old))
+    (λ old lt. is_in-with_place (ends_send r.entry.reply) (ended_sends past) w (withdrawn-ended past j w old))
   where
     by : (reply : Reply) → withdrawn_wait reply ≡ Some w → is_in (with_place (ends_send reply) (ended_sends past)) w ≡ true
     by (Withdrawn v) e = let same : v ≡ w = cc in rw (eq-eqb v w same) refl
@@ -176,11 +155,7 @@ waiting-needed past legal q w exists h =
     }
 
 withdrawn-has : (past : Past) (j w : ℕ) → Has withdrawn_wait past j w → Has ended_wait past j w
-withdrawn-has past j w e = has-also withdrawn_wait ended_wait ends past j w e
-  where
-    ends : (reply : Reply) (m : ℕ) → withdrawn_wait reply ≡ Some m → ended_wait reply ≡ Some m
-    ends (Withdrawn v) m e = e
-    ends reply m e = absurd (cc)
+withdrawn-has past j w e = grind (arith, has-also)
 
 -- the message that was handed to an open wait is needed, until it is collected
 pub handed-needed : (past : Past) → Legal past → (p b w : ℕ) → answered_by past p ≡ Some b → reply_at past b ≡ Some (Handed w) → IsNeeded past b
@@ -248,10 +223,4 @@ alive-needed past legal q exists =
   where
     by : (d : ℕ) → reply_at past q ≡ Some (Opened d true) → ((w : ℕ) × (reply_at past q ≡ Some (Handed w))) ⊎ ((k : ℕ) × (is_in (admitted past k) q ≡ true)) → ⊥
     by d at (inl x) = let bad : Some (Handed x.0) ≡ Some (Opened d true) = sym x.1 ∙ at in cc
-    by d at (inr x) = let y = entered-reply past legal x.0 q x.1 in
-        let same : Some y.0 ≡ Some (Opened d true) = sym y.1 ∙ at in let is : y.0 ≡ Opened d true = cc in
-        no d y.0 is y.2
-      where
-        no : (d : ℕ) (reply : Reply) → reply ≡ Opened d true → (((n : Option ℕ) × (reply ≡ Queued n)) ⊎ (reply ≡ Waits)) → ⊥
-        no d reply is (inl z) = let bad : Queued z.0 ≡ Opened d true = sym z.1 ∙ is in cc
-        no d reply is (inr z) = let bad : Waits ≡ Opened d true = sym z ∙ is in cc
+    by d at (inr x) = grind (arith, nat_tests, entered-reply)

@@ -1,10 +1,9 @@
 -- An entry with an error changes nothing.
-use Rattle.std.proofs.Common.{◌≡◌, ℕ, ◌==◌, Bool, true, false, List, [], ◌∷◌, length, Option, Some, None, is_none, refl, sym, ◌∙◌, ap, subst, arith, append-nil, eq-eqb}
-use Rattle.std.specs.Prelude.{IsTrue, pos, int_le, drop}
+use Rattle.std.proofs.Common.{◌≡◌, ℕ, ◌==◌, Bool, true, false, List, [], ◌∷◌, length, Option, None, is_none, refl, sym, ◌∙◌, ap, subst, arith, append-nil, eq-eqb, IsTrue, pos, int_le, drop}
 use Rattle.std.specs.List.{find, list_all}
 use Rattle.mq_model.specs.Record.{Record, Past, first}
 use Rattle.mq_model.specs.Descriptors.{is_on}
-use Rattle.mq_model.specs.Messages.{is_in, present, best, goes_first, priority}
+use Rattle.mq_model.specs.Messages.{is_in, present, best}
 use Rattle.mq_model.specs.Notices.{registration_after, registered, notices_given, values_notified}
 use Rattle.mq_model.specs.Waits.{open_wait, names_wait}
 use Rattle.mq_model.specs.Legality.{Legal, reply_to, may_call}
@@ -18,7 +17,6 @@ use Rattle.mq_model.proofs.Presence.{priority-older, present-below}
 use Rattle.mq_laws.proofs.LegalPlaces.{legal-at}
 use Rattle.mq_model.specs.declared.entries.Attr.{Attr}
 use Rattle.mq_model.specs.declared.entries.Call.{Call}
-use Rattle.mq_model.specs.declared.entries.Call.TheVariants.{MqOpen, MqClose, MqUnlink, MqSend, MqReceive, MqGetattr, MqSetattr, MqNotify, NextNotice, Collect, MqTimedSend, MqTimedReceive, Withdraw}
 use Rattle.mq_model.specs.declared.entries.Registration.{Registration}
 use Rattle.mq_model.specs.declared.entries.Reply.{Reply}
 use Rattle.mq_model.specs.declared.entries.Reply.TheVariants.{Refused}
@@ -30,8 +28,6 @@ refused p call f payload = record { entry = record { process = p; call = call; r
 
 -- a call that fails is neither a collect nor a withdrawal, so its process had no open wait
 idle : (past : Past) (p : ℕ) (call : Call) (f : Fault) (payload : List ℕ) → IsTrue (may_call past p call) → Refused f ≡ reply_to past p call payload → is_none (open_wait past p) ≡ true
-idle past p Collect f payload turn e = absurd (cc)
-idle past p (Withdraw now) f payload turn e = absurd (cc)
 idle past p call f payload turn e = grind arith
 
 -- tests that agree on the members of a list
@@ -49,27 +45,16 @@ find-same s t (x ∷ xs) same =
     let rest : find s xs ≡ find t xs = find-same s t xs (λ y h. same y (split (x == y) (λ e. rw e refl) (λ n. rw (n, h) refl))) in
     rw (here, rest) refl
 
--- the order of the messages that are present does not change
-order-same : (past : Past) (r : Record) (q m n : ℕ) → is_in (present past q) m ≡ true → is_in (present past q) n ≡ true → goes_first (r ∷ past) m n ≡ goes_first past m n
-order-same past r q m n hm hn =
-    let em : priority (r ∷ past) m ≡ priority past m = priority-older past r m (present-below past q m hm) in
-    let en : priority (r ∷ past) n ≡ priority past n = priority-older past r n (present-below past q n hn) in
-    rw (em, en) refl
-
 best-same : (past : Past) (r : Record) (q : ℕ) → present (r ∷ past) q ≡ present past q → best (r ∷ past) q ≡ best past q
-best-same past r q same =
-    ap (λ xs. find (λ m. list_all (goes_first (r ∷ past) m) xs) xs) same
-    ∙ find-same _ _ (present past q) (λ m hm. all-same _ _ (present past q) (λ n hn. order-same past r q m n hm hn))
+best-same past r q same = grind (arith, find-same, all-same, priority-older, present-below)
 
 -- a reply that is an error names no wait
 names-none : (f : Fault) (o : Option ℕ) → names_wait (Refused f) o ≡ false
-names-none f None = refl
-names-none f (Some w) = refl
+names-none f o = grind arith
 
 -- an error ends no registration
 registered-kept : (on : Bool) (here p : ℕ) (call : Call) (f : Fault) (before : Option Registration) → registration_after on here (record { process = p; call = call; reply = Refused f }) before ≡ before
-registered-kept on here p call f None = refl
-registered-kept on here p call f (Some n) = refl
+registered-kept on here p call f before = grind arith
 
 -- a record with an error, of a process without an open wait
 unchanged : (past : Past) (p : ℕ) (call : Call) (f : Fault) (payload : List ℕ) → open_wait past p ≡ None → IsUnchanged past (refused p call f payload ∷ past)

@@ -1,17 +1,16 @@
 -- The registration that the definition gives is the latest one that was made and not ended.
-use Rattle.std.proofs.Common.{◌≡◌, ℕ, ◌<◌, ◌==◌, Bool, true, false, ◌&&◌, ◌||◌, List, [], ◌∷◌, length, Option, Some, None, refl, sym, ◌∙◌, ap, subst, arith, eqb-true, eq-eqb, inl, inr}
-use Rattle.std.specs.Option.{option_map}
-use Rattle.std.proofs.lemmas.Bool.{and_parts, eqb-false, false_from_ne_true}
+use Rattle.std.proofs.lemmas.Bool.Decides.{nat_tests}
+use Rattle.std.proofs.Common.{◌≡◌, ℕ, ◌<◌, ◌==◌, Bool, true, false, List, [], ◌∷◌, length, Option, Some, None, refl, sym, ◌∙◌, ap, subst, arith, eqb-true, eq-eqb}
+use Rattle.std.proofs.lemmas.Bool.{and_parts, eqb-false, false_from_ne_true, or_right}
 use Rattle.mq_model.specs.Record.{Record, Past, record_at, first}
-use Rattle.mq_model.specs.Descriptors.{held, called_queue, is_on, is_place}
-use Rattle.mq_model.specs.Notices.{registration_by, registration_of, only_if, notified, is_removal, removes, is_close_of, closes, ends, unless, registered}
-use Rattle.mq_model.specs.Legality.{Legal, IsLegalNext, reply_to, reply_to_notify}
-use Rattle.mq_model.specs.declared.entries.Description.{Description}
+use Rattle.mq_model.specs.Descriptors.{called_queue, is_on}
+use Rattle.mq_model.specs.Notices.{registration_of, only_if, is_removal, removes, is_close_of, closes, ends, unless, registered}
+use Rattle.mq_model.specs.Legality.{Legal, IsLegalNext, reply_to}
 use Rattle.mq_model.specs.declared.entries.Registration.{Registration}
 use Rattle.mq_model.specs.declared.entries.Call.{Call}
-use Rattle.mq_model.specs.declared.entries.Call.TheVariants.{MqOpen, MqClose, MqUnlink, MqSend, MqReceive, MqGetattr, MqSetattr, MqNotify, NextNotice, Collect, MqTimedSend, MqTimedReceive, Withdraw}
+use Rattle.mq_model.specs.declared.entries.Call.TheVariants.{MqClose, MqNotify}
 use Rattle.mq_model.specs.declared.entries.Reply.{Reply}
-use Rattle.mq_model.specs.declared.entries.Reply.TheVariants.{Opened, Queued, Handed, Waits, Got, Collected, Attrs, Notice, Done, Refused, Withdrawn}
+use Rattle.mq_model.specs.declared.entries.Reply.TheVariants.{Done}
 use Rattle.mq_model.proofs.Places.{split}
 use Rattle.mq_model.proofs.Prefixes.{record_at-below, first-all}
 use Rattle.mq_model.proofs.Frames.{record_at-older}
@@ -20,32 +19,11 @@ use Rattle.mq_laws.proofs.LegalPlaces.{first-older}
 
 -- what ends a registration -----------------------------------------------------------------------------------------------
 
-place-is : (k : ℕ) (o : Option ℕ) → is_place k o ≡ true → o ≡ Some k
-place-is k None e = absurd (let bad : false ≡ true = e in cc)
-place-is k (Some j) e = ap Some (eqb-true j k e)
-
-is-place : (k : ℕ) (o : Option ℕ) → o ≡ Some k → is_place k o ≡ true
-is-place k o e = rw (e, eq-eqb k k refl) refl
-
 removal-is : (call : Call) → is_removal call ≡ true → (d : ℕ) × (call ≡ MqNotify d None)
-removal-is (MqNotify d None) e = (d, refl)
-removal-is (MqNotify d (Some v)) e = absurd (let bad : false ≡ true = e in cc)
-removal-is (MqOpen flags attr) e = absurd (let bad : false ≡ true = e in cc)
-removal-is (MqClose d) e = absurd (let bad : false ≡ true = e in cc)
-removal-is MqUnlink e = absurd (let bad : false ≡ true = e in cc)
-removal-is (MqSend d prio len) e = absurd (let bad : false ≡ true = e in cc)
-removal-is (MqTimedSend d prio len until now) e = absurd (let bad : false ≡ true = e in cc)
-removal-is (MqReceive d room) e = absurd (let bad : false ≡ true = e in cc)
-removal-is (MqTimedReceive d room until now) e = absurd (let bad : false ≡ true = e in cc)
-removal-is (MqGetattr d) e = absurd (let bad : false ≡ true = e in cc)
-removal-is (MqSetattr d nonblock) e = absurd (let bad : false ≡ true = e in cc)
-removal-is NextNotice e = absurd (let bad : false ≡ true = e in cc)
-removal-is Collect e = absurd (let bad : false ≡ true = e in cc)
-removal-is (Withdraw now) e = absurd (let bad : false ≡ true = e in cc)
+removal-is call e = grind arith
 
 close-is : (call : Call) (d : ℕ) → is_close_of call d ≡ true → call ≡ MqClose d
-close-is (MqClose x) d e = ap MqClose (eqb-true x d e)
-close-is call d e = absurd (let bad : false ≡ true = e in cc)
+close-is call d e = grind (arith, eqb-true)
 
 -- a test that only a successful call can pass
 abbrev only_done : (Call → Bool) → Call → Reply → Bool
@@ -53,56 +31,19 @@ only_done t call Done = t call
 only_done t call _ = false
 
 done-is : (t : Call → Bool) (call : Call) (reply : Reply) → only_done t call reply ≡ true → (reply ≡ Done) × (t call ≡ true)
-done-is t call Done e = (refl, e)
-done-is t call reply e = absurd (let bad : false ≡ true = e in cc)
+done-is t call reply e = grind arith
 
 removes-is : (call : Call) (reply : Reply) → removes call reply ≡ only_done is_removal call reply
 removes-is call reply = refl
 
 closes-is : (call : Call) (reply : Reply) (d : ℕ) → closes call reply d ≡ only_done (λ c. is_close_of c d) call reply
-closes-is call Done d = refl
-closes-is call (Opened x created) d = refl
-closes-is call (Queued n) d = refl
-closes-is call (Handed w) d = refl
-closes-is call Waits d = refl
-closes-is call (Got m a n) d = refl
-closes-is call (Collected b) d = refl
-closes-is call (Withdrawn b) d = refl
-closes-is call (Attrs s) d = refl
-closes-is call (Notice v) d = refl
-closes-is call (Refused f) d = refl
+closes-is call reply d = grind arith
 
 pub ended-by : (past : Past) (r : Record) (q : ℕ) (n : Registration) → ends (is_on past r.entry q) r.entry n ≡ true → IsEndedBy past q n r
-ended-by past r q n e = split (is_place n.place (notified r.entry.reply))
-    (λ t. inl (place-is n.place (notified r.entry.reply) t))
-    (λ f. let rest : ((removes r.entry.call r.entry.reply && is_on past r.entry q || closes r.entry.call r.entry.reply n.d) && r.entry.process == n.process) ≡ true = rw f at e in
-    let parts = and_parts (removes r.entry.call r.entry.reply && is_on past r.entry q || closes r.entry.call r.entry.reply n.d) (r.entry.process == n.process) rest in
-    let same : r.entry.process ≡ n.process = eqb-true _ _ parts.1 in
-    split (removes r.entry.call r.entry.reply && is_on past r.entry q)
-    (λ t. let both = and_parts (removes r.entry.call r.entry.reply) (is_on past r.entry q) t in
-    let is = done-is is_removal r.entry.call r.entry.reply (sym (removes-is r.entry.call r.entry.reply) ∙ both.0) in
-    let call = removal-is r.entry.call is.1 in
-    inr (inl (record { d = call.0; process = same; call = call.1; reply = is.0; on = place-is q (called_queue past r.entry.process r.entry.call) both.1 })))
-    (λ g. let closed : closes r.entry.call r.entry.reply n.d ≡ true = rw g at parts.0 in
-    let is = done-is (λ c. is_close_of c n.d) r.entry.call r.entry.reply (sym (closes-is r.entry.call r.entry.reply n.d) ∙ closed) in
-    inr (inr (record { process = same; call = close-is r.entry.call n.d is.1; reply = is.0 }))))
-
-or-right : (a b : Bool) → b ≡ true → (a || b) ≡ true
-or-right true b e = refl
-or-right false b e = e
+ended-by past r q n e = grind (arith, and_parts, eqb-true, done-is, removes-is, removal-is, closes-is, close-is)
 
 pub by-ended : (past : Past) (r : Record) (q : ℕ) (n : Registration) → IsEndedBy past q n r → ends (is_on past r.entry q) r.entry n ≡ true
-by-ended past r q n (inl e) = rw (is-place n.place (notified r.entry.reply) e) refl
-by-ended past r q n (inr (inl x)) =
-    let removed : removes r.entry.call r.entry.reply ≡ true = rw (x.call, x.reply) refl in
-    let on : is_on past r.entry q ≡ true = is-place q (called_queue past r.entry.process r.entry.call) x.on in
-    let own : (r.entry.process == n.process) ≡ true = eq-eqb _ _ x.process in
-    or-right (is_place n.place (notified r.entry.reply)) _ (rw (removed, on, own) refl)
-by-ended past r q n (inr (inr x)) =
-    let closed : closes r.entry.call r.entry.reply n.d ≡ true = rw (x.call, x.reply, eq-eqb n.d n.d refl) refl in
-    let own : (r.entry.process == n.process) ≡ true = eq-eqb _ _ x.process in
-    let either : (removes r.entry.call r.entry.reply && is_on past r.entry q || closes r.entry.call r.entry.reply n.d) ≡ true = or-right (removes r.entry.call r.entry.reply && is_on past r.entry q) _ closed in
-    or-right (is_place n.place (notified r.entry.reply)) _ (rw (either, own) refl)
+by-ended past r q n h = grind (arith, eq-eqb, or_right)
 
 -- what makes a registration ----------------------------------------------------------------------------------------------
 
@@ -112,26 +53,14 @@ record IsMadeBy (here p : ℕ) (c : Call) (a : Reply) (n : Registration) : Type 
   call : c ≡ MqNotify n.d (Some n.value)
   reply : a ≡ Done
 
-made-by : (here p : ℕ) (call : Call) (n : Registration) → registration_by here p call ≡ Some n → IsMadeBy here p call Done n
-made-by here p (MqNotify d (Some v)) n e =
-    let same : record { place = here; process = p; d = d; value = v } ≡ n = cc in
-    record { place = ap (λ (x : Registration). x.place) (sym same); process = ap (λ (x : Registration). x.process) same; call = ap (λ (x : Registration). MqNotify x.d (Some x.value)) same; reply = refl }
-made-by here p call n e = absurd (cc)
-
 made-of : (here p : ℕ) (call : Call) (reply : Reply) (n : Registration) → registration_of here p call reply ≡ Some n → IsMadeBy here p call reply n
-made-of here p call Done n e = made-by here p call n e
-made-of here p call reply n e = absurd (cc)
+made-of here p call reply n e = grind arith
 
 only-parts : (b : Bool) (o : Option Registration) (n : Registration) → only_if b o ≡ Some n → (b ≡ true) × (o ≡ Some n)
-only-parts b None n e = absurd (cc)
-only-parts true (Some m) n e = (refl, e)
-only-parts false (Some m) n e = absurd (cc)
+only-parts b o n e = grind arith
 
-unless-parts : (ended : Registration → Bool) (o : Option Registration) (n : Registration) → unless ended o ≡ Some n → (o ≡ Some n) × (ended n ≡ false)
-unless-parts ended None n e = absurd (cc)
-unless-parts ended (Some m) n e = split (ended m)
-    (λ t. let bad : None ≡ Some n = rw t at e in absurd (cc))
-    (λ f. let here : Some m ≡ Some n = rw f at e in let same : m ≡ n = cc in (here, rw (← same) f))
+pub unless-parts : (ended : Registration → Bool) (o : Option Registration) (n : Registration) → unless ended o ≡ Some n → (o ≡ Some n) × (ended n ≡ false)
+unless-parts ended o n e = grind arith
 
 -- a longer journal -------------------------------------------------------------------------------------------------------
 
@@ -157,11 +86,7 @@ stands-older past r q n not x =
   where
     left : (j : ℕ) (s : Record) → n.place < j → record_at (r ∷ past) j ≡ Some s → IsEndedBy (first j (r ∷ past)) q n s → ⊥
     left j s later at ended = split (j == length past)
-        (λ t. let here : j ≡ length past = eqb-true _ _ t in
-        let some : Some r ≡ Some s = sym (at-here past r j here) ∙ at in
-        let same : r ≡ s = cc in
-        let before : first j (r ∷ past) ≡ past = ap (λ k. first k (r ∷ past)) here ∙ first-here past r in
-        not (subst (λ z. IsEndedBy past q n z) (sym same) (subst (λ b. IsEndedBy b q n s) before ended)))
+        (λ t. grind (arith, nat_tests, eqb-true, at-here, first-here))
         (λ f. let old : record_at past j ≡ Some s = rw f at at in
         let below = record_at-below past j s old in
         x.left j s later old (subst (λ b. IsEndedBy b q n s) (first-older past r j (omega (arith, below))) ended))
@@ -196,56 +121,19 @@ registered-stands (r ∷ past) q n e = by (only_if (is_on past r.entry q) (regis
         let parts = unless-parts (ends (is_on past r.entry q) r.entry) (registered past q) n old in
         stands-older past r q n (λ ended. let bad : true ≡ false = sym (by-ended past r q n ended) ∙ parts.1 in cc) (rest parts.0)
     by (Some m) is e rest =
-        let here : Some m ≡ Some n = rw is at e in
-        let parts = only-parts (is_on past r.entry q) (registration_of (length past) r.entry.process r.entry.call r.entry.reply) n (is ∙ here) in
-        let made = made-of (length past) r.entry.process r.entry.call r.entry.reply n parts.1 in
-        record {
-          r = r;
-          at = at-here past r n.place made.place;
-          process = made.process;
-          call = made.call;
-          reply = made.reply;
-          on = ap (λ b. called_queue b r.entry.process r.entry.call) (ap (λ k. first k (r ∷ past)) made.place ∙ first-here past r) ∙ place-is q (called_queue past r.entry.process r.entry.call) parts.0;
-          left = λ j s later at ended. let below = record_at-below (r ∷ past) j s at in let place = made.place in absurd (omega (arith, later, below, place));
-        }
+        grind (arith, nat_tests, only-parts, made-of, at-here, first-here, record_at-below)
 
 -- a registration is made only if there is none
 busy : (past : Past) (p d v q : ℕ) (n : Registration) (payload : List ℕ) → registered past q ≡ Some n → called_queue past p (MqNotify d (Some v)) ≡ Some q → Done ≡ reply_to past p (MqNotify d (Some v)) payload → ⊥
-busy past p d v q n payload stands on is = by (held past p d) refl on is
-  where
-    by : (o : Option Description) → held past p d ≡ o → option_map (λ (h : Description). h.queue) o ≡ Some q → Done ≡ reply_to_notify past p o (Some v) → ⊥
-    by None e on is = absurd (cc)
-    by (Some h) e on is =
-        let same : h.queue ≡ q = cc in
-        let there : registered past h.queue ≡ Some n = ap (registered past) same ∙ stands in
-        let bad : Done ≡ Refused _ = rw there at is in absurd (cc)
+busy past p d v q n payload stands on is = grind arith
 
 none-made : (past : Past) (r : Record) (q : ℕ) (n : Registration) → IsLegalNext past r → registered past q ≡ Some n → only_if (is_on past r.entry q) (registration_of (length past) r.entry.process r.entry.call r.entry.reply) ≡ None
-none-made past r q n next stands = by (only_if (is_on past r.entry q) (registration_of (length past) r.entry.process r.entry.call r.entry.reply)) refl
-  where
-    by : (o : Option Registration) → only_if (is_on past r.entry q) (registration_of (length past) r.entry.process r.entry.call r.entry.reply) ≡ o → only_if (is_on past r.entry q) (registration_of (length past) r.entry.process r.entry.call r.entry.reply) ≡ None
-    by None is = is
-    by (Some m) is =
-        let parts = only-parts (is_on past r.entry q) (registration_of (length past) r.entry.process r.entry.call r.entry.reply) m is in
-        let made = made-of (length past) r.entry.process r.entry.call r.entry.reply m parts.1 in
-        let on : called_queue past r.entry.process (MqNotify m.d (Some m.value)) ≡ Some q = ap (called_queue past r.entry.process) (sym made.call) ∙ place-is q (called_queue past r.entry.process r.entry.call) parts.0 in
-        let is : Done ≡ reply_to past r.entry.process (MqNotify m.d (Some m.value)) r.payload = sym made.reply ∙ next.reply ∙ ap (λ c. reply_to past r.entry.process c r.payload) made.call in
-        absurd (busy past r.entry.process m.d m.value q n r.payload stands on is)
+none-made past r q n next stands = grind (arith, only-parts, made-of, busy)
 
 pub stands-registered : (past : Past) → Legal past → (q : ℕ) (n : Registration) → Stands past q n → registered past q ≡ Some n
 stands-registered [] legal q n x = absurd (let bad = x.at in cc)
 stands-registered (r ∷ past) legal q n x = split (n.place == length past)
-    (λ t. let here : n.place ≡ length past = eqb-true _ _ t in
-    let some : Some r ≡ Some x.r = sym (at-here past r n.place here) ∙ x.at in
-    let same : r ≡ x.r = cc in
-    let before : first n.place (r ∷ past) ≡ past = ap (λ k. first k (r ∷ past)) here ∙ first-here past r in
-    let called : called_queue past r.entry.process r.entry.call ≡ Some q = rw same (ap (λ b. called_queue b x.r.entry.process x.r.entry.call) (sym before) ∙ x.on) in
-    let on : is_on past r.entry q ≡ true = is-place q (called_queue past r.entry.process r.entry.call) called in
-    let process : r.entry.process ≡ n.process = ap (λ (z : Record). z.entry.process) same ∙ x.process in
-    let call : r.entry.call ≡ MqNotify n.d (Some n.value) = ap (λ (z : Record). z.entry.call) same ∙ x.call in
-    let reply : r.entry.reply ≡ Done = ap (λ (z : Record). z.entry.reply) same ∙ x.reply in
-    let made : registration_of (length past) r.entry.process r.entry.call r.entry.reply ≡ Some n = rw (call, reply, process, ← here) refl in
-    rw (on, made) refl)
+    (λ t. grind (arith, nat_tests, eqb-true, at-here, first-here))
     (λ f. let ne : n.place ≡ length past → ⊥ = eqb-false _ _ f in
     let long = record_at-below (r ∷ past) n.place x.r x.at in
     let lt : n.place < length past = omega (arith, ne, long) in

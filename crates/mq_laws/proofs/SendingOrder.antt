@@ -1,26 +1,25 @@
 -- Messages of one queue and one priority leave it in the order in which they were sent.
-use Rattle.std.proofs.Common.{◌≡◌, ◌≢◌, ℕ, ◌<◌, ◌≤◌, ◌==◌, Bool, true, false, ◌&&◌, ◌||◌, not, List, [], ◌∷◌, length, min, Option, Some, None, refl, sym, ◌∙◌, ap, subst, arith, eqb-true, eq-eqb, ne_eqb, ◌⊎◌, inl, inr}
-use Rattle.std.specs.Prelude.{ℤ, int_le, pos, negsuc, nat_lt, nat_le}
+use Rattle.std.proofs.Common.{◌≡◌, ℕ, ◌<◌, ◌≤◌, ◌==◌, Bool, true, false, ◌&&◌, ◌||◌, not, List, [], ◌∷◌, length, min, Option, Some, None, refl, sym, ◌∙◌, ap, subst, arith, eqb-true, eq-eqb, ne_eqb, ◌⊎◌, inl, inr, ℤ, int_le, pos}
 use Rattle.std.specs.List.{list_all}
 use Rattle.std.specs.Option.{option_map, option_and_then, unwrap_or}
 use Rattle.std.proofs.lemmas.Bool.{and_parts, not-true}
 use Rattle.std.proofs.lemmas.Bool.Decides.{nat_tests}
 use Rattle.mq_model.specs.Record.{Record, Past, record_at, first}
 use Rattle.mq_model.specs.Names.{attributes}
-use Rattle.mq_model.specs.Descriptors.{called_queue, created, is_on}
-use Rattle.mq_model.specs.Messages.{is_in, with_place, is_accepted, is_send, queues, blocks_send, admits, blocked_sends, ended_sends, waiting_sends, waiting_receives, entered, admitted, handed, taken, taken_by, present, is_full, priority, priority_given, goes_first, least}
+use Rattle.mq_model.specs.Descriptors.{called_queue, is_on}
+use Rattle.mq_model.specs.Messages.{is_in, with_place, is_accepted, is_send, queues, blocks_send, admits, blocked_sends, ended_sends, waiting_sends, waiting_receives, entered, admitted, handed, taken, taken_by, present, priority, priority_given, goes_first, least}
 use Rattle.mq_model.specs.Legality.{Legal, IsLegalNext}
 use Rattle.mq_laws.specs.Laws.{message_given, withdrawn_wait, Has, IsTakenAt, LeavesInOrder}
-use Rattle.mq_model.proofs.Places.{split, clash, is_in-filter, find-in}
+use Rattle.mq_model.proofs.Places.{split, clash, is_in-filter, find-in, is_in-with_place}
 use Rattle.mq_model.proofs.Cases.{Says}
 use Rattle.mq_model.proofs.LegalReplies.{legal_says, got_says}
 use Rattle.mq_model.proofs.Prefixes.{record_at-below, length-first, record_at-first}
 use Rattle.mq_model.proofs.Frames.{record_at-older}
 use Rattle.mq_model.proofs.NamedWaits.{least-in, blocked-once}
-use Rattle.mq_model.proofs.Waiters.{admits-least, in-filter}
+use Rattle.mq_model.proofs.Waiters.{admits-least}
 use Rattle.mq_laws.proofs.Waiting.{waiting-empty}
 use Rattle.mq_model.proofs.Steps.{without, filter-both}
-use Rattle.mq_model.proofs.Presence.{with-more, present-admitted, present-below}
+use Rattle.mq_model.proofs.Presence.{present-admitted, present-below}
 use Rattle.mq_model.proofs.PresentFew.{attributes-within, within-positive_maxmsg, called-on}
 use Rattle.mq_laws.proofs.WaitCauses.{waiting-full, waiting-created, still-waits}
 use Rattle.mq_laws.proofs.LegalPlaces.{legal-at, has-record, has-here, has-cases, first-first}
@@ -29,10 +28,10 @@ use Rattle.mq_laws.proofs.EndedWaits.{has-admits, ended-below, send-ended, withd
 use Rattle.mq_laws.proofs.SentMessages.{IsSentTo, SentStatus, accepted-sent, admitted-sent, sent-status, is_sent}
 use Rattle.mq_laws.proofs.GoneQueues.{same-queue, sent-first}
 use Rattle.mq_model.specs.declared.entries.Call.{Call}
-use Rattle.mq_model.specs.declared.entries.Call.TheVariants.{MqOpen, MqClose, MqUnlink, MqSend, MqReceive, MqGetattr, MqSetattr, MqNotify, NextNotice, Collect, MqTimedSend, MqTimedReceive, Withdraw}
 use Rattle.mq_model.specs.declared.entries.Reply.{Reply}
-use Rattle.mq_model.specs.declared.entries.Reply.TheVariants.{Opened, Queued, Handed, Waits, Got, Collected, Attrs, Notice, Done, Refused, Withdrawn}
+use Rattle.mq_model.specs.declared.entries.Reply.TheVariants.{Queued, Handed, Waits, Got, Withdrawn}
 use Rattle.mq_model.specs.declared.owners.WaitKind.TheVariants.{Send}
+use Rattle.mq_model.proofs.HeldQueues.{in-filter}
 
 abbrev rec : ℕ → Call → Reply → List ℕ → Record
 rec p call reply payload = record { entry = record { process = p; call = call; reply = reply }; payload = payload }
@@ -52,37 +51,13 @@ least-le (x ∷ xs) m k e h = by (λ j f g. least-le xs j k f g) (least xs) refl
         nothing [] f there = cc
         nothing (y ∷ ys) f there = cc
     by rest (Some j) f g =
-        let same : min x j ≡ m = cc in
-        split (x == k)
-        (λ t. let at : x ≡ k = eqb-true _ _ t in omega (arith, at, same))
-        (λ n. let there : is_in xs k ≡ true = rw n at h in let le = rest j f there in omega (arith, le, same))
-
--- when a send is queued its queue has room, and when one is handed over a receive waits
-queued-room : (past : Past) (p q : ℕ) (call : Call) (n : Option ℕ) → Says past p call (Queued n) → is_on past (record { process = p; call = call; reply = Queued n }) q ≡ true → is_full past q ≡ false
-queued-room past p q (MqSend d prio len) n says on = let same : says.0.queue ≡ q = called-on past p d q says.0 says.1 on in rw same at says.3.1
-queued-room past p q (MqTimedSend d prio len until now) n says on = let same : says.0.queue ≡ q = called-on past p d q says.0 says.1 on in rw same at says.3.1
-queued-room past p q (MqClose d) n says on = absurd says.0
-queued-room past p q (MqReceive d room) n says on = absurd says.3
-queued-room past p q (MqTimedReceive d room until now) n says on = absurd says.3
-queued-room past p q NextNotice n says on = absurd (cc)
-queued-room past p q Collect n says on = absurd (cc)
-queued-room past p q (Withdraw now) n says on = absurd (cc)
-queued-room past p q call n says on = absurd says
+        grind (arith, nat_tests, eqb-true)
 
 handed-waits : (past : Past) (p q : ℕ) (call : Call) (w : ℕ) → Says past p call (Handed w) → is_on past (record { process = p; call = call; reply = Handed w }) q ≡ true → is_in (waiting_receives past q) w ≡ true
-handed-waits past p q (MqSend d prio len) w says on = let same : says.0.queue ≡ q = called-on past p d q says.0 says.1 on in let P : ℕ → Type 0 = λ k. is_in (waiting_receives past k) w ≡ true in subst P same (least-in (waiting_receives past says.0.queue) w says.3)
-handed-waits past p q (MqTimedSend d prio len until now) w says on = let same : says.0.queue ≡ q = called-on past p d q says.0 says.1 on in let P : ℕ → Type 0 = λ k. is_in (waiting_receives past k) w ≡ true in subst P same (least-in (waiting_receives past says.0.queue) w says.3)
-handed-waits past p q (MqClose d) w says on = absurd says.0
-handed-waits past p q (MqReceive d room) w says on = absurd says.3
-handed-waits past p q (MqTimedReceive d room until now) w says on = absurd says.3
-handed-waits past p q NextNotice w says on = absurd (cc)
-handed-waits past p q Collect w says on = absurd (cc)
-handed-waits past p q (Withdraw now) w says on = absurd (cc)
-handed-waits past p q call w says on = absurd says
+handed-waits past p q call w says on = grind (arith, called-on, least-in)
 
 not-zero : (a : ℤ) → int_le (pos 1) a ≡ true → int_le a (pos 0) ≡ true → ⊥
-not-zero (pos k) h g = let low : 1 ≤ k = grind (arith, nat_tests) in let high : k ≤ 0 = grind (arith, nat_tests) in omega (arith, low, high)
-not-zero (negsuc k) h g = let bad : false ≡ true = h in cc
+not-zero a h g = grind arith
 
 -- when a receive waits no send waits
 pub not-both : (past : Past) → Legal past → (q v w : ℕ) → is_in (waiting_receives past q) v ≡ true → is_in (waiting_sends past q) w ≡ true → ⊥
@@ -97,25 +72,14 @@ accepted-below past q n h = let x = accepted-sent past q n h in record_at-below 
 
 -- the sends that wait after a call that waits
 waits-more : (past : Past) (p : ℕ) (call : Call) (payload : List ℕ) (q w : ℕ) → is_in (waiting_sends (rec p call Waits payload ∷ past) q) w ≡ true → (length past ≡ w) ⊎ (is_in (waiting_sends past q) w ≡ true)
-waits-more past p call payload q w h =
-    let parts = is_in-filter (λ v. not (is_in (ended_sends past) v)) (blocked_sends (rec p call Waits payload ∷ past) q) w h in
-    split (is_send call && is_on past (record { process = p; call = call; reply = Waits }) q)
-    (λ t. let there : (length past == w || is_in (blocked_sends past q) w) ≡ true = rw t at parts.0 in
-    split (length past == w)
-    (λ e. inl (eqb-true _ _ e))
-    (λ n. let old : is_in (blocked_sends past q) w ≡ true = rw n at there in inr (in-filter (λ v. not (is_in (ended_sends past) v)) (blocked_sends past q) w old parts.1)))
-    (λ f. let old : is_in (blocked_sends past q) w ≡ true = rw f at parts.0 in inr (in-filter (λ v. not (is_in (ended_sends past) v)) (blocked_sends past q) w old parts.1))
+waits-more past p call payload q w h = grind (arith, is_in-filter, eqb-true, in-filter)
 
 -- accepted messages were sent before the sends that wait
 abbrev Older : Past → ℕ → Type 0
 Older past q = (n w : ℕ) → is_accepted past q n ≡ true → is_in (waiting_sends past q) w ≡ true → n < w
 
 older-queued : (past : Past) → Legal past → (p : ℕ) (call : Call) (k : Option ℕ) (payload : List ℕ) (q : ℕ) → Says past p call (Queued k) → Older past q → Older (rec p call (Queued k) payload ∷ past) q
-older-queued past legal p call k payload q says before n w h g =
-    split (is_send call && is_on past (record { process = p; call = call; reply = Queued k }) q)
-    (λ t. let room = queued-room past p q call k says (and_parts (is_send call) (is_on past (record { process = p; call = call; reply = Queued k }) q) t).1 in
-    absurd (clash (is_full past q) (waiting-full past legal q w g) room))
-    (λ f. let old : is_accepted past q n ≡ true = rw f at h in before n w old g)
+older-queued past legal p call k payload q says before n w h g = grind (arith, and_parts, clash, waiting-full)
 
 older-handed : (past : Past) → Legal past → (p : ℕ) (call : Call) (v : ℕ) (payload : List ℕ) (q : ℕ) → Says past p call (Handed v) → Older past q → Older (rec p call (Handed v) payload ∷ past) q
 older-handed past legal p call v payload q says before n w h g =
@@ -125,11 +89,7 @@ older-handed past legal p call v payload q says before n w h g =
     (λ f. let old : is_accepted past q n ≡ true = rw f at h in before n w old g)
 
 older-waits : (past : Past) (p : ℕ) (call : Call) (payload : List ℕ) (q : ℕ) → Older past q → Older (rec p call Waits payload ∷ past) q
-older-waits past p call payload q before n w h g = by (waits-more past p call payload q w g)
-  where
-    by : (length past ≡ w) ⊎ (is_in (waiting_sends past q) w ≡ true) → n < w
-    by (inl same) = let lt = accepted-below past q n h in omega (arith, lt, same)
-    by (inr old) = before n w h old
+older-waits past p call payload q before n w h g = grind (arith, waits-more, accepted-below)
 
 older-got : (past : Past) → Legal past → (p : ℕ) (call : Call) (m : ℕ) (a k : Option ℕ) (payload : List ℕ) (q : ℕ) → Says past p call (Got m a k) → Older past q → Older (rec p call (Got m a k) payload ∷ past) q
 older-got past legal p call m None k payload q says before n w h g = before n w h g
@@ -144,11 +104,7 @@ older-got past legal p call m (Some v) k payload q says before n w h g =
     let waits = least-in (waiting_sends past first.0) v (sym first.1) in
     let there = (is_in-filter (λ j. not (is_in (ended_sends past) j)) (blocked_sends past first.0) v waits).0 in
     let same : first.0 ≡ q = (blocked-once past Send Send first.0 q v there t).1 in
-    let P : ℕ → Type 0 = λ j. least (waiting_sends past j) ≡ Some v in
-    let le = least-le (waiting_sends past q) v w (subst P same (sym first.1)) parts.0 in
-    let ne : v ≢ w = λ x. clash (v == w) (eq-eqb v w x) (not-true _ parts.1) in
-    let here : v ≡ n = eqb-true _ _ e in
-    omega (arith, le, ne, here))
+    grind (arith, nat_tests, least-le, clash, eq-eqb, not-true, eqb-true))
     (λ f. let old : is_accepted past q n ≡ true = rw f at h' in before n w old parts.0))
     (λ f. let old : is_accepted past q n ≡ true = rw f at h in before n w old parts.0)
 
@@ -166,8 +122,7 @@ accepted-older (r ∷ past) legal q n w h g = older-next past legal.0 r.entry.pr
 
 -- a waiting send that was admitted entered its queue
 admits-queues : (call : Call) (reply : Reply) (k : ℕ) → admits reply ≡ Some k → (queues call reply ≡ false) × (blocks_send call reply ≡ false)
-admits-queues call (Got m a n) k e = (refl, refl)
-admits-queues call reply k e = absurd (cc)
+admits-queues call reply k e = grind arith
 
 admitted-enters : (past : Past) → Legal past → (q m k : ℕ) → is_in (blocked_sends past q) m ≡ true → Has admits past k m → is_in (admitted past q) m ≡ true
 admitted-enters [] legal q m k h e = absurd (cc)
@@ -176,7 +131,7 @@ admitted-enters (r ∷ past) legal q m k h e = has-cases admits past r k m e
     let quiet = admits-queues r.entry.call r.entry.reply m is in
     let blocked : is_in (blocked_sends past q) m ≡ true = rw quiet.1 at h in
     rw (quiet.0, is, blocked) (rw (eq-eqb m m refl) refl))
-    (λ old lt. with-more (entered past r.entry q) (admitted past q) m (admitted-enters past legal.0 q m k (older (ended-below past legal.0 k m (has-admits past k m old))) old))
+    (λ old lt. is_in-with_place (entered past r.entry q) (admitted past q) m (admitted-enters past legal.0 q m k (older (ended-below past legal.0 k m (has-admits past k m old))) old))
   where
     older : m < length past → is_in (blocked_sends past q) m ≡ true
     older lt = split (blocks_send r.entry.call r.entry.reply && is_on past r.entry q)
@@ -207,7 +162,7 @@ entered-unless past legal q m x kept waits = by x.r.entry.reply x.reply (sent-st
         (λ f. absurd (waits (in-filter (λ w. not (is_in (ended_sends past) w)) (blocked_sends past q) m (z.waits refl) (rw f refl))))
     by reply s z = absurd (let bad : false ≡ true = s in cc)
 
-all-in : (t : ℕ → Bool) (xs : List ℕ) (m : ℕ) → list_all t xs ≡ true → is_in xs m ≡ true → t m ≡ true
+pub all-in : (t : ℕ → Bool) (xs : List ℕ) (m : ℕ) → list_all t xs ≡ true → is_in xs m ≡ true → t m ≡ true
 all-in t [] m all h = absurd (cc)
 all-in t (x ∷ xs) m all h =
     let parts = and_parts (t x) (list_all t xs) all in
@@ -216,10 +171,7 @@ all-in t (x ∷ xs) m all h =
     (λ f. let rest : is_in xs m ≡ true = rw f at h in all-in t xs m parts.1 rest)
 
 not-first : (past : Past) (m n : ℕ) → m < n → priority past m ≡ priority past n → goes_first past n m ≡ true → ⊥
-not-first past m n lt same e = later (priority past m) (priority past n) lt same e
-  where
-    later : (a b : ℕ) → m < n → a ≡ b → (nat_lt a b || (b == a && nat_le n m)) ≡ true → ⊥
-    later a b lt same e = grind (arith, nat_tests)
+not-first past m n lt same e = grind arith
 
 -- a message that was taken was taken by an entry
 pub taken-at : (past : Past) (m : ℕ) → is_in (taken past) m ≡ true → (j : ℕ) × (j < length past) × IsTakenAt past m j
@@ -241,13 +193,7 @@ priority-first : (past : Past) (k m : ℕ) → m < k → k ≤ length past → p
 priority-first past k m lt le = ap (λ o. unwrap_or (option_map (λ (x : Record). priority_given x.entry.call) o) 0) (record_at-first past k m lt le)
 
 sent-back : (past : Past) (k q m : ℕ) → IsSentTo past q m → m < k → k ≤ length past → IsSentTo (first k past) q m
-sent-back past k q m x lt le = record {
-  r = x.r;
-  at = record_at-first past k m lt le ∙ x.at;
-  on = ap (λ b. called_queue b x.r.entry.process x.r.entry.call) (first-first past m k (omega (arith, lt))) ∙ x.on;
-  send = x.send;
-  reply = x.reply;
-}
+sent-back past k q m x lt le = grind (arith, record_at-first, first-first)
 
 -- before a message is taken, each earlier one of its queue and priority was taken
 taken-first : (past : Past) → Legal past → (r : Record) → IsLegalNext past r → (q m n : ℕ) → IsSentTo past q m → IsKept past m → m < n → (n < length past → priority past m ≡ priority past n) →
@@ -282,9 +228,7 @@ taken-first past legal r next q m n sent kept lt prio (inr x) =
 
 -- the reply that takes a message: that of a receive, or that of the send itself
 taken-by-reply : (k m : ℕ) (reply : Reply) → taken_by k reply ≡ Some m → (message_given reply ≡ Some m) ⊎ ((k ≡ m) × ((w : ℕ) × (reply ≡ Handed w)))
-taken-by-reply k m (Got j a n) e = inl e
-taken-by-reply k m (Handed w) e = let same : k ≡ m = cc in inr (same, (w, refl))
-taken-by-reply k m reply e = absurd (cc)
+taken-by-reply k m reply e = grind arith
 
 back-taken : (past : Past) (k m j : ℕ) → j < k → k ≤ length past → IsTakenAt (first k past) m j → IsTakenAt past m j
 back-taken past k m j lt le e = ap (λ (o : Option Record). option_and_then (taken_by j) (option_map (λ (s : Record). s.entry.reply) o)) (sym (record_at-first past k j lt le)) ∙ e

@@ -1,18 +1,19 @@
 -- The sends of the messages of a queue.
+use Rattle.std.proofs.lemmas.Bool.Decides.{nat_tests}
 use Rattle.std.proofs.Common.{◌≡◌, ℕ, ◌==◌, Bool, true, false, ◌&&◌, ◌||◌, [], ◌∷◌, length, Option, Some, None, refl, sym, ◌∙◌, ap, subst, arith, eqb-true, eq-eqb}
 use Rattle.std.proofs.lemmas.Bool.{and_parts}
 use Rattle.mq_model.specs.Record.{Record, Past, record_at, first}
 use Rattle.mq_model.specs.Descriptors.{called_queue, is_on}
 use Rattle.mq_model.specs.Messages.{is_in, with_place, if_in, is_accepted, is_send, queues, hands_over, blocks_send, blocked_sends, admits, handed, admitted, entered, taken, taken_by}
-use Rattle.mq_model.proofs.Places.{split}
+use Rattle.mq_model.proofs.Places.{split, is_in-with_place}
 use Rattle.mq_model.proofs.Prefixes.{record_at-below, first-all}
 use Rattle.mq_model.proofs.Frames.{record_at-older}
 use Rattle.mq_model.proofs.Steps.{if_in-inside}
-use Rattle.mq_model.proofs.Presence.{place-is, with-more}
+use Rattle.mq_model.proofs.Presence.{place-is}
 use Rattle.mq_laws.proofs.LegalPlaces.{first-older}
 use Rattle.mq_model.specs.declared.entries.Call.{Call}
 use Rattle.mq_model.specs.declared.entries.Reply.{Reply}
-use Rattle.mq_model.specs.declared.entries.Reply.TheVariants.{Opened, Queued, Handed, Waits, Got, Collected, Attrs, Notice, Done, Refused, Withdrawn}
+use Rattle.mq_model.specs.declared.entries.Reply.TheVariants.{Queued, Handed, Waits}
 
 -- replies of a send whose message is accepted at once or later
 abbrev pub is_sent : Reply → Bool
@@ -30,37 +31,16 @@ pub record IsSentTo (past : Past) (q m : ℕ) : Type 0 where
   pub reply : is_sent r.entry.reply ≡ true
 
 pub sent-older : (past : Past) (r : Record) (q m : ℕ) → IsSentTo past q m → IsSentTo (r ∷ past) q m
-sent-older past r q m x =
-    let lt = record_at-below past m x.r x.at in
-    record {
-      r = x.r;
-      at = record_at-older past r m lt ∙ x.at;
-      on = ap (λ b. called_queue b x.r.entry.process x.r.entry.call) (first-older past r m (omega (arith, lt))) ∙ x.on;
-      send = x.send;
-      reply = x.reply;
-    }
+sent-older past r q m x = grind (arith, record_at-below, record_at-older, first-older)
 
 sent-newest : (past : Past) (r : Record) (q : ℕ) → is_on past r.entry q ≡ true → is_send r.entry.call ≡ true → is_sent r.entry.reply ≡ true → IsSentTo (r ∷ past) q (length past)
-sent-newest past r q on send reply = record {
-  r = r;
-  at = rw (eq-eqb (length past) (length past) refl) refl;
-  on = ap (λ b. called_queue b r.entry.process r.entry.call) (first-older past r (length past) (omega arith) ∙ first-all past (length past) refl) ∙ place-is (called_queue past r.entry.process r.entry.call) q on;
-  send = send;
-  reply = reply;
-}
-
--- the replies by which the message of a send enters, is handed over or waits
-queues-sent : (call : Call) (reply : Reply) → queues call reply ≡ true → (is_send call ≡ true) × (is_sent reply ≡ true)
-queues-sent call (Queued n) e = (e, refl)
-queues-sent call reply e = absurd (let bad : false ≡ true = e in cc)
+sent-newest past r q on send reply = grind (arith, eq-eqb, first-older, first-all, place-is)
 
 blocks-sent : (call : Call) (reply : Reply) → blocks_send call reply ≡ true → (is_send call ≡ true) × (is_sent reply ≡ true)
-blocks-sent call Waits e = (e, refl)
-blocks-sent call reply e = absurd (let bad : false ≡ true = e in cc)
+blocks-sent call reply e = grind arith
 
 hands-sent : (here : ℕ) (call : Call) (reply : Reply) → hands_over call reply ≡ true → (is_send call ≡ true) × (is_sent reply ≡ true) × (taken_by here reply ≡ Some here)
-hands-sent here call (Handed w) e = (e, refl, refl)
-hands-sent here call reply e = absurd (let bad : false ≡ true = e in cc)
+hands-sent here call reply e = grind arith
 
 pub blocked-sent : (past : Past) (q m : ℕ) → is_in (blocked_sends past q) m ≡ true → IsSentTo past q m
 blocked-sent [] q m h = absurd (cc)
@@ -79,10 +59,7 @@ admitted-sent (r ∷ past) q m h = by (λ old. admitted-sent past q m old) (ente
   where
     here : entered past r.entry q ≡ Some m → IsSentTo (r ∷ past) q m
     here e = split (queues r.entry.call r.entry.reply && is_on past r.entry q)
-        (λ t. let is : Some (length past) ≡ Some m = rw t at e in let same : length past ≡ m = cc in
-        let parts = and_parts (queues r.entry.call r.entry.reply) (is_on past r.entry q) t in
-        let sent = queues-sent r.entry.call r.entry.reply parts.0 in
-        subst (IsSentTo (r ∷ past) q) same (sent-newest past r q parts.1 sent.0 sent.1))
+        (λ t. grind (arith, nat_tests, and_parts, sent-newest))
         (λ f. let is : if_in (blocked_sends past q) (admits r.entry.reply) ≡ Some m = rw f at e in
         sent-older past r q m (blocked-sent past q m (if_in-inside (blocked_sends past q) (admits r.entry.reply) m is).0))
 
@@ -115,8 +92,8 @@ handed-taken (r ∷ past) q m h = split (hands_over r.entry.call r.entry.reply &
     let takes = (hands-sent (length past) r.entry.call r.entry.reply (and_parts (hands_over r.entry.call r.entry.reply) (is_on past r.entry q) t).0).2 in
     split (length past == m)
     (λ e. rw takes (rw e refl))
-    (λ n. with-more (taken_by (length past) r.entry.reply) (taken past) m (handed-taken past q m (rw n at new))))
-    (λ f. with-more (taken_by (length past) r.entry.reply) (taken past) m (handed-taken past q m (rw f at h)))
+    (λ n. is_in-with_place (taken_by (length past) r.entry.reply) (taken past) m (handed-taken past q m (rw n at new))))
+    (λ f. is_in-with_place (taken_by (length past) r.entry.reply) (taken past) m (handed-taken past q m (rw f at h)))
 
 -- the cases of a send that did not fail
 pub record SentStatus (past : Past) (q m : ℕ) (reply : Reply) : Type 0 where
@@ -128,24 +105,12 @@ pub sent-status : (past : Past) (q m : ℕ) (x : IsSentTo past q m) → SentStat
 sent-status [] q m x = absurd (let bad : None ≡ Some x.r = x.at in cc)
 sent-status (s ∷ past) q m x = split (m == length past)
     (λ t.
-    let here : m ≡ length past = eqb-true _ _ t in
-    let same : Some s ≡ Some x.r = rw t at x.at in
-    let is : s ≡ x.r = cc in
-    let before : first m (s ∷ past) ≡ past = first-older past s m (omega (arith, here)) ∙ first-all past m here in
-    let on : called_queue past s.entry.process s.entry.call ≡ Some q = ap (λ b. called_queue b s.entry.process s.entry.call) (sym before) ∙ ap (λ (r : Record). called_queue (first m (s ∷ past)) r.entry.process r.entry.call) is ∙ x.on in
-    let send : is_send s.entry.call ≡ true = ap (λ (r : Record). is_send r.entry.call) is ∙ x.send in
-    let P : ℕ → Record → Type 0 = λ k r. SentStatus (s ∷ past) q k r.entry.reply in
-    subst (λ k. P k x.r) (sym here) (subst (P (length past)) is (newest on send)))
+    grind (arith, nat_tests, eqb-true, first-older, first-all))
     (λ f.
     let old : record_at past m ≡ Some x.r = rw f at x.at in
     let lt = record_at-below past m x.r old in
     let y : IsSentTo past q m = record { r = x.r; at = old; on = ap (λ b. called_queue b x.r.entry.process x.r.entry.call) (sym (first-older past s m (omega (arith, lt)))) ∙ x.on; send = x.send; reply = x.reply } in
-    let z = sent-status past q m y in
-    record {
-      queued = λ n e. with-more (entered past s.entry q) (admitted past q) m (z.queued n e);
-      handed = λ w e. with-more (taken_by (length past) s.entry.reply) (taken past) m (z.handed w e);
-      waits = λ e. blocked-more (z.waits e);
-    })
+    grind (arith, nat_tests, is_in-with_place, sent-status past q m y))
   where
     blocked-more : is_in (blocked_sends past q) m ≡ true → is_in (blocked_sends (s ∷ past) q) m ≡ true
     blocked-more h = split (blocks_send s.entry.call s.entry.reply && is_on past s.entry q)

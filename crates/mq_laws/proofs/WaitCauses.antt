@@ -1,12 +1,9 @@
 -- When a send waits, its queue is full.
-use Rattle.std.proofs.Common.{◌≡◌, ℕ, suc, ◌<◌, ◌==◌, Bool, true, false, ◌&&◌, not, List, [], ◌∷◌, length, Option, Some, None, refl, sym, ◌∙◌, ap, subst, arith, eqb-true, eq-eqb, ne_eqb}
-use Rattle.std.specs.Prelude.{ℤ, int_le, pos, negsuc}
+use Rattle.std.proofs.Common.{◌≡◌, ℕ, suc, ◌<◌, ◌==◌, Bool, true, false, ◌&&◌, not, List, [], ◌∷◌, length, Option, Some, None, refl, sym, ◌∙◌, ap, subst, arith, eqb-true, eq-eqb, ne_eqb, rules, ℤ, int_le, pos}
 use Rattle.std.specs.List.{filter}
 use Rattle.std.specs.Option.{option_map}
 use Rattle.std.proofs.lemmas.Bool.{eqb-false, and_parts, false_from_ne_true}
-use Rattle.std.proofs.lemmas.Bool.Decides.{nat_tests}
 use Rattle.mq_model.specs.Record.{Record, Past}
-use Rattle.mq_model.specs.Names.{attributes}
 use Rattle.mq_model.specs.Descriptors.{held, called_queue, created, is_place, is_on}
 use Rattle.mq_model.specs.Messages.{is_in, with_place, if_in, queues, admits, is_send, best, blocked_sends, ended_sends, waiting_sends, entered, admitted, taken, present, is_full, least}
 use Rattle.mq_model.specs.Legality.{Legal, IsLegalNext}
@@ -23,7 +20,7 @@ use Rattle.mq_model.proofs.Frames.{created-below, attributes-older}
 use Rattle.mq_model.proofs.Waiters.{admits-least}
 use Rattle.mq_model.specs.declared.entries.Description.{Description}
 use Rattle.mq_model.specs.declared.entries.Call.{Call}
-use Rattle.mq_model.specs.declared.entries.Call.TheVariants.{MqOpen, MqClose, MqUnlink, MqSend, MqReceive, MqGetattr, MqSetattr, MqNotify, NextNotice, Collect, MqTimedSend, MqTimedReceive, Withdraw}
+use Rattle.mq_model.specs.declared.entries.Call.TheVariants.{MqClose, MqSend, MqReceive, NextNotice, Collect, MqTimedSend, MqTimedReceive, Withdraw}
 use Rattle.mq_model.specs.declared.entries.Reply.{Reply}
 use Rattle.mq_model.specs.declared.entries.Reply.TheVariants.{Opened, Queued, Handed, Waits, Got, Collected, Attrs, Notice, Done, Refused, Withdrawn}
 
@@ -44,8 +41,7 @@ distinct-filter t (x ∷ xs) e =
     split (t x) (λ y. rw (y, out) (distinct-filter t xs parts.1)) (λ n. rw n (distinct-filter t xs parts.1))
 
 distinct-with : (o : Option ℕ) (xs : List ℕ) → is_distinct xs ≡ true → ((k : ℕ) → o ≡ Some k → is_in xs k ≡ false) → is_distinct (with_place o xs) ≡ true
-distinct-with None xs e out = e
-distinct-with (Some k) xs e out = rw (out k refl) e
+distinct-with o xs e out = grind arith
 
 -- the message that enters was in no queue before
 entered-fresh : (past : Past) → Legal past → (r : Record) → IsLegalNext past r → (q k : ℕ) → entered past r.entry q ≡ Some k → is_in (admitted past q) k ≡ false
@@ -91,18 +87,14 @@ none-waits past q full room w h = clash (is_full past q) (full w h) room
 
 -- the queue of a waiting send was created
 pub waiting-created : (past : Past) → Legal past → (q w : ℕ) → is_in (waiting_sends past q) w ≡ true → is_in (created past) q ≡ true
-waiting-created past legal q w h =
-    let blocked = (is_in-filter (λ w. not (is_in (ended_sends past) w)) (blocked_sends past q) w h).0 in
-    sent-created past legal w q (blocked-on past q w blocked).to
+waiting-created past legal q w h = grind (arith, is_in-filter, sent-created, blocked-on)
 
 same-full : (past : Past) (r : Record) (q : ℕ) → q < length past → length (present (r ∷ past) q) ≡ length (present past q) → is_full past q ≡ true → is_full (r ∷ past) q ≡ true
 same-full past r q lt same full = rw (attributes-older past r q lt, same) full
 
 -- a record after which the same sends wait and equally many messages are present
 full-same : (past : Past) → Legal past → (r : Record) (q : ℕ) → FullWhereWaiting past q → waiting_sends (r ∷ past) q ≡ waiting_sends past q → length (present (r ∷ past) q) ≡ length (present past q) → FullWhereWaiting (r ∷ past) q
-full-same past legal r q before waits same w h =
-    let old : is_in (waiting_sends past q) w ≡ true = rw waits at h in
-    same-full past r q (created-below past q (waiting-created past legal q w old)) same (before w old)
+full-same past legal r q before waits same w h = grind (arith, same-full, created-below, waiting-created)
 
 full-blocked : (past : Past) → Legal past → (p d : ℕ) (call : Call) (h : Description) (payload : List ℕ) (q : ℕ) → is_send call ≡ true → called_queue past p call ≡ option_map (λ h. h.queue) (held past p d) → held past p d ≡ Some h → is_full past h.queue ≡ true → FullWhereWaiting past q → FullWhereWaiting (rec p call Waits payload ∷ past) q
 full-blocked past legal p d call h payload q sends calls is full before w waits =
@@ -133,15 +125,7 @@ full-sent past legal p d call h n payload q calls is free before w waits =
     (λ off. full-same past legal (rec p call (Queued n) payload) q before refl (ap length (present-queued_elsewhere past p call q n payload off)) w waits)
 
 full-queued : (past : Past) → Legal past → (p : ℕ) (call : Call) (n : Option ℕ) (payload : List ℕ) (q : ℕ) → Says past p call (Queued n) → FullWhereWaiting past q → FullWhereWaiting (rec p call (Queued n) payload ∷ past) q
-full-queued past legal p (MqSend d prio len) n payload q says before w h = full-sent past legal p d (MqSend d prio len) says.0 n payload q refl says.1 says.3.1 before w h
-full-queued past legal p (MqTimedSend d prio len until now) n payload q says before w h = full-sent past legal p d (MqTimedSend d prio len until now) says.0 n payload q refl says.1 says.3.1 before w h
-full-queued past legal p (MqClose d) n payload q says before w h = absurd says.0
-full-queued past legal p (MqReceive d room) n payload q says before w h = absurd says.3
-full-queued past legal p (MqTimedReceive d room until now) n payload q says before w h = absurd says.3
-full-queued past legal p NextNotice n payload q says before w h = absurd (cc)
-full-queued past legal p Collect n payload q says before w h = absurd (cc)
-full-queued past legal p (Withdraw now) n payload q says before w h = absurd (cc)
-full-queued past legal p call n payload q says before w h = absurd says
+full-queued past legal p call n payload q says before w h = grind (arith, full-sent)
 
 -- the sends that wait after a reply that ends one waited before it
 pub still-waits : (past : Past) (v q w : ℕ) → is_in (filter (λ k. not (is_in (v ∷ ended_sends past) k)) (blocked_sends past q)) w ≡ true → is_in (waiting_sends past q) w ≡ true
@@ -183,15 +167,7 @@ full-taken past legal p call m a n payload q k gives admits before w h =
     here None first some = absurd (let bad : None ≡ Some some.0 = some.1 in cc)
 
 full-got : (past : Past) → Legal past → (p : ℕ) (call : Call) (m : ℕ) (a n : Option ℕ) (payload : List ℕ) (q : ℕ) → Says past p call (Got m a n) → FullWhereWaiting past q → FullWhereWaiting (rec p call (Got m a n) payload ∷ past) q
-full-got past legal p (MqReceive d room) m a n payload q says before w h = full-taken past legal p (MqReceive d room) m a n payload q says.0.queue says.3.0 says.3.1 before w h
-full-got past legal p (MqTimedReceive d room until now) m a n payload q says before w h = full-taken past legal p (MqTimedReceive d room until now) m a n payload q says.0.queue says.3.0 says.3.1 before w h
-full-got past legal p (MqClose d) m a n payload q says before w h = absurd says.0
-full-got past legal p (MqSend d prio len) m a n payload q says before w h = absurd says.3
-full-got past legal p (MqTimedSend d prio len until now) m a n payload q says before w h = absurd says.3
-full-got past legal p NextNotice m a n payload q says before w h = absurd (cc)
-full-got past legal p Collect m a n payload q says before w h = absurd (cc)
-full-got past legal p (Withdraw now) m a n payload q says before w h = absurd (cc)
-full-got past legal p call m a n payload q says before w h = absurd says
+full-got past legal p call m a n payload q says before w h = grind (arith, full-taken)
 
 full-next : (past : Past) → Legal past → (p : ℕ) (call : Call) (reply : Reply) (payload : List ℕ) (q : ℕ) → Says past p call reply → FullWhereWaiting past q → FullWhereWaiting (rec p call reply payload ∷ past) q
 full-next past legal p call (Queued n) payload q says before = full-queued past legal p call n payload q says before
@@ -213,12 +189,8 @@ waiting-full [] legal q w h = absurd (cc)
 waiting-full (r ∷ past) legal q w h = full-next past legal.0 r.entry.process r.entry.call r.entry.reply r.payload q (legal_says past r legal.1) (λ v e. waiting-full past legal.0 q v e) w h
 
 both-ways : (a : ℤ) (n : ℕ) → int_le (pos n) a ≡ true → int_le a (pos n) ≡ true → pos n ≡ a
-both-ways (pos k) n h g = let same : n ≡ k = grind (arith, nat_tests) in ap pos same
-both-ways (negsuc k) n h g = absurd (let bad : false ≡ true = h in cc)
+both-ways a n h g = grind arith
 
 -- when a send waits, the queue holds mq_maxmsg messages
 pub waits-for-cause : (past : Past) → Legal past → WaitsForCause past
-waits-for-cause past legal = record {
-  receives = λ q w h. waiting-empty past legal q w h;
-  sends = λ q w h. both-ways (attributes past q).maxmsg (length (present past q)) (present-few past legal q (waiting-created past legal q w h)) (waiting-full past legal q w h);
-}
+waits-for-cause past legal = search (rules, waiting-empty, both-ways, present-few, waiting-created, waiting-full)

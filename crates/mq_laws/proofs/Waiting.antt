@@ -1,5 +1,6 @@
 -- When a receive waits, its queue is empty.
-use Rattle.std.proofs.Common.{◌≡◌, ℕ, ◌==◌, true, false, ◌&&◌, ◌||◌, not, List, [], ◌∷◌, length, Option, Some, None, refl, sym, ◌∙◌, ap, subst, min, arith, eq-eqb, eqb-true, ne_eqb}
+use Rattle.std.proofs.lemmas.Bool.Decides.{nat_tests}
+use Rattle.std.proofs.Common.{◌≡◌, ℕ, ◌==◌, true, false, ◌&&◌, ◌||◌, not, List, [], ◌∷◌, length, Option, Some, None, refl, sym, ◌∙◌, ap, subst, arith, eqb-true, ne_eqb}
 use Rattle.std.specs.List.{filter}
 use Rattle.std.specs.Option.{option_map}
 use Rattle.std.proofs.lemmas.Bool.{eqb-false, and_parts}
@@ -15,31 +16,17 @@ use Rattle.mq_model.proofs.Steps.{without, filter-both, blocked_sends-below, if_
 use Rattle.mq_model.proofs.PresentFew.{called-on}
 use Rattle.mq_model.specs.declared.entries.Description.{Description}
 use Rattle.mq_model.specs.declared.entries.Call.{Call}
-use Rattle.mq_model.specs.declared.entries.Call.TheVariants.{MqOpen, MqClose, MqUnlink, MqSend, MqReceive, MqGetattr, MqSetattr, MqNotify, NextNotice, Collect, MqTimedSend, MqTimedReceive, Withdraw}
+use Rattle.mq_model.specs.declared.entries.Call.TheVariants.{MqClose, MqSend, MqReceive, NextNotice, Collect, MqTimedSend, MqTimedReceive, Withdraw}
 use Rattle.mq_model.specs.declared.entries.Reply.{Reply}
-use Rattle.mq_model.specs.declared.entries.Reply.TheVariants.{Opened, Queued, Handed, Waits, Got, Collected, Attrs, Notice, Done, Refused, Withdrawn}
+use Rattle.mq_model.specs.declared.entries.Reply.TheVariants.{Queued, Handed, Waits, Got, Withdrawn}
+use Rattle.mq_model.proofs.NamedWaits.{least-in}
 
 least-none : (xs : List ℕ) → least xs ≡ None → xs ≡ []
 least-none [] e = refl
 least-none (x ∷ xs) e = absurd (cc)
 
-not-in-nil : (xs : List ℕ) (m : ℕ) → xs ≡ [] → is_in xs m ≡ true → ⊥
-not-in-nil [] m e h = absurd (cc)
-not-in-nil (x ∷ xs) m e h = absurd (cc)
-
-least-in : (xs : List ℕ) (m : ℕ) → least xs ≡ Some m → is_in xs m ≡ true
-least-in [] m e = absurd (cc)
-least-in (x ∷ xs) m e = step x xs (least xs) refl m e (λ k f. least-in xs k f)
-  where
-    step : (x : ℕ) (xs : List ℕ) (o : Option ℕ) → least xs ≡ o → (m : ℕ) → least (x ∷ xs) ≡ Some m → ((k : ℕ) → least xs ≡ Some k → is_in xs k ≡ true) → is_in (x ∷ xs) m ≡ true
-    step x xs None f m e rest = let g : Some (min x x) ≡ Some m = rw f at e in let same : min x x ≡ m = cc in let here : x ≡ m = omega arith in rw (eq-eqb x m here) refl
-    step x xs (Some k) f m e rest =
-        let g : Some (min x k) ≡ Some m = rw f at e in let same : min x k ≡ m = cc in
-        split (x == m) (λ here. rw here refl) (λ other. let ne : x ≡ m → ⊥ = eqb-false _ _ other in let old : k ≡ m = omega arith in let inside : is_in xs m ≡ true = rw old at (rest k f) in rw (other, inside) refl)
-
 same_queue : (o : Option ℕ) (q k : ℕ) → is_place q o ≡ true → is_place k o ≡ true → q ≡ k
-same_queue None q k h g = absurd (cc)
-same_queue (Some j) q k h g = let a : j ≡ q = eqb-true _ _ h in let b : j ≡ k = eqb-true _ _ g in cc
+same_queue o q k h g = grind (arith, eqb-true)
 
 -- a waiting send is to one queue
 blocked-one_queue : (past : Past) (q k w : ℕ) → is_in (blocked_sends past q) w ≡ true → is_in (blocked_sends past k) w ≡ true → q ≡ k
@@ -71,23 +58,10 @@ abbrev IsEmptyWhereWaiting : Past → ℕ → ℕ → Type 0
 IsEmptyWhereWaiting past q w = is_in (waiting_receives past q) w ≡ true → present past q ≡ []
 
 empty-sent : (past : Past) (p : ℕ) (call : Call) (d : ℕ) (h : Description) (n : Option ℕ) (payload : List ℕ) (q w : ℕ) → called_queue past p call ≡ option_map (λ h. h.queue) (held past p d) → held past p d ≡ Some h → least (waiting_receives past h.queue) ≡ None → IsEmptyWhereWaiting past q w → IsEmptyWhereWaiting (rec p call (Queued n) payload ∷ past) q w
-empty-sent past p call d h n payload q w calls is none before waits =
-    split (is_place q (called_queue past p call))
-    (λ on. let same : h.queue ≡ q = called-on past p d q h is (rw (← calls) on) in
-    let P : ℕ → Type 0 = λ k. waiting_receives past k ≡ [] in
-    absurd (not-in-nil (waiting_receives past q) w (subst P same (least-none _ none)) waits))
-    (λ off. present-queued_elsewhere past p call q n payload off ∙ before waits)
+empty-sent past p call d h n payload q w calls is none before waits = grind (arith, called-on, least-none, present-queued_elsewhere)
 
 empty-queued : (past : Past) (p : ℕ) (call : Call) (n : Option ℕ) (payload : List ℕ) (q w : ℕ) → Says past p call (Queued n) → IsEmptyWhereWaiting past q w → IsEmptyWhereWaiting (rec p call (Queued n) payload ∷ past) q w
-empty-queued past p (MqSend d prio len) n payload q w says before h = empty-sent past p (MqSend d prio len) d says.0 n payload q w refl says.1 says.3.0 before h
-empty-queued past p (MqTimedSend d prio len until now) n payload q w says before h = empty-sent past p (MqTimedSend d prio len until now) d says.0 n payload q w refl says.1 says.3.0 before h
-empty-queued past p (MqClose d) n payload q w says before h = absurd says.0
-empty-queued past p (MqReceive d room) n payload q w says before h = absurd says.3
-empty-queued past p (MqTimedReceive d room until now) n payload q w says before h = absurd says.3
-empty-queued past p NextNotice n payload q w says before h = absurd (cc)
-empty-queued past p Collect n payload q w says before h = absurd (cc)
-empty-queued past p (Withdraw now) n payload q w says before h = absurd (cc)
-empty-queued past p call n payload q w says before h = absurd says
+empty-queued past p call n payload q w says before h = grind (arith, empty-sent)
 
 -- the waits that did not end, after a reply that ends one
 empty-ended : (past : Past) (w0 q w : ℕ) → IsEmptyWhereWaiting past q w → is_in (filter (λ v. not (is_in (w0 ∷ ended_receives past) v)) (blocked_receives past q)) w ≡ true → present past q ≡ []
@@ -126,21 +100,10 @@ empty-taken past p call m a n payload q k gives admits empty = by (if_in (blocke
         let inside = if_in-inside (blocked_sends past q) a w1 e in
         let first : least (waiting_sends past k) ≡ Some w1 = sym admits ∙ inside.1 in
         let there = (is_in-filter (λ k. not (is_in (ended_sends past) k)) (blocked_sends past k) w1 (least-in _ w1 first)).0 in
-        let same : k ≡ q = blocked-one_queue past k q w1 there inside.0 in
-        let P : ℕ → Type 0 = λ k. is_in (present past k) m ≡ true in
-        let held : is_in (present past q) m ≡ true = subst P same (find-in _ (present past k) m gives).0 in
-        absurd (not-in-nil (present past q) m empty held)
+        grind (arith, nat_tests, blocked-one_queue, find-in)
 
 empty-got : (past : Past) (p : ℕ) (call : Call) (m : ℕ) (a n : Option ℕ) (payload : List ℕ) (q w : ℕ) → Says past p call (Got m a n) → IsEmptyWhereWaiting past q w → IsEmptyWhereWaiting (rec p call (Got m a n) payload ∷ past) q w
-empty-got past p (MqReceive d room) m a n payload q w says before h = empty-taken past p (MqReceive d room) m a n payload q says.0.queue says.3.0 says.3.1 (before h)
-empty-got past p (MqTimedReceive d room until now) m a n payload q w says before h = empty-taken past p (MqTimedReceive d room until now) m a n payload q says.0.queue says.3.0 says.3.1 (before h)
-empty-got past p (MqClose d) m a n payload q w says before h = absurd says.0
-empty-got past p (MqSend d prio len) m a n payload q w says before h = absurd says.3
-empty-got past p (MqTimedSend d prio len until now) m a n payload q w says before h = absurd says.3
-empty-got past p NextNotice m a n payload q w says before h = absurd (cc)
-empty-got past p Collect m a n payload q w says before h = absurd (cc)
-empty-got past p (Withdraw now) m a n payload q w says before h = absurd (cc)
-empty-got past p call m a n payload q w says before h = absurd says
+empty-got past p call m a n payload q w says before h = grind (arith, empty-taken)
 
 empty-more : (past : Past) (p : ℕ) (call : Call) (reply : Reply) (payload : List ℕ) (q w : ℕ) → Says past p call reply → IsEmptyWhereWaiting past q w → IsEmptyWhereWaiting (rec p call reply payload ∷ past) q w
 empty-more past p call (Withdrawn w0) payload q w says before h = empty-ended past w0 q w before h

@@ -1,7 +1,6 @@
 -- A worked journal with deadlines, latest entry first: it is legal, by computation. Withdrawals
 -- that are not legal follow.
-use Rattle.std.proofs.Common.{ℕ, [], ◌∷◌, refl, true, false, Some, None}
-use Rattle.std.specs.Prelude.{pos, negsuc, codes}
+use Rattle.std.proofs.Common.{ℕ, [], ◌∷◌, refl, true, false, Some, None, pos, negsuc, codes}
 use Rattle.mq_model.specs.Record.{Past}
 use Rattle.mq_model.specs.Descriptors.{descriptor_numbers}
 use Rattle.mq_model.specs.Legality.{Legal, IsLegalNext}

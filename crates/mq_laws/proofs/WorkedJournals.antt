@@ -1,6 +1,5 @@
 -- Worked journals, latest entry first: each is legal, by computation.
-use Rattle.std.proofs.Common.{ℕ, ℤ, List, [], ◌∷◌, refl, Bool, true, false, Some, None}
-use Rattle.std.specs.Prelude.{◌≡◌, ◌&&◌, nat_le, pos, negsuc, codes, replicate}
+use Rattle.std.proofs.Common.{ℕ, ℤ, List, [], ◌∷◌, refl, Bool, true, false, Some, None, arith, ◌≡◌, ◌&&◌, nat_le, pos, negsuc, codes, replicate}
 use Rattle.mq_model.specs.Limits.{most_processes}
 use Rattle.mq_model.specs.Record.{Record, Past}
 use Rattle.mq_model.specs.Descriptors.{descriptor_numbers}
@@ -47,8 +46,7 @@ due_replies [] = []
 due_replies (r ∷ past) = reply_to past r.entry.process r.entry.call r.payload ∷ due_replies past
 
 all-of-five : (a b c d e : Bool) → (a && b && c && d && e) ≡ true → (a ≡ true) × ((b && c) ≡ true) × (d ≡ true) × (e ≡ true)
-all-of-five true true true true true h = (refl, refl, refl, refl)
-all-of-five a b c d e h = absurd (cc)
+all-of-five a b c d e h = grind arith
 
 pub legal-by-replies : (past : Past) → are_made past ≡ true → replies past ≡ due_replies past → Legal past
 legal-by-replies [] made due = tt

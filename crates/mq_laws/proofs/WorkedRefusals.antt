@@ -1,6 +1,5 @@
 -- Worked counterexamples: none of these records may follow these journals, by computation.
-use Rattle.std.proofs.Common.{[], ◌∷◌, true, false, Some, None}
-use Rattle.std.specs.Prelude.{pos, codes, replicate}
+use Rattle.std.proofs.Common.{[], ◌∷◌, true, false, Some, None, pos, codes, replicate}
 use Rattle.mq_model.specs.Record.{Past}
 use Rattle.mq_model.specs.Descriptors.{descriptor_numbers}
 use Rattle.mq_model.specs.Legality.{IsLegalNext}

@@ -1,6 +1,5 @@
 -- Worked journals with calls that wait, latest entry first: each is legal, by computation.
-use Rattle.std.proofs.Common.{[], ◌∷◌, refl, true, false, Some, None}
-use Rattle.std.specs.Prelude.{pos, codes}
+use Rattle.std.proofs.Common.{[], ◌∷◌, refl, true, false, Some, None, pos, codes}
 use Rattle.mq_model.specs.Record.{Past}
 use Rattle.mq_model.specs.Descriptors.{descriptor_numbers}
 use Rattle.mq_model.specs.Legality.{Legal}

@@ -1,5 +1,5 @@
 -- Which places the slots have, and what they have there.
-use Rattle.std.proofs.Common.{◌≡◌, ◌≢◌, ℕ, ◌<◌, ◌≤◌, ◌+◌, ◌-◌, cond, zero, suc, ◌==◌, ◌⊎◌, inl, inr, true, false, List, [], ◌∷◌, ◌++◌, length, Some, None, slice_index_or, slice_set, is_none, refl, sym, ap, ◌∙◌, arith}
+use Rattle.std.proofs.Common.{◌≡◌, ◌≢◌, ℕ, ◌<◌, ◌≤◌, ◌+◌, ◌-◌, cond, ◌==◌, ◌⊎◌, inl, inr, true, false, List, [], ◌∷◌, ◌++◌, length, Some, None, slice_index_or, slice_set, is_none, refl, sym, ap, ◌∙◌, arith}
 use Rattle.std.proofs.Math.ListN.{get_or-map}
 use Rattle.std.proofs.lemmas.List.{get_or-set_same, get_or-set_other, get_or_past, get_or_append_left, get_or-append_right, length-set}
 use Rattle.std.proofs.lemmas.List.Sums.{sum_by-set, sum_by-append}
@@ -19,8 +19,7 @@ abbrev pub Holds : List (Option Kept) → ℕ → Type 0
 Holds slots k = (key : ℕ) × (x : Kept) × (slice_index_or slots key None ≡ Some x) × (x.place ≡ k)
 
 inverted : (o : Option Kept) (k : ℕ) → option_map (λ x. x.place) o ≡ Some k → (x : Kept) × (o ≡ Some x) × (x.place ≡ k)
-inverted None k e = absurd (cc)
-inverted (Some x) k e = (x, refl, cc)
+inverted o k e = grind arith
 
 pub held : (slots : List (Option Kept)) (k : ℕ) → HasPlace (places_of slots) k → Holds slots k
 held slots k h =
@@ -43,10 +42,7 @@ below (s ∷ past) k bytes e = by (cases_eq k (length past)) (λ older. below pa
 
 -- what was true of a slot is true after one more record
 says-more : (past : Past) (r : Record) (x : Kept) → Says past x → Says (r ∷ past) x
-says-more past r x says =
-    let lt = below past x.place x.bytes says.0 in
-    let other : (x.place == length past) ≡ false = grind (arith, nat_tests) in
-    (rw other says.0, rw other says.1, rw other says.2)
+says-more past r x says = grind (arith, below)
 
 pub true-more : (past : Past) (r : Record) (slots : List (Option Kept)) → AreTrue past slots → AreTrue (r ∷ past) slots
 true-more past r slots t key x there = says-more past r x (t key x there)
@@ -88,25 +84,16 @@ keeps-put slots key k x vacant has = keeps-set slots key k (Some x) (λ y there 
 -- counting those that are vacant ---------------------------------------------------------------------------------------------
 
 pub some-in : (o : Option Kept) → is_none o ≡ false → (x : Kept) × (o ≡ Some x)
-some-in None e = absurd (cc)
-some-in (Some x) e = (x, refl)
+some-in o e = grind arith
 
 pub within : (slots : List (Option Kept)) (key : ℕ) (x : Kept) → slice_index_or slots key None ≡ Some x → key < length slots
-within slots key x there = by (cases_lt key (length slots))
-  where
-    by : (key < length slots) ⊎ (length slots ≤ key) → key < length slots
-    by (inl lt) = lt
-    by (inr le) = let bad : None ≡ Some x = sym (get_or_past slots key None le) ∙ there in absurd (cc)
+within slots key x there = grind (arith, cases_lt, get_or_past)
 
 pub count-less : (slots : List (Option Kept)) (key : ℕ) (x : Kept) → slice_index_or slots key None ≡ Some x → vacant_in (slice_set slots key None) ≡ vacant_in slots + 1
-count-less slots key x there =
-    let counted : vacant_in (slice_set slots key None) + 0 ≡ vacant_in slots + 1 = rw there at (sum_by-set (λ (o : Option Kept). cond (is_none o) 1 0) slots key None None (within slots key x there)) in
-    omega (arith, counted)
+count-less slots key x there = grind (arith, sum_by-set, within)
 
 pub count-same : (slots : List (Option Kept)) (key : ℕ) (x y : Kept) → slice_index_or slots key None ≡ Some x → vacant_in (slice_set slots key (Some y)) ≡ vacant_in slots
-count-same slots key x y there =
-    let counted : vacant_in (slice_set slots key (Some y)) + 0 ≡ vacant_in slots + 0 = rw there at (sum_by-set (λ (o : Option Kept). cond (is_none o) 1 0) slots key (Some y) None (within slots key x there)) in
-    omega (arith, counted)
+count-same slots key x y there = grind (arith, sum_by-set, within)
 
 -- one vacant slot alone
 abbrev alone : ℕ → Option Kept
@@ -126,14 +113,7 @@ more-vacant slots vacant count = record {
       where
         by : (key < length slots) ⊎ (length slots ≤ key) → slice_index_or slots key None ≡ Some x
         by (inl lt) = sym (get_or_append_left slots (None ∷ []) None key lt) ∙ there
-        by (inr le) = let bad : None ≡ Some x = sym (nothing le) ∙ there in absurd (cc)
-          where
-            nothing : length slots ≤ key → slice_index_or (slots ++ None ∷ []) key None ≡ None
-            nothing le = get_or-append_right slots (None ∷ []) (length slots) key None refl le ∙ one (key - length slots)
-              where
-                one : (i : ℕ) → alone i ≡ None
-                one zero = refl
-                one (suc i) = refl
+        by (inr le) = grind (arith, nat_tests, get_or-append_right)
 
 pub none-added : (slots : List (Option Kept)) (vacant : ℕ) → vacant ≡ vacant_in slots → HasMoreVacant slots slots vacant vacant
 none-added slots vacant count = record { count = count; more = omega arith; are_true = λ past t. t; keeps = λ k has. has }

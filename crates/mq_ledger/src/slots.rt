@@ -1,5 +1,5 @@
 //! The slots of an unstored journal: each keeps one entry, or is vacant.
-ghost use Rattle.std.specs.Prelude.{◌≡◌, ◌≢◌, ◌+◌, ◌-◌, ◌<◌, ◌≤◌, ◌∷◌, ◌↔◌, [], ℕ, Option, Some, None, IsTrue, IfOk, IfSome, OnOk, IsOk, false, length, is_none, slice_index_or, slice_set, vec_len, vec_capacity};
+ghost use Rattle.std.specs.Prelude.{◌≡◌, ◌≢◌, ◌+◌, ◌-◌, ◌<◌, ◌≤◌, ◌∷◌, [], ℕ, Option, Some, None, IsTrue, IfOk, IfSome, OnOk, IsOk, false, length, is_none, slice_index_or, slice_set, vec_len, vec_capacity};
 ghost use Rattle.mq_ledger.specs.Kept.{Kept};
 ghost use Rattle.mq_ledger.specs.Keeping.{AreTrue, places_of, vacant_in, HasMoreVacant, Forgets};
 ghost use Rattle.mq_ledger.specs.Seen.{HasPlace};

@@ -1,6 +1,6 @@
 -- Which queues exist after one more record.
-use Rattle.std.proofs.Common.{◌≡◌, ◌≢◌, ℕ, suc, ◌<◌, ◌==◌, Bool, true, false, ◌&&◌, ◌||◌, not, List, [], ◌∷◌, length, Option, Some, None, is_some, is_none, if◌then◌else◌, refl, sym, ◌∙◌, ap, subst, arith, eqb-true, eq-eqb, ne_eqb, zero}
-use Rattle.std.specs.Prelude.{slice_get}
+use Rattle.std.proofs.lemmas.Bool.Decides.{nat_tests}
+use Rattle.std.proofs.Common.{◌≡◌, ◌≢◌, ℕ, suc, ◌<◌, ◌==◌, Bool, true, false, ◌&&◌, ◌||◌, not, List, [], ◌∷◌, length, Option, Some, None, is_some, is_none, if◌then◌else◌, refl, sym, ◌∙◌, ap, subst, arith, eqb-true, eq-eqb, ne_eqb, zero, rules, slice_get}
 use Rattle.std.specs.List.{filter, list_any}
 use Rattle.std.specs.Str.{bytes_eq}
 use Rattle.std.specs.Option.{option_map, option_and_then, unwrap_or}
@@ -27,9 +27,7 @@ use Rattle.mq_model.proofs.OpenReplies.{lowest_free-is, OpenedFacts}
 
 -- two tests that hold together are one
 pub same-tests : (a b : Bool) → (a ≡ true → b ≡ true) → (b ≡ true → a ≡ true) → a ≡ b
-same-tests true b to from = sym (to refl)
-same-tests false true to from = from refl
-same-tests false false to from = refl
+same-tests a b to from = grind arith
 
 -- a held descriptor makes its queue held
 pub held-is_held : (past : Past) (p d q : ℕ) (h : Description) → held past p d ≡ Some h → h.queue ≡ q → is_held past q ≡ true
@@ -37,8 +35,7 @@ held-is_held past p d q h e on = any-opener past p d h e (λ x. is_place q (opti
 
 -- a process with a descriptor of queue q
 pub none-of : {X : Type 0} (o : Option X) → is_none o ≡ true → o ≡ None
-none-of None e = refl
-none-of (Some x) e = absurd (let bad : false ≡ true = e in cc)
+none-of o e = grind arith
 
 in-filter_passes : (t : ℕ → Bool) (xs : List ℕ) (m : ℕ) → is_in (filter t xs) m ≡ true → t m ≡ true
 in-filter_passes t xs m h = (is_in-filter t xs m h).1
@@ -136,11 +133,7 @@ bound-name (r ∷ past) name q e = split (creates r.entry.call r.entry.reply && 
 
 -- a queue that is named is the one that its name is bound to
 pub named-bound : (past : Past) (q : ℕ) → is_named past q ≡ true → bound_queue past (name_of past q) ≡ Some q
-named-bound past q e = by (bound_queue past (name_of past q)) refl e
-  where
-    by : (o : Option ℕ) → bound_queue past (name_of past q) ≡ o → is_place q (bound_queue past (name_of past q)) ≡ true → bound_queue past (name_of past q) ≡ Some q
-    by None is t = absurd (let bad : false ≡ true = rw is at t in cc)
-    by (Some k) is t = let t' : (k == q) ≡ true = rw is at t in is ∙ ap Some (eqb-true _ _ t')
+named-bound past q e = grind (arith, eqb-true)
 
 pub bound-named : (past : Past) (name : List ℕ) (q : ℕ) → bound_queue past name ≡ Some q → is_named past q ≡ true
 bound-named past name q e = let named : bound_queue past (name_of past q) ≡ Some q = ap (bound_queue past) (bound-name past name q e) ∙ e in rw named (eq-eqb q q refl)
@@ -151,36 +144,14 @@ named-same past r q c u lt = rw (c, u) (ap (λ name. is_place q (bound_queue pas
 
 -- a record that creates a queue under a name that was not bound
 pub named-created : (past : Past) (r : Record) (q : ℕ) → creates r.entry.call r.entry.reply ≡ true → bound_queue past r.payload ≡ None → q < length past → is_named (r ∷ past) q ≡ is_named past q
-named-created past r q c none lt = rw (c, name_of-older past r q lt) (split (bytes_eq r.payload (name_of past q))
-    (λ t. let same : r.payload ≡ name_of past q = same-name r.payload (name_of past q) t in
-    let unbound : bound_queue past (name_of past q) ≡ None = ap (bound_queue past) (sym same) ∙ none in
-    rw (t, unbound) (ne_eqb (length past) q (λ e. omega arith)))
-    (λ f. rw (f, no-unlink r.entry.call r.entry.reply c) refl))
-  where
-    no-unlink : (call : Call) (reply : Reply) → creates call reply ≡ true → unlinks call reply ≡ false
-    no-unlink call (Opened d created) c = refl
-    no-unlink call Done c = absurd (let bad : false ≡ true = c in cc)
-    no-unlink call reply c = refl
+named-created past r q c none lt = search (rules, name_of-older, same-name)
 
 pub named-newest : (past : Past) (r : Record) → creates r.entry.call r.entry.reply ≡ true → is_named (r ∷ past) (length past) ≡ true
 named-newest past r c = rw (name_of-newest past r, c, name-itself r.payload) (eq-eqb (length past) (length past) refl)
 
 -- a record that unlinks the name of queue k
 pub named-unlinked : (past : Past) (r : Record) (q k : ℕ) → unlinks r.entry.call r.entry.reply ≡ true → bound_queue past r.payload ≡ Some k → q < length past → is_named (r ∷ past) q ≡ (if q == k then false else is_named past q)
-named-unlinked past r q k u bound lt = rw (no-create r.entry.call r.entry.reply u, u, name_of-older past r q lt) (split (bytes_eq r.payload (name_of past q))
-    (λ t. let same : r.payload ≡ name_of past q = same-name r.payload (name_of past q) t in
-    let is : bound_queue past (name_of past q) ≡ Some k = ap (bound_queue past) (sym same) ∙ bound in
-    rw (t, is) (split (q == k) (λ e. rw e refl) (λ n. rw n (sym (ne_eqb k q (λ e. eqb-false _ _ n (sym e)))))))
-    (λ f. rw f (split (q == k)
-    (λ e. let same : q ≡ k = eqb-true _ _ e in
-    let own : name_of past q ≡ r.payload = rw same (bound-name past r.payload k bound) in
-    clash (bytes_eq r.payload (name_of past q)) (rw own (name-itself r.payload)) f)
-    (λ n. rw n refl))))
-  where
-    no-create : (call : Call) (reply : Reply) → unlinks call reply ≡ true → creates call reply ≡ false
-    no-create call Done u = refl
-    no-create call (Opened d created) u = absurd (let bad : false ≡ true = u in cc)
-    no-create call reply u = refl
+named-unlinked past r q k u bound lt = search (rules, name_of-older, same-name, eqb-false, eqb-true, bound-name, clash, name-itself)
 
 -- what lives on ----------------------------------------------------------------------------------------------------------
 
@@ -189,30 +160,15 @@ is_needed past q = is_named past q || is_held past q
 
 filter-filter : (s t : ℕ → Bool) (xs : List ℕ) → filter (λ k. t k && s k) xs ≡ filter s (filter t xs)
 filter-filter s t [] = refl
-filter-filter s t (x ∷ xs) = split (t x)
-    (λ y. split (s x) (λ z. rw (y, z, filter-filter s t xs) refl) (λ z. rw (y, z, filter-filter s t xs) refl))
-    (λ n. rw (n, filter-filter s t xs) refl)
+filter-filter s t (x ∷ xs) = grind (arith, filter-filter s t xs)
 
 -- a record that creates no queue and needs the same
 pub alive-quiet : (past : Past) (r : Record) → creates r.entry.call r.entry.reply ≡ false → ((q : ℕ) → q < length past → is_needed (r ∷ past) q ≡ is_needed past q) → alive (r ∷ past) ≡ alive past
-alive-quiet past r c same =
-    ap (filter (is_needed (r ∷ past))) newest ∙ filter-same _ _ (created past) (λ q h. same q (created-below past q h))
-  where
-    newest : created (r ∷ past) ≡ created past
-    newest = rw c refl
+alive-quiet past r c same = grind (arith, filter-same, created-below)
 
 -- a record that creates one, and needs the same of the others
 pub alive-created : (past : Past) (r : Record) → creates r.entry.call r.entry.reply ≡ true → ((q : ℕ) → q < length past → is_needed (r ∷ past) q ≡ is_needed past q) → alive (r ∷ past) ≡ length past ∷ alive past
-alive-created past r c same =
-    ap (filter (is_needed (r ∷ past))) newest
-    ∙ ap (λ b. if b then length past ∷ filter (is_needed (r ∷ past)) (created past) else filter (is_needed (r ∷ past)) (created past)) needed
-    ∙ ap (λ xs. length past ∷ xs) (filter-same _ _ (created past) (λ q h. same q (created-below past q h)))
-  where
-    newest : created (r ∷ past) ≡ length past ∷ created past
-    newest = rw c refl
-
-    needed : is_needed (r ∷ past) (length past) ≡ true
-    needed = rw (named-newest past r c) refl
+alive-created past r c same = grind (arith, filter-same, created-below, named-newest)
 
 -- a record that creates none, and needs the same but for one queue, which was needed
 pub alive-one : (past : Past) (r : Record) (x : ℕ) → creates r.entry.call r.entry.reply ≡ false → is_needed past x ≡ true → ((q : ℕ) → q < length past → q ≢ x → is_needed (r ∷ past) q ≡ is_needed past q) →
@@ -237,39 +193,19 @@ alive-one past r x c was same = split (is_needed (r ∷ past) x)
 abbrev queue_at : Past → ℕ → ℕ → Option ℕ
 queue_at past p d = option_map (λ h. h.queue) (held past p d)
 
--- what a descriptor stands for, by its queue
-from-queue : (past : Past) (p d q : ℕ) → queue_at past p d ≡ Some q → is_held past q ≡ true
-from-queue past p d q e = by (held past p d) refl e
-  where
-    by : (o : Option Description) → held past p d ≡ o → option_map (λ h. h.queue) o ≡ Some q → is_held past q ≡ true
-    by None is e = absurd (cc)
-    by (Some h) is e = let same : h.queue ≡ q = cc in held-is_held past p d q h is same
-
 to-queue : (past : Past) (q : ℕ) → is_held past q ≡ true → (p : ℕ) × (d : ℕ) × (queue_at past p d ≡ Some q)
 to-queue past q e = let x = is_held-holder past q e in (x.process, x.d, rw x.held (ap Some x.on))
 
 -- descriptors that stand for the same queues before and after, if they are of queue q
 pub is_held-same : (past now : Past) (q : ℕ) → ((p d : ℕ) → queue_at past p d ≡ Some q → queue_at now p d ≡ Some q) → ((p d : ℕ) → queue_at now p d ≡ Some q → queue_at past p d ≡ Some q) → is_held now q ≡ is_held past q
-is_held-same past now q to from = same-tests _ _
-    (λ t. let x = to-queue now q t in from-queue past x.0 x.1 q (from x.0 x.1 x.2))
-    (λ t. let x = to-queue past q t in from-queue now x.0 x.1 q (to x.0 x.1 x.2))
+is_held-same past now q to from = grind (arith, same-tests, to-queue, held-is_held)
 
 -- the descriptors of a process change in one place, from one queue or none to another or none
 queue-changed : (past : Past) (r : Record) (d : ℕ) (v : Option Description) → ((e : ℕ) → held_after past r.entry.call r.payload r.entry.reply e (held past r.entry.process e) ≡ (if d == e then v else held past r.entry.process e)) →
     (q : ℕ) → (queue_at past r.entry.process d ≡ Some q → ⊥) → (option_map (λ h. h.queue) v ≡ Some q → ⊥) → is_held (r ∷ past) q ≡ is_held past q
 queue-changed past r d v changes q not-before not-after = is_held-same past (r ∷ past) q
-    (λ k e old. split (r.entry.process == k)
-    (λ t. let own : r.entry.process ≡ k = eqb-true _ _ t in
-    split (d == e)
-    (λ s. let here : d ≡ e = eqb-true _ _ s in absurd (not-before (rw (own, here) old)))
-    (λ n. ap (option_map (λ h. h.queue)) (at k e own ∙ rw n refl) ∙ old))
-    (λ f. rw f old))
-    (λ k e new. split (r.entry.process == k)
-    (λ t. let own : r.entry.process ≡ k = eqb-true _ _ t in
-    split (d == e)
-    (λ s. absurd (not-after (ap (option_map (λ h. h.queue)) (sym (at k e own ∙ rw s refl)) ∙ new)))
-    (λ n. ap (option_map (λ h. h.queue)) (sym (at k e own ∙ rw n refl)) ∙ new))
-    (λ f. rw f at new))
+    (λ k e old. grind (arith, nat_tests, eqb-true))
+    (λ k e new. grind (arith, nat_tests, eqb-true))
   where
     at : (k e : ℕ) → r.entry.process ≡ k → held (r ∷ past) k e ≡ (if d == e then v else held past k e)
     at k e own = let P : ℕ → Type 0 = λ j. held (r ∷ past) j e ≡ (if d == e then v else held past j e) in
@@ -277,14 +213,7 @@ queue-changed past r d v changes q not-before not-after = is_held-same past (r �
 
 -- a record that leaves the descriptors of its process on their queues
 pub is_held-quiet : (past : Past) (r : Record) → ((e : ℕ) → option_map (λ h. h.queue) (held_after past r.entry.call r.payload r.entry.reply e (held past r.entry.process e)) ≡ queue_at past r.entry.process e) → (q : ℕ) → is_held (r ∷ past) q ≡ is_held past q
-is_held-quiet past r same q = is_held-same past (r ∷ past) q (λ k e old. at k e ∙ old) (λ k e new. sym (at k e) ∙ new)
-  where
-    at : (k e : ℕ) → queue_at (r ∷ past) k e ≡ queue_at past k e
-    at k e = split (r.entry.process == k)
-        (λ t. let own : r.entry.process ≡ k = eqb-true _ _ t in
-        let P : ℕ → Type 0 = λ j. queue_at (r ∷ past) j e ≡ queue_at past j e in
-        subst P own (rw (eq-eqb r.entry.process r.entry.process refl) (same e)))
-        (λ f. rw f refl)
+is_held-quiet past r same q = grind (arith, is_held-same, eqb-true, eq-eqb)
 
 -- a record that opens, closes, creates and unlinks nothing leaves the queues that exist
 pub alive-same_queues : (past : Past) (r : Record) → creates r.entry.call r.entry.reply ≡ false → unlinks r.entry.call r.entry.reply ≡ false →
@@ -339,12 +268,7 @@ pub alive-closed : (past : Past) → Legal past → (p d : ℕ) (payload : List 
     alive (rec p (MqClose d) Done payload ∷ past) ≡ (if is_needed (rec p (MqClose d) Done payload ∷ past) h.queue then alive past else filter (λ q. not (q == h.queue)) (alive past))
 alive-closed past legal p d payload h is =
     let r : Record = rec p (MqClose d) Done payload in
-    alive-one past r h.queue refl (needed-alive past h.queue (held-alive past legal p d h is)) (λ q lt ne. rw (
-      named-same past r q refl refl lt,
-      queue-changed past r d None (λ e. refl) q
-          (λ before. let mine : Some h.queue ≡ Some q = rw is at before in let same : h.queue ≡ q = cc in ne (sym same))
-          (λ after. cc),
-    ) refl)
+    alive-one past r h.queue refl (needed-alive past h.queue (held-alive past legal p d h is)) (λ q lt ne. grind (arith, nat_tests, named-same, queue-changed))
 
 -- an unlink of the name of queue x
 pub alive-unlinked : (past : Past) (p : ℕ) (payload : List ℕ) (x : ℕ) → bound_queue past payload ≡ Some x →

@@ -1,11 +1,11 @@
 -- The best of a list, found in one pass.
-use Rattle.std.proofs.Common.{◌≡◌, ℕ, Bool, true, false, ◌&&◌, List, [], ◌∷◌, Option, Some, None, refl, sym, ◌∙◌, arith}
+use Rattle.std.proofs.Common.{◌≡◌, ℕ, Bool, true, false, List, [], ◌∷◌, Some, None, refl, ◌∙◌, arith}
 use Rattle.std.specs.List.{find, list_all}
 use Rattle.std.proofs.lemmas.Bool.{and_parts, and_from}
 use Rattle.std.proofs.lemmas.Bool.Decides.{nat_tests}
 use Rattle.mq_model.specs.Record.{Past}
 use Rattle.mq_model.specs.Messages.{goes_first, present, best}
-use Rattle.mq_model.specs.OnePass.{better, best_of}
+use Rattle.mq_model.specs.OnePass.{best_of}
 use Rattle.mq_model.proofs.Places.{split, clash}
 
 -- which of two goes first: one of any two, and it is an order but for ties
@@ -34,13 +34,6 @@ find-test t (x ∷ xs) n e = split (t x)
     (λ y. let here : Some x ≡ Some n = rw y at e in let same : x ≡ n = cc in rw (← same) y)
     (λ f. let rest : find t xs ≡ Some n = rw f at e in find-test t xs n rest)
 
-find-narrower : {X : Type 0} (t s : X → Bool) (xs : List X) (n : X) → find t xs ≡ Some n → s n ≡ true → find (λ m. s m && t m) xs ≡ Some n
-find-narrower t s [] n e p = absurd (cc)
-find-narrower t s (x ∷ xs) n e p = split (t x)
-    (λ y. let here : Some x ≡ Some n = rw y at e in let same : x ≡ n = cc in let passes : s x ≡ true = rw same p in rw (passes, y) here)
-    (λ f. let rest : find t xs ≡ Some n = rw f at e in
-    split (s x) (λ y. rw (y, f) (find-narrower t s xs n rest p)) (λ g. rw g (find-narrower t s xs n rest p)))
-
 none-left : {X : Type 0} (first : X → X → Bool) (xs : List X) → best_of first xs ≡ None → xs ≡ []
 none-left first [] e = refl
 none-left first (x ∷ xs) e = absurd (cc)
@@ -48,18 +41,7 @@ none-left first (x ∷ xs) e = absurd (cc)
 -- the one found in one pass is the first that goes before all
 pub best_of-best : {X : Type 0} (first : X → X → Bool) → IsRanking first → (xs : List X) → best_of first xs ≡ find (λ m. list_all (first m) xs) xs
 best_of-best first is [] = refl
-best_of-best first is (x ∷ xs) = step (best_of first xs) refl (best_of-best first is xs)
-  where
-    step : (o : Option _) → best_of first xs ≡ o → best_of first xs ≡ find (λ m. list_all (first m) xs) xs → Some (better first x (best_of first xs)) ≡ find (λ m. first m x && list_all (first m) xs) (x ∷ xs)
-    step None e rest = rw (e, none-left first xs e, is.self x) refl
-    step (Some n) e rest =
-        let found : find (λ m. list_all (first m) xs) xs ≡ Some n = sym rest ∙ e in
-        let all : list_all (first n) xs ≡ true = find-test (λ m. list_all (first m) xs) xs n found in
-        rw e (split (first x n)
-        (λ t. let mine : list_all (first x) xs ≡ true = all-weaker first is x n t xs all in rw (t, is.self x, mine) refl)
-        (λ f. let back : first n x ≡ true = is.other x n f in
-        let fails : list_all (first x) xs ≡ false = split (list_all (first x) xs) (λ t. clash (first x n) (find-passes (λ m. list_all (first m) xs) (first x) xs n found t) f) (λ g. g) in
-        rw (f, is.self x, fails) (sym (find-narrower (λ m. list_all (first m) xs) (λ m. first m x) xs n found back))))
+best_of-best first is (x ∷ xs) = grind (arith, none-left, find-test, all-weaker, clash, find-passes, best_of-best first is xs)
 
 -- messages by priority and place
 pub messages-ranking : (past : Past) → IsRanking (goes_first past)

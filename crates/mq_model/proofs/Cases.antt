@@ -1,21 +1,18 @@
 -- Which call a reply belongs to, and what was so before it.
-use Rattle.std.proofs.Common.{◌≡◌, ℕ, Bool, true, false, ◌&&◌, ◌==◌, not, List, length, Option, Some, None, is_some, is_none, if◌then◌else◌, refl}
-use Rattle.std.specs.Prelude.{nat_le, int_lt, pos, slice_get}
-use Rattle.std.specs.Option.{unwrap_or}
+use Rattle.std.proofs.lemmas.Bool.Decides.{nat_tests}
+use Rattle.std.proofs.Common.{◌≡◌, ℕ, Bool, true, false, ◌&&◌, ◌==◌, List, length, Option, Some, None, is_some, if◌then◌else◌, refl, arith, nat_le, int_lt, pos, slice_get, unwrap_or}
 use Rattle.mq_model.specs.Record.{Past}
-use Rattle.mq_model.specs.Names.{bound_queue, attributes, are_within_limits}
-use Rattle.mq_model.specs.Descriptors.{held, lowest_free, alive}
+use Rattle.mq_model.specs.Names.{bound_queue, attributes}
+use Rattle.mq_model.specs.Descriptors.{held}
 use Rattle.mq_model.specs.Messages.{present, is_full, best, least, waiting_sends, waiting_receives}
-use Rattle.mq_model.specs.Notices.{registered, registered_place, notices}
-use Rattle.mq_model.specs.Deadlines.{is_moment, has_passed}
+use Rattle.mq_model.specs.Notices.{registered_place, notices}
 use Rattle.mq_model.specs.Waits.{open_wait, answered_by}
-use Rattle.mq_model.specs.Limits.{most_priorities, most_queues}
-use Rattle.mq_model.specs.ErrorOrder.{is_read_only, is_write_only, is_of, accepted_reply, found_reply, close_reply, timed_reply}
+use Rattle.mq_model.specs.Limits.{most_priorities}
+use Rattle.mq_model.specs.ErrorOrder.{is_read_only, is_write_only, close_reply, timed_reply}
 use Rattle.mq_model.specs.Legality.{reply_to, reply_to_open, reply_to_send, reply_to_receive, reply_to_attributes, reply_to_notify}
 use Rattle.mq_model.specs.declared.entries.Attr.{Attr}
 use Rattle.mq_model.specs.declared.entries.OpenFlags.{OpenFlags}
 use Rattle.mq_model.specs.declared.faults.Fault.{Fault}
-use Rattle.mq_model.specs.declared.faults.Fault.TheVariants.{Again, Invalid, TimedOut}
 use Rattle.mq_model.specs.declared.entries.Deadline.{Deadline}
 use Rattle.mq_model.specs.declared.entries.Description.{Description}
 use Rattle.mq_model.specs.declared.entries.Call.{Call}
@@ -25,8 +22,7 @@ use Rattle.mq_model.specs.declared.entries.Reply.TheVariants.{Opened, Queued, Ha
 
 -- a fact on both branches
 pub either : (P : Reply → Type 0) (b : Bool) (x y : Reply) → (b ≡ true → P x) → (b ≡ false → P y) → P (if b then x else y)
-either P true x y p q = p refl
-either P false x y p q = q refl
+either P b x y p q = grind arith
 
 -- what a reply says of the descriptor o that the call was made on
 pub record MaySend (past : Past) (h : Description) (prio len : ℕ) : Type 0 where
@@ -95,64 +91,27 @@ Says past p Collect reply = reply ≡ Collected (unwrap_or (answered_by past p) 
 Says past p (Withdraw now) reply = reply ≡ Withdrawn (unwrap_or (open_wait past p) 0)
 Says past p call reply = DoneReply reply
 
-message_says : (past : Past) (h : Description) (prio len : ℕ) (w : Option ℕ) → MaySend past h prio len → least (waiting_receives past h.queue) ≡ w → (is_full past h.queue && h.nonblock) ≡ false → SendSays past (Some h) prio len (accepted_reply w (is_full past h.queue) (if length (present past h.queue) == 0 then registered_place past h.queue else None))
-message_says past h prio len (Some w) facts first room = (h, refl, facts, first)
-message_says past h prio len None facts first room =
-    either (SendSays past (Some h) prio len) (is_full past h.queue) Waits (Queued (if length (present past h.queue) == 0 then registered_place past h.queue else None))
-    (λ full. (h, refl, facts, (first, full, rw full at room)))
-    (λ full. (h, refl, facts, (first, full, refl)))
-
 send_says : (past : Past) (o : Option Description) (prio len : ℕ) → SendSays past o prio len (reply_to_send past o prio len)
-send_says past None prio len = tt
-send_says past (Some h) prio len =
-    let P = SendSays past (Some h) prio len in
-    either P (is_read_only h.access) _ _ (λ _. tt) (λ access.
-    either P (nat_le most_priorities prio) _ _ (λ _. tt) (λ allowed.
-    either P (int_lt (attributes past h.queue).msgsize (pos len)) _ _ (λ _. tt) (λ fits.
-    either P (is_full past h.queue && h.nonblock) _ _ (λ _. tt) (λ room.
-    message_says past h prio len (least (waiting_receives past h.queue)) (record { access = access; prio_allowed = allowed; fits = fits }) refl room))))
-
-best_says : (past : Past) (h : Description) (room : ℕ) (m : Option ℕ) → MayReceive past h room → best past h.queue ≡ m → ReceiveSays past (Some h) room (found_reply h.nonblock m (least (waiting_sends past h.queue)) (if is_some (least (waiting_sends past h.queue)) && length (present past h.queue) == 1 then registered_place past h.queue else None))
-best_says past h room (Some m) facts found = (h, refl, facts, (found, refl, refl))
-best_says past h room None facts found = either (ReceiveSays past (Some h) room) h.nonblock (Refused Again) Waits (λ _. tt) (λ blocks. (h, refl, facts, (found, blocks)))
+send_says past o prio len = grind (arith, nat_tests)
 
 receive_says : (past : Past) (o : Option Description) (room : ℕ) → ReceiveSays past o room (reply_to_receive past o room)
-receive_says past None room = tt
-receive_says past (Some h) room =
-    let P = ReceiveSays past (Some h) room in
-    either P (is_write_only h.access) _ _ (λ _. tt) (λ access.
-    either P (int_lt (pos room) (attributes past h.queue).msgsize) _ _ (λ _. tt) (λ fits.
-    best_says past h room (best past h.queue) (record { access = access; fits = fits }) refl))
+receive_says past o room = grind arith
 
 -- what holds of each error and of a reply holds of that reply with a deadline
 timed_says : (P : Reply → Type 0) (until now : Deadline) (reply : Reply) → ((f : Fault) → P (Refused f)) → P reply → P (timed_reply until now reply)
-timed_says P until now Waits refused says =
-    either P (not (is_moment until)) (Refused Invalid) (if has_passed until now then Refused TimedOut else Waits) (λ _. refused Invalid)
-    (λ _. either P (has_passed until now) (Refused TimedOut) Waits (λ _. refused TimedOut) (λ _. says))
-timed_says P until now reply refused says = says
+timed_says P until now reply refused says = grind arith
 
 open_says : (past : Past) (p : ℕ) (flags : OpenFlags) (attr : Option Attr) (name : List ℕ) → OpenReply (reply_to_open past p flags attr name)
-open_says past p flags attr name =
-    let bound = is_some (bound_queue past name) in
-    let free = lowest_free past p in
-    either OpenReply (flags.create && flags.excl && bound) _ _ (λ _. tt) (λ _.
-    either OpenReply (not flags.create && not bound) _ _ (λ _. tt) (λ _.
-    either OpenReply (not bound && not (are_within_limits attr)) _ _ (λ _. tt) (λ _.
-    either OpenReply (is_none free) _ _ (λ _. tt) (λ _.
-    either OpenReply (not bound && nat_le most_queues (length (alive past))) _ _ (λ _. tt) (λ _. tt)))))
+open_says past p flags attr name = grind arith
 
 close_says : (o : Option Description) → CloseSays o (close_reply o)
-close_says None = (tt, tt)
-close_says (Some h) = (tt, (h, refl))
+close_says o = grind arith
 
 attributes_says : (past : Past) (o : Option Description) → AttrsReply (reply_to_attributes past o)
-attributes_says past None = tt
-attributes_says past (Some h) = tt
+attributes_says past o = grind arith
 
 notify_says : (past : Past) (p : ℕ) (o : Option Description) (value : Option ℕ) → DoneReply (reply_to_notify past p o value)
-notify_says past p None value = tt
-notify_says past p (Some h) (Some v) = either DoneReply (is_some (registered past h.queue)) _ _ (λ _. tt) (λ _. tt)
-notify_says past p (Some h) None = either DoneReply (is_of p (registered past h.queue)) _ _ (λ _. tt) (λ _. tt)
+notify_says past p o value = grind arith
 
 pub reply_says : (past : Past) (p : ℕ) (call : Call) (name : List ℕ) → Says past p call (reply_to past p call name)
 reply_says past p (MqOpen flags attr) name = open_says past p flags attr name

@@ -1,5 +1,5 @@
 -- What the reply of a legal record says.
-use Rattle.std.proofs.Common.{◌≡◌, ℕ, true, Option, Some, refl, sym, subst}
+use Rattle.std.proofs.Common.{◌≡◌, ℕ, true, Option, Some, sym, subst, arith}
 use Rattle.mq_model.specs.Record.{Record, Past}
 use Rattle.mq_model.specs.Descriptors.{held, descriptor_of}
 use Rattle.mq_model.specs.Messages.{best, is_receive}
@@ -7,7 +7,6 @@ use Rattle.mq_model.specs.Legality.{IsLegalNext}
 use Rattle.mq_model.proofs.Cases.{Says, reply_says, MayReceive}
 use Rattle.mq_model.specs.declared.entries.Description.{Description}
 use Rattle.mq_model.specs.declared.entries.Call.{Call}
-use Rattle.mq_model.specs.declared.entries.Call.TheVariants.{MqOpen, MqClose, MqUnlink, MqSend, MqReceive, MqGetattr, MqSetattr, MqNotify, NextNotice, Collect, MqTimedSend, MqTimedReceive, Withdraw}
 use Rattle.mq_model.specs.declared.entries.Reply.{Reply}
 use Rattle.mq_model.specs.declared.entries.Reply.TheVariants.{Got}
 
@@ -22,12 +21,4 @@ Receives call d = (is_receive call ≡ true) × (descriptor_of call ≡ Some d)
 -- a Got is the reply of a receive, and the message is the best of its queue
 pub got_says : (past : Past) (p : ℕ) (call : Call) (m : ℕ) (a n : Option ℕ) → Says past p call (Got m a n) →
     (d : ℕ) × (room : ℕ) × (h : Description) × Receives call d × (held past p d ≡ Some h) × MayReceive past h room × (best past h.queue ≡ Some m)
-got_says past p (MqClose d) m a n says = absurd says.0
-got_says past p (MqSend d prio len) m a n says = absurd says.3
-got_says past p (MqTimedSend d prio len until now) m a n says = absurd says.3
-got_says past p (MqReceive d room) m a n says = (d, room, says.0, (refl, refl), says.1, says.2, says.3.0)
-got_says past p (MqTimedReceive d room until now) m a n says = (d, room, says.0, (refl, refl), says.1, says.2, says.3.0)
-got_says past p NextNotice m a n says = absurd (cc)
-got_says past p Collect m a n says = absurd (cc)
-got_says past p (Withdraw now) m a n says = absurd (cc)
-got_says past p call m a n says = absurd says
+got_says past p call m a n says = grind arith

@@ -1,10 +1,10 @@
 -- Which waits the entries of a legal journal end.
-use Rattle.std.proofs.Common.{◌≡◌, ℕ, ◌<◌, ◌==◌, Bool, true, false, ◌&&◌, ◌||◌, List, [], ◌∷◌, length, min, Option, Some, None, if◌then◌else◌, refl, ◌∙◌, ap, arith, eqb-true, eq-eqb, ne_eqb}
-use Rattle.std.specs.Option.{unwrap_or}
+use Rattle.std.proofs.lemmas.Bool.Decides.{nat_tests}
+use Rattle.std.proofs.Common.{◌≡◌, ℕ, ◌<◌, ◌==◌, Bool, true, false, ◌&&◌, List, [], ◌∷◌, length, min, Option, Some, None, if◌then◌else◌, refl, ◌∙◌, ap, arith, eqb-true, eq-eqb, unwrap_or}
 use Rattle.std.proofs.lemmas.Bool.{and_parts, eqb-false}
 use Rattle.mq_model.specs.Record.{Record, Past}
-use Rattle.mq_model.specs.Descriptors.{is_place, is_on, called_queue}
-use Rattle.mq_model.specs.Messages.{is_in, with_place, is_send, is_receive, ends_receive, least, blocks_send, blocks_receive, blocked_sends, blocked_receives, waiting_receives, ended_receives}
+use Rattle.mq_model.specs.Descriptors.{is_on}
+use Rattle.mq_model.specs.Messages.{is_in, with_place, ends_receive, least, blocks_send, blocks_receive, blocked_sends, blocked_receives, waiting_receives, ended_receives}
 use Rattle.mq_model.specs.Waits.{is_wait, names_wait, open_wait, answered_by}
 use Rattle.mq_model.specs.Legality.{Legal, IsLegalNext, may_call}
 use Rattle.mq_model.proofs.Places.{split, clash, is_in-filter}
@@ -16,7 +16,7 @@ use Rattle.mq_model.proofs.OthersLeave.{open_wait-below}
 use Rattle.mq_model.specs.declared.entries.Call.{Call}
 use Rattle.mq_model.specs.declared.entries.Call.TheVariants.{MqOpen, MqClose, MqUnlink, MqSend, MqReceive, MqGetattr, MqSetattr, MqNotify, NextNotice, Collect, MqTimedSend, MqTimedReceive, Withdraw}
 use Rattle.mq_model.specs.declared.entries.Reply.{Reply}
-use Rattle.mq_model.specs.declared.entries.Reply.TheVariants.{Opened, Queued, Handed, Waits, Got, Collected, Attrs, Notice, Done, Refused, Withdrawn}
+use Rattle.mq_model.specs.declared.entries.Reply.TheVariants.{Handed, Withdrawn}
 use Rattle.mq_model.specs.Owners.{blocked}
 use Rattle.mq_model.specs.declared.owners.WaitKind.{WaitKind}
 use Rattle.mq_model.specs.declared.owners.WaitKind.TheVariants.{Send, Receive}
@@ -27,14 +27,7 @@ blocks Receive call reply = blocks_receive call reply
 
 -- a blocked call is the newest record, or one of the older ones
 pub blocked-cases : (past : Past) (r : Record) (s : WaitKind) (q w : ℕ) → is_in (blocked (r ∷ past) s q) w ≡ true → (length past ≡ w → (blocks s r.entry.call r.entry.reply && is_on past r.entry q) ≡ false → is_in (blocked past s q) w ≡ true) × ((length past ≡ w → ⊥) → is_in (blocked past s q) w ≡ true)
-blocked-cases past r Send q w h = split (blocks_send r.entry.call r.entry.reply && is_on past r.entry q)
-    (λ t. let new : (length past == w || is_in (blocked_sends past q) w) ≡ true = rw t at h in
-    (λ e f. clash (blocks_send r.entry.call r.entry.reply && is_on past r.entry q) t f, λ ne. rw (ne_eqb (length past) w ne) at new))
-    (λ f. let old : is_in (blocked_sends past q) w ≡ true = rw f at h in (λ e g. old, λ ne. old))
-blocked-cases past r Receive q w h = split (blocks_receive r.entry.call r.entry.reply && is_on past r.entry q)
-    (λ t. let new : (length past == w || is_in (blocked_receives past q) w) ≡ true = rw t at h in
-    (λ e f. clash (blocks_receive r.entry.call r.entry.reply && is_on past r.entry q) t f, λ ne. rw (ne_eqb (length past) w ne) at new))
-    (λ f. let old : is_in (blocked_receives past q) w ≡ true = rw f at h in (λ e g. old, λ ne. old))
+blocked-cases past r s q w h = grind (arith, clash)
 
 pub blocked-below : (past : Past) (s : WaitKind) (q w : ℕ) → is_in (blocked past s q) w ≡ true → w < length past
 blocked-below [] Send q w h = absurd (cc)
@@ -45,9 +38,7 @@ blocked-below (r ∷ past) s q w h = split (length past == w)
 
 -- the newest record is the blocked call
 newest-is : (past : Past) (r : Record) (s : WaitKind) (q : ℕ) → is_in (blocked (r ∷ past) s q) (length past) ≡ true → (blocks s r.entry.call r.entry.reply && is_on past r.entry q) ≡ true
-newest-is past r s q h = split (blocks s r.entry.call r.entry.reply && is_on past r.entry q)
-    (λ t. t)
-    (λ f. let old = (blocked-cases past r s q (length past) h).0 refl f in let lt = blocked-below past s q (length past) old in absurd (omega arith))
+newest-is past r s q h = grind (arith, blocked-cases, blocked-below)
 
 pub newest-receive : (past : Past) (r : Record) (q : ℕ) → is_in (blocked_receives (r ∷ past) q) (length past) ≡ true → (blocks_receive r.entry.call r.entry.reply && is_on past r.entry q) ≡ true
 newest-receive past r q h = newest-is past r Receive q h
@@ -55,44 +46,15 @@ newest-receive past r q h = newest-is past r Receive q h
 pub newest-send : (past : Past) (r : Record) (q : ℕ) → is_in (blocked_sends (r ∷ past) q) (length past) ≡ true → (blocks_send r.entry.call r.entry.reply && is_on past r.entry q) ≡ true
 newest-send past r q h = newest-is past r Send q h
 
-not-both : (call : Call) → is_send call ≡ true → is_receive call ≡ true → ⊥
-not-both (MqOpen flags attr) h g = cc
-not-both (MqClose d) h g = cc
-not-both MqUnlink h g = cc
-not-both (MqSend d prio len) h g = cc
-not-both (MqTimedSend d prio len until now) h g = cc
-not-both (MqReceive d room) h g = cc
-not-both (MqTimedReceive d room until now) h g = cc
-not-both (MqGetattr d) h g = cc
-not-both (MqSetattr d nonblock) h g = cc
-not-both (MqNotify d value) h g = cc
-not-both NextNotice h g = cc
-not-both Collect h g = cc
-not-both (Withdraw now) h g = cc
-
 not-both-blocked : (call : Call) (reply : Reply) → blocks_send call reply ≡ true → blocks_receive call reply ≡ true → ⊥
-not-both-blocked call Waits h g = not-both call h g
-not-both-blocked call reply h g = cc
-
-kind-of : (s t : WaitKind) (call : Call) (reply : Reply) → blocks s call reply ≡ true → blocks t call reply ≡ true → s ≡ t
-kind-of Send Receive call reply h g = absurd (not-both-blocked call reply h g)
-kind-of Receive Send call reply h g = absurd (not-both-blocked call reply g h)
-kind-of other it call reply h g = refl
-
-same_queue : (o : Option ℕ) (q k : ℕ) → is_place q o ≡ true → is_place k o ≡ true → q ≡ k
-same_queue None q k h g = absurd (cc)
-same_queue (Some j) q k h g = let a : j ≡ q = eqb-true _ _ h in let b : j ≡ k = eqb-true _ _ g in cc
+not-both-blocked call reply h g = grind arith
 
 -- a call blocked on one queue, as a send or as a receive
 pub blocked-once : (past : Past) (s t : WaitKind) (q k w : ℕ) → is_in (blocked past s q) w ≡ true → is_in (blocked past t k) w ≡ true → (s ≡ t) × (q ≡ k)
 blocked-once [] Send t q k w h g = absurd (cc)
 blocked-once [] Receive t q k w h g = absurd (cc)
 blocked-once (r ∷ past) s t q k w h g = split (length past == w)
-    (λ e. let same : length past ≡ w = eqb-true _ _ e in
-    let mine = newest-is past r s q (rw (← same) at h) in let its = newest-is past r t k (rw (← same) at g) in
-    let a = and_parts (blocks s r.entry.call r.entry.reply) (is_on past r.entry q) mine in
-    let b = and_parts (blocks t r.entry.call r.entry.reply) (is_on past r.entry k) its in
-    (kind-of s t r.entry.call r.entry.reply a.0 b.0, same_queue (called_queue past r.entry.process r.entry.call) q k a.1 b.1))
+    (λ e. grind (arith, nat_tests, eqb-true, newest-is, and_parts))
     (λ n. let ne = eqb-false (length past) w n in blocked-once past s t q k w ((blocked-cases past r s q w h).1 ne) ((blocked-cases past r t k w g).1 ne))
 
 pub least-in : (xs : List ℕ) (m : ℕ) → least xs ≡ Some m → is_in xs m ≡ true

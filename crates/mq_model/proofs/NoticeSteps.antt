@@ -1,17 +1,16 @@
 -- The notices of each process after one more record.
-use Rattle.std.proofs.Common.{◌≡◌, ℕ, suc, ◌+◌, ◌<◌, ◌≤◌, ◌==◌, Bool, true, false, ◌&&◌, List, [], ◌∷◌, ◌++◌, length, drop, Option, Some, None, if◌then◌else◌, refl, sym, ◌∙◌, ap, arith, eqb-true, eq-eqb, length-drop, length-append, zero}
-use Rattle.std.specs.Prelude.{slice_get}
+use Rattle.std.proofs.Common.{◌≡◌, ℕ, suc, ◌+◌, ◌<◌, ◌≤◌, ◌==◌, Bool, true, false, ◌&&◌, List, [], ◌∷◌, ◌++◌, length, drop, Option, Some, None, if◌then◌else◌, refl, sym, ◌∙◌, ap, arith, eqb-true, eq-eqb, length-drop, length-append, zero, slice_get}
 use Rattle.std.specs.Option.{option_to_list}
 use Rattle.std.proofs.lemmas.Grind.{common_steps}
 use Rattle.mq_model.specs.Record.{Record, Past, record_at}
 use Rattle.mq_model.specs.Descriptors.{is_on}
-use Rattle.mq_model.specs.Notices.{registration_by, registration_of, only_if, notified, ends, unless, registered, value_of_notify, value_given, value_notified, values_notified, gives_notice, notices_given, notices}
+use Rattle.mq_model.specs.Notices.{registration_of, only_if, notified, ends, unless, registered, value_of_notify, value_given, value_notified, values_notified, gives_notice, notices_given, notices}
 use Rattle.mq_model.specs.Legality.{Legal}
 use Rattle.mq_model.specs.declared.entries.Registration.{Registration}
 use Rattle.mq_model.specs.declared.entries.Call.{Call}
-use Rattle.mq_model.specs.declared.entries.Call.TheVariants.{MqOpen, MqClose, MqUnlink, MqSend, MqReceive, MqGetattr, MqSetattr, MqNotify, NextNotice, Collect, MqTimedSend, MqTimedReceive, Withdraw}
+use Rattle.mq_model.specs.declared.entries.Call.TheVariants.{MqClose, MqSend, MqReceive, NextNotice, Collect, MqTimedSend, MqTimedReceive, Withdraw}
 use Rattle.mq_model.specs.declared.entries.Reply.{Reply}
-use Rattle.mq_model.specs.declared.entries.Reply.TheVariants.{Opened, Queued, Handed, Waits, Got, Collected, Attrs, Notice, Done, Refused, Withdrawn}
+use Rattle.mq_model.specs.declared.entries.Reply.TheVariants.{Notice}
 use Rattle.mq_model.proofs.Places.{split}
 use Rattle.mq_model.proofs.Cases.{Says}
 use Rattle.mq_model.proofs.LegalReplies.{legal_says}
@@ -28,23 +27,14 @@ pub record IsMadeBy (past : Past) (n : Registration) : Type 0 where
 made-older : (past : Past) (r : Record) (n : Registration) → IsMadeBy past n → IsMadeBy (r ∷ past) n
 made-older past r n x = record { place = let lt = x.place in omega (arith, lt); record_ = x.record_; at = record_at-older past r n.place x.place ∙ x.at; process = x.process; value = x.value }
 
-made-by : (p here : ℕ) (call : Call) (n : Registration) → registration_by here p call ≡ Some n → (n.place ≡ here) × (n.process ≡ p) × (value_of_notify call ≡ Some n.value)
-made-by p here (MqNotify d (Some v)) n e = let same : record { place = here; process = p; d = d; value = v } ≡ n = cc in
-    (ap (λ (x : Registration). x.place) (sym same), ap (λ (x : Registration). x.process) (sym same), ap (λ (x : Registration). Some x.value) same)
-made-by p here call n e = absurd (cc)
-
 pub made-of : (p here : ℕ) (call : Call) (reply : Reply) (n : Registration) → registration_of here p call reply ≡ Some n → (n.place ≡ here) × (n.process ≡ p) × (value_of_notify call ≡ Some n.value)
-made-of p here call Done n e = made-by p here call n e
-made-of p here call reply n e = absurd (cc)
+made-of p here call reply n e = grind arith
 
 pub only-some : (b : Bool) (o : Option Registration) (n : Registration) → only_if b o ≡ Some n → o ≡ Some n
-only-some b None n e = absurd (cc)
-only-some true (Some m) n e = e
-only-some false (Some m) n e = absurd (cc)
+only-some b o n e = grind arith
 
-unless-some : (ended : Registration → Bool) (o : Option Registration) (n : Registration) → unless ended o ≡ Some n → o ≡ Some n
-unless-some ended None n e = absurd (cc)
-unless-some ended (Some m) n e = split (ended m) (λ t. let bad : None ≡ Some n = rw t at e in absurd (cc)) (λ f. rw f at e)
+pub unless-some : (ended : Registration → Bool) (o : Option Registration) (n : Registration) → unless ended o ≡ Some n → o ≡ Some n
+unless-some ended o n e = grind arith
 
 -- a registration was made by its record
 pub registered-made : (past : Past) (q : ℕ) (n : Registration) → registered past q ≡ Some n → IsMadeBy past n
@@ -117,15 +107,10 @@ drop-append k xs ys le = grind (arith, common_steps)
 -- a record that notifies the registration of a queue
 pub notices-notified : (past : Past) → Legal past → (r : Record) (q : ℕ) (n : Registration) (p : ℕ) → registered past q ≡ Some n → notified r.entry.reply ≡ Some n.place → gives_notice r.entry.reply ≡ false →
     notices (r ∷ past) p ≡ (if n.process == p then notices past p ++ n.value ∷ [] else notices past p)
-notices-notified past legal r q n p stands is quiet =
-    rw (is, quiet) (ap (λ o. drop (notices_given past p) (values_notified past p ++ option_to_list o)) (value-of past q n stands p)
-    ∙ split (n.process == p)
-    (λ t. rw t (drop-append (notices_given past p) (values_notified past p) (n.value ∷ []) (given-few past legal p)))
-    (λ f. rw f (ap (drop (notices_given past p)) (append-nil (values_notified past p)))))
+notices-notified past legal r q n p stands is quiet = grind (arith, value-of, drop-append, given-few, append-nil)
 
 drop-nothing : (k : ℕ) → drop {A = ℕ} k [] ≡ []
-drop-nothing zero = refl
-drop-nothing (suc k) = refl
+drop-nothing k = grind arith
 
 drop-one : (k : ℕ) (xs : List ℕ) → drop (k + 1) xs ≡ drop 1 (drop k xs)
 drop-one k [] = drop-nothing (k + 1) ∙ sym (ap (drop 1) (drop-nothing k))
@@ -134,6 +119,4 @@ drop-one (suc k) (x ∷ xs) = let e : suc k + 1 ≡ suc (k + 1) = omega arith in
 
 -- a record that takes a notice
 pub notices-given : (past : Past) (q : ℕ) (call : Call) (v : ℕ) (payload : List ℕ) (p : ℕ) → notices (record { entry = record { process = q; call = call; reply = Notice (Some v) }; payload = payload } ∷ past) p ≡ (if q == p then drop 1 (notices past p) else notices past p)
-notices-given past q call v payload p = split (q == p)
-    (λ t. rw t (ap (drop (notices_given past p + 1)) (append-nil (values_notified past p)) ∙ drop-one (notices_given past p) (values_notified past p)))
-    (λ f. rw f (ap (drop (notices_given past p)) (append-nil (values_notified past p))))
+notices-given past q call v payload p = grind (arith, append-nil, drop-one)

@@ -1,16 +1,14 @@
 -- How many waits are open, counted in the table of processes.
-use Rattle.std.proofs.Common.{◌≡◌, ℕ, zero, suc, ◌+◌, ◌-◌, ◌<◌, ◌≤◌, ◌==◌, Bool, true, false, List, [], ◌∷◌, length, cond, Option, Some, None, is_some, refl, sym, ◌∙◌, ap, arith, eqb, ne_eqb}
+use Rattle.std.proofs.Common.{◌≡◌, ℕ, zero, suc, ◌+◌, ◌-◌, ◌≤◌, ◌==◌, Bool, false, List, [], ◌∷◌, length, cond, Option, None, is_some, refl, sym, ◌∙◌, ap, arith, ne_eqb}
 use Rattle.std.specs.List.{All, count_by}
-use Rattle.std.specs.Option.{option_map, option_and_then}
-use Rattle.std.specs.Prelude.{slice_get, nat_le, IsTrue, ◌&&◌}
+use Rattle.std.specs.Option.{option_map}
 use Rattle.std.proofs.lemmas.Bool.{and_parts}
-use Rattle.std.proofs.lemmas.Bool.Decides.{nat_tests}
 use Rattle.std.proofs.lemmas.List.Elements.{All-nil, All-cons, All-head, All-tail, All-weaker}
 use Rattle.std.proofs.lemmas.List.Sums.{sum_by-cons}
 use Rattle.mq_model.specs.Record.{Record, Past}
 use Rattle.mq_model.specs.Descriptors.{numbers_from}
 use Rattle.mq_model.specs.Waits.{open_wait}
-use Rattle.mq_model.specs.Legality.{Legal, IsLegalNext}
+use Rattle.mq_model.specs.Legality.{Legal}
 use Rattle.mq_model.specs.Bounds.{open_waits}
 use Rattle.mq_model.specs.Owners.{wait_in, waits_count, OwnersMirror}
 use Rattle.mq_model.specs.declared.owners.OpenWait.{OpenWait}
@@ -25,9 +23,7 @@ count-cons f x xs = sum_by-cons (λ y. one_if (f y)) x xs
 -- a process without a record has no open wait
 no-record : (past : Past) (k : ℕ) → All (λ (r : Record). (r.entry.process == k) ≡ false) past → open_wait past k ≡ None
 no-record [] k all = refl
-no-record (r ∷ past) k all =
-    let other = All-head (λ (r : Record). (r.entry.process == k) ≡ false) r past all in
-    rw other (no-record past k (All-tail (λ (r : Record). (r.entry.process == k) ≡ false) r past all))
+no-record (r ∷ past) k all = grind (arith, All-head, All-tail, no-record past k (All-tail (λ (r : Record). (r.entry.process == k) ≡ false) r past all))
 
 -- if f says of each index whether the process there waits, as many wait as there are indices for
 -- which f is true
@@ -59,16 +55,12 @@ count-more f low (suc n) m none =
     ap (λ k. count_by f (numbers_from low k)) next ∙ count-cons f low (numbers_from (low + 1) (n + m)) ∙ ap (λ k. one_if (f low) + k) rest ∙ sym (count-cons f low (numbers_from (low + 1) n))
 
 kept-some : (o : Option OpenWait) → is_some (option_map (λ w. w.place) o) ≡ is_some o
-kept-some None = refl
-kept-some (Some w) = refl
+kept-some o = grind arith
 
 -- each process of a legal journal has a number from 1 on
 from-one : (past : Past) → Legal past → All (λ (r : Record). 1 ≤ r.entry.process) past
 from-one [] legal = All-nil (λ (r : Record). 1 ≤ r.entry.process)
-from-one (r ∷ past) legal = All-cons (λ (r : Record). 1 ≤ r.entry.process) r past (least r.entry.process (legal.1).process) (from-one past legal.0)
-  where
-    least : (p : ℕ) → IsTrue (nat_le 1 p && nat_le p 32) → 1 ≤ p
-    least p is = grind (arith, nat_tests, (and_parts (nat_le 1 p) (nat_le p 32) is).0)
+from-one (r ∷ past) legal = grind (arith, All-cons, and_parts, from-one past legal.0)
 
 -- the table of the first n processes counts the open waits, if no other process has a record
 pub open_waits-counted : (past : Past) (owners : List Owner) (n : ℕ) → Legal past → OwnersMirror past owners → length owners ≡ n + 1 → n ≤ 32 → All (λ (r : Record). r.entry.process ≤ n) past → waits_count owners ≡ open_waits past

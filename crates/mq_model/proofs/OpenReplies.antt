@@ -1,13 +1,10 @@
 -- What the replies Opened and Done say.
-use Rattle.std.proofs.Common.{◌≡◌, ℕ, ◌<◌, Bool, true, false, ◌&&◌, not, List, length, Option, Some, None, is_some, is_none, refl, arith, ◌+◌, zero, suc}
-use Rattle.std.specs.Prelude.{nat_le}
+use Rattle.std.proofs.Common.{◌≡◌, ℕ, ◌<◌, Bool, true, false, ◌&&◌, not, List, length, Option, Some, is_some, is_none, arith, ◌+◌, zero, suc, nat_le}
 use Rattle.std.specs.List.{find}
-use Rattle.std.specs.Option.{unwrap_or}
 use Rattle.mq_model.specs.Record.{Past}
-use Rattle.mq_model.specs.Names.{bound_queue, are_within_limits}
+use Rattle.mq_model.specs.Names.{bound_queue}
 use Rattle.mq_model.specs.Descriptors.{held, lowest_free, alive, numbers_from, descriptor_numbers}
 use Rattle.mq_model.specs.Legality.{reply_to_open}
-use Rattle.mq_model.proofs.Cases.{either}
 use Rattle.mq_model.proofs.Places.{split}
 use Rattle.mq_model.specs.declared.entries.Attr.{Attr}
 use Rattle.mq_model.specs.declared.entries.OpenFlags.{OpenFlags}
@@ -25,20 +22,8 @@ abbrev OpenedSays : Past → ℕ → List ℕ → Reply → Type 0
 OpenedSays past p name (Opened d created) = OpenedFacts past p name d created
 OpenedSays past p name reply = Unit {0}
 
-some-of : (o : Option ℕ) → is_none o ≡ false → o ≡ Some (unwrap_or o 0)
-some-of None e = absurd (let bad : true ≡ false = e in cc)
-some-of (Some d) e = refl
-
 opened-reply : (past : Past) (p : ℕ) (flags : OpenFlags) (attr : Option Attr) (name : List ℕ) → OpenedSays past p name (reply_to_open past p flags attr name)
-opened-reply past p flags attr name =
-    let P = OpenedSays past p name in
-    let bound = is_some (bound_queue past name) in
-    let free = lowest_free past p in
-    either P (flags.create && flags.excl && bound) _ _ (λ _. tt) (λ _.
-    either P (not flags.create && not bound) _ _ (λ _. tt) (λ _.
-    either P (not bound && not (are_within_limits attr)) _ _ (λ _. tt) (λ _.
-    either P (is_none free) _ _ (λ _. tt) (λ some.
-    either P (not bound && nat_le 64 (length (alive past))) _ _ (λ _. tt) (λ room. record { free = some-of free some; new = refl; room = room })))))
+opened-reply past p flags attr name = grind arith
 
 pub opened-says : (past : Past) (p : ℕ) (flags : OpenFlags) (attr : Option Attr) (name : List ℕ) (d : ℕ) (created : Bool) → Opened d created ≡ reply_to_open past p flags attr name → OpenedFacts past p name d created
 opened-says past p flags attr name d created e = rw (← e) at (opened-reply past p flags attr name)

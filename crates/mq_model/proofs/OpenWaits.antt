@@ -1,6 +1,7 @@
 -- Whose an open wait is, its deadline, and that a withdrawal ends the open wait of its process.
-use Rattle.std.proofs.Common.{◌≡◌, ℕ, ◌<◌, ◌==◌, Bool, true, false, ◌&&◌, List, [], ◌∷◌, length, Option, Some, None, is_none, if◌then◌else◌, refl, sym, ◌∙◌, ap, subst, eqb-true, eq-eqb, ne_eqb}
-use Rattle.std.specs.Option.{option_map, unwrap_or}
+use Rattle.std.proofs.lemmas.Bool.Decides.{nat_tests}
+use Rattle.std.proofs.Common.{◌≡◌, ℕ, ◌<◌, ◌==◌, true, false, [], ◌∷◌, length, Option, Some, None, if◌then◌else◌, refl, sym, ◌∙◌, ap, eqb-true, eq-eqb, ne_eqb, arith}
+use Rattle.std.specs.Option.{option_map}
 use Rattle.std.proofs.lemmas.Bool.{and_parts, eqb-false}
 use Rattle.mq_model.specs.Record.{Record, Past, record_at}
 use Rattle.mq_model.specs.Deadlines.{deadline_of, is_over}
@@ -8,8 +9,6 @@ use Rattle.mq_model.specs.Waits.{is_wait, open_wait, wait_deadline, answered_by}
 use Rattle.mq_model.specs.Legality.{IsLegalNext, may_call}
 use Rattle.mq_model.specs.declared.entries.Deadline.{Deadline}
 use Rattle.mq_model.specs.declared.entries.Call.{Call}
-use Rattle.mq_model.specs.declared.entries.Call.TheVariants.{MqOpen, MqClose, MqUnlink, MqSend, MqReceive, MqTimedSend, MqTimedReceive, MqGetattr, MqSetattr, MqNotify, NextNotice, Collect, Withdraw}
-use Rattle.mq_model.specs.declared.entries.Reply.{Reply}
 use Rattle.mq_model.specs.declared.entries.Reply.TheVariants.{Withdrawn}
 use Rattle.mq_model.proofs.Places.{split}
 use Rattle.mq_model.proofs.Prefixes.{record_at-below}
@@ -20,10 +19,7 @@ use Rattle.mq_model.proofs.LegalReplies.{legal_says}
 pub open_wait-process : (past : Past) (p w : ℕ) → open_wait past p ≡ Some w → option_map (λ r. r.entry.process) (record_at past w) ≡ Some p
 open_wait-process [] p w e = absurd (cc)
 open_wait-process (r ∷ past) p w e = split (r.entry.process == p)
-    (λ own. let last : (if is_wait r.entry.reply then Some (length past) else None) ≡ Some w = rw own at e in
-    split (is_wait r.entry.reply)
-    (λ t. let here : Some (length past) ≡ Some w = rw t at last in let place : length past ≡ w = cc in let mine : r.entry.process ≡ p = eqb-true _ _ own in rw (← place, eq-eqb (length past) (length past) refl) (ap Some mine))
-    (λ f. let none : None ≡ Some w = rw f at last in absurd (cc)))
+    (λ own. grind (arith, nat_tests, eqb-true, eq-eqb))
     (λ other. let old : open_wait past p ≡ Some w = rw other at e in
     let before = open_wait-process past p w old in
     rw (record_at-older past r w (within past w p before)) before)
@@ -38,7 +34,7 @@ open_wait-process (r ∷ past) p w e = split (r.entry.process == p)
 pub same-waiter : (past : Past) (p k w : ℕ) → open_wait past p ≡ Some w → open_wait past k ≡ Some w → p ≡ k
 same-waiter past p k w e f = let a : Some p ≡ Some k = sym (open_wait-process past p w e) ∙ open_wait-process past k w f in cc
 
-deadline-none : (past : Past) (p : ℕ) → open_wait past p ≡ None → wait_deadline past p ≡ None
+pub deadline-none : (past : Past) (p : ℕ) → open_wait past p ≡ None → wait_deadline past p ≡ None
 deadline-none [] p e = refl
 deadline-none (r ∷ past) p e = split (r.entry.process == p)
     (λ own. split (is_wait r.entry.reply)
@@ -48,9 +44,7 @@ deadline-none (r ∷ past) p e = split (r.entry.process == p)
 
 -- a record of a process without an open wait, which begins none
 pub wait_deadline-same : (past : Past) (r : Record) → open_wait past r.entry.process ≡ None → is_wait r.entry.reply ≡ false → (k : ℕ) → wait_deadline (r ∷ past) k ≡ wait_deadline past k
-wait_deadline-same past r none goes k = split (r.entry.process == k)
-    (λ t. let same : r.entry.process ≡ k = eqb-true _ _ t in rw (t, goes) (rw (← same) (sym (deadline-none past r.entry.process none))))
-    (λ e. rw e refl)
+wait_deadline-same past r none goes k = grind (arith, eqb-true, deadline-none)
 
 -- a wait whose deadline has passed is open
 deadline-waits : (past : Past) (p : ℕ) (now : Deadline) → is_over (wait_deadline past p) now ≡ true → (w : ℕ) × (open_wait past p ≡ Some w)
@@ -62,27 +56,9 @@ deadline-waits (r ∷ past) p now h = split (r.entry.process == p)
     (λ f. let bad : is_over None now ≡ true = rw f at last in absurd (cc)))
     (λ other. let old : is_over (wait_deadline past p) now ≡ true = rw other at h in let x = deadline-waits past p now old in (x.0, rw other x.1))
 
-is-none : (o : Option ℕ) → is_none o ≡ true → o ≡ None
-is-none None e = refl
-is-none (Some w) e = absurd (let bad : false ≡ true = e in cc)
-
 -- what is withdrawn is the open wait of the process, which no entry answers
 pub withdrawn-open : (past : Past) (p : ℕ) (call : Call) (k : ℕ) → Says past p call (Withdrawn k) → may_call past p call ≡ true → (open_wait past p ≡ Some k) × (answered_by past p ≡ None)
-withdrawn-open past p (Withdraw now) k says turn =
-    let parts = and_parts (is_none (answered_by past p)) (is_over (wait_deadline past p) now) turn in
-    let x = deadline-waits past p now parts.1 in
-    let same : Withdrawn k ≡ Withdrawn (unwrap_or (open_wait past p) 0) = says in
-    let here : Withdrawn k ≡ Withdrawn x.0 = rw x.1 at same in
-    let at : x.0 ≡ k = cc in
-    (x.1 ∙ ap Some at, is-none (answered_by past p) parts.0)
-withdrawn-open past p (MqClose d) k says turn = absurd says.0
-withdrawn-open past p (MqSend d prio len) k says turn = absurd says.3
-withdrawn-open past p (MqReceive d room) k says turn = absurd says.3
-withdrawn-open past p (MqTimedSend d prio len until now) k says turn = absurd says.3
-withdrawn-open past p (MqTimedReceive d room until now) k says turn = absurd says.3
-withdrawn-open past p NextNotice k says turn = absurd (cc)
-withdrawn-open past p Collect k says turn = absurd (cc)
-withdrawn-open past p call k says turn = absurd says
+withdrawn-open past p call k says turn = grind (arith, and_parts, deadline-waits)
 
 -- a withdrawal of one process does not end the open wait of another
 pub withdrawn-other : (past : Past) (r : Record) (p w k : ℕ) → IsLegalNext past r → (r.entry.process == p) ≡ false → open_wait past p ≡ Some w → r.entry.reply ≡ Withdrawn k → (k == w) ≡ false

@@ -1,6 +1,5 @@
 -- The table of processes, line by line.
-use Rattle.std.proofs.Common.{◌≡◌, ℕ, zero, suc, ◌+◌, ◌<◌, ◌≤◌, ◌==◌, Bool, true, List, [], ◌∷◌, length, Option, Some, None, is_some, if◌then◌else◌, set, get_or, refl, sym, ◌∙◌, ap, arith, eqb-true, ◌⊎◌, inl, inr}
-use Rattle.std.specs.Prelude.{slice_get, IfSome}
+use Rattle.std.proofs.Common.{◌≡◌, ℕ, zero, suc, ◌+◌, ◌<◌, ◌≤◌, ◌==◌, Bool, true, List, [], ◌∷◌, length, Option, Some, None, is_some, if◌then◌else◌, set, get_or, refl, ◌∙◌, ap, arith, eqb-true, ◌⊎◌, inl, inr, slice_get, IfSome}
 use Rattle.std.specs.List.{count_by}
 use Rattle.std.proofs.lemmas.List.Sums.{sum_by-cons}
 use Rattle.std.specs.Option.{option_map, option_and_then, unwrap_or}
@@ -25,32 +24,22 @@ changed-at f owners p x lt is = ap (λ y. set owners p (f y)) is ∙ changed-set
 slice_get-changed : (f : Owner → Owner) (owners : List Owner) (p k : ℕ) → slice_get (changed f owners p) k ≡ (if p == k then option_map f (slice_get owners k) else slice_get owners k)
 slice_get-changed f [] p k = split (p == k) (λ t. rw t refl) (λ e. rw e refl)
 slice_get-changed f (o ∷ owners) zero zero = refl
-slice_get-changed f (o ∷ owners) zero (suc k) = grind (arith, nat_tests)
-slice_get-changed f (o ∷ owners) (suc p) zero = grind (arith, nat_tests)
 slice_get-changed f (o ∷ owners) (suc p) (suc k) = slice_get-changed f owners p k ∙ grind (arith, nat_tests)
+slice_get-changed f (o ∷ owners) _ _ = grind (arith, nat_tests)
 
 length-changed : (f : Owner → Owner) (owners : List Owner) (p : ℕ) → length (changed f owners p) ≡ length owners
-length-changed f [] p = refl
-length-changed f (o ∷ owners) zero = refl
 length-changed f (o ∷ owners) (suc p) = ap suc (length-changed f owners p)
+length-changed f _ _ = refl
 
 -- what is read of a line that was changed
 read-changed : {X : Type 0} (g : Owner → Option X) (f : Owner → Owner) (owners : List Owner) (p k : ℕ) →
     option_and_then g (slice_get (changed f owners p) k) ≡ (if p == k then option_and_then (λ o. g (f o)) (slice_get owners k) else option_and_then g (slice_get owners k))
-read-changed g f owners p k = ap (option_and_then g) (slice_get-changed f owners p k) ∙ split (p == k) (λ t. rw t (inner (slice_get owners k))) (λ e. rw e refl)
-  where
-    inner : (o : Option Owner) → option_and_then g (option_map f o) ≡ option_and_then (λ x. g (f x)) o
-    inner None = refl
-    inner (Some x) = refl
+read-changed g f owners p k = grind (arith, slice_get-changed)
 
 -- a change that leaves what is read alone
 read-same : {X : Type 0} (g : Owner → Option X) (f : Owner → Owner) (owners : List Owner) (p k : ℕ) → ((o : Owner) → g (f o) ≡ g o) →
     option_and_then g (slice_get (changed f owners p) k) ≡ option_and_then g (slice_get owners k)
-read-same g f owners p k same = read-changed g f owners p k ∙ split (p == k) (λ t. rw t (inner (slice_get owners k))) (λ e. rw e refl)
-  where
-    inner : (o : Option Owner) → option_and_then (λ x. g (f x)) o ≡ option_and_then g o
-    inner None = refl
-    inner (Some x) = same x
+read-same g f owners p k same = grind (arith, read-changed)
 
 -- a change that sets what is read
 read-set : {X : Type 0} (g : Owner → Option X) (f : Owner → Owner) (owners : List Owner) (p k : ℕ) (v : Option X) → p < length owners → ((o : Owner) → g (f o) ≡ v) →
@@ -95,9 +84,8 @@ count-same (o ∷ owners) (suc p) f same = let rest = count-same owners p f same
 get-set : {X : Type 0} (xs : List (Option X)) (d e : ℕ) (v : Option X) → d < length xs → unwrap_or (slice_get (set xs d v) e) None ≡ (if d == e then v else unwrap_or (slice_get xs e) None)
 get-set [] d e v lt = absurd (omega arith)
 get-set (x ∷ xs) zero zero v lt = refl
-get-set (x ∷ xs) zero (suc e) v lt = grind (arith, nat_tests)
-get-set (x ∷ xs) (suc d) zero v lt = grind (arith, nat_tests)
 get-set (x ∷ xs) (suc d) (suc e) v lt = get-set xs d e v (omega arith) ∙ grind (arith, nat_tests)
+get-set (x ∷ xs) _ _ v lt = grind (arith, nat_tests)
 
 -- each process has sixteen slots
 abbrev pub HasSlots : List Owner → Type 0
@@ -135,13 +123,7 @@ length-set : {X : Type 0} (xs : List X) (d : ℕ) (v : X) → length (set xs d v
 length-set xs d v = grind (arith, common_steps)
 
 slots-changed : (f : Owner → Owner) (owners : List Owner) (p : ℕ) → ((o : Owner) → length (f o).descriptors ≡ length o.descriptors) → HasSlots owners → HasSlots (changed f owners p)
-slots-changed f owners p same slots k o is = by (slice_get owners k) refl (sym (slice_get-changed f owners p k) ∙ is)
-  where
-    by : (x : Option Owner) → slice_get owners k ≡ x → (if p == k then option_map f (slice_get owners k) else slice_get owners k) ≡ Some o → length o.descriptors ≡ 16
-    by None at e = absurd (split (p == k) (λ t. let bad : None ≡ Some o = rw (t, at) at e in cc) (λ n. let bad : None ≡ Some o = rw (n, at) at e in cc))
-    by (Some x) at e = split (p == k)
-        (λ t. let is : Some (f x) ≡ Some o = rw (t, at) at e in let eq : f x ≡ o = cc in ap (λ (y : Owner). length y.descriptors) (sym eq) ∙ same x ∙ slots k x at)
-        (λ n. let is : Some x ≡ Some o = rw (n, at) at e in let eq : x ≡ o = cc in ap (λ (y : Owner). length y.descriptors) (sym eq) ∙ slots k x at)
+slots-changed f owners p same slots k o is = grind (arith, slice_get-changed)
 
 pub slots-with_slot : (owners : List Owner) (p d : ℕ) (v : Option Description) → HasSlots owners → HasSlots (with_slot owners p d v)
 unfolding with_slot
@@ -222,30 +204,13 @@ unfolding pending_in wait_in
 pending_in-past owners k q kind past = rw (slice_get_past owners k past) refl
 
 pub first-none : (owners : List Owner) (q : ℕ) (kind : WaitKind) (i : ℕ) (o : Option (ℕ × ℕ)) → IsFirstBelow owners q kind i o → length owners ≤ i → o ≡ None → (p : ℕ) → pending_in owners p q kind ≡ None
-first-none owners q kind i None first all e = λ p. below p (below-or p i)
-  where
-    below-or : (k i : ℕ) → (k < i) ⊎ (i ≤ k)
-    below-or k i = grind arith
-
-    below : (p : ℕ) → ((p < i) ⊎ (i ≤ p)) → pending_in owners p q kind ≡ None
-    below p (inl lt) = first p lt
-    below p (inr ge) = pending_in-past owners p q kind (omega arith)
-first-none owners q kind i (Some x) first all e = absurd (cc)
+first-none owners q kind i o first all e = grind (arith, pending_in-past)
 
 pub first-some : (owners : List Owner) (q : ℕ) (kind : WaitKind) (i : ℕ) (o : Option (ℕ × ℕ)) → IsFirstBelow owners q kind i o → length owners ≤ i → IfSome o (λ x. IsFirstWait owners q kind x.0 x.1)
-first-some owners q kind i None first all = tt
-first-some owners q kind i (Some x) first all = record { waits = first.0; least = λ k w e. below k w e (below-or k i) }
-  where
-    below-or : (k i : ℕ) → (k < i) ⊎ (i ≤ k)
-    below-or k i = grind arith
-
-    below : (k w : ℕ) → pending_in owners k q kind ≡ Some w → ((k < i) ⊎ (i ≤ k)) → x.1 ≤ w
-    below k w e (inl lt) = first.1 k w lt e
-    below k w e (inr ge) = absurd (let none : pending_in owners k q kind ≡ None = pending_in-past owners k q kind (omega arith) in cc)
+first-some owners q kind i o first all = grind (arith, pending_in-past)
 
 pub no-wait : (o : Option OpenWait) → option_map (λ w. w.place) o ≡ None → o ≡ None
-no-wait None e = refl
-no-wait (Some w) e = absurd (cc)
+no-wait o e = grind arith
 
 count-unset : (owners : List Owner) (p : ℕ) (w : OpenWait) (f : Owner → Owner) → ((o : Owner) → (f o).wait ≡ None) → wait_in owners p ≡ Some w → count (changed f owners p) + 1 ≡ count owners
 unfolding wait_in

@@ -1,6 +1,6 @@
 -- The table of processes remains that of the journal when it is updated for each entry.
-use Rattle.std.proofs.Common.{◌≡◌, ℕ, suc, ◌+◌, ◌<◌, ◌≤◌, ◌==◌, Bool, true, false, List, [], ◌∷◌, length, Option, Some, None, is_some, is_none, if◌then◌else◌, refl, sym, ◌∙◌, ap, subst, arith, eqb-true, eq-eqb, ne_eqb, ◌⊎◌, inl, inr, zero, get_or}
-use Rattle.std.specs.Prelude.{slice_get}
+use Rattle.std.proofs.lemmas.Bool.Decides.{nat_tests}
+use Rattle.std.proofs.Common.{◌≡◌, ℕ, suc, ◌+◌, ◌<◌, ◌≤◌, ◌==◌, Bool, true, false, List, [], ◌∷◌, length, Option, Some, None, is_some, if◌then◌else◌, refl, sym, ◌∙◌, ap, subst, arith, eqb-true, eq-eqb, ◌⊎◌, inl, inr, zero, get_or, slice_get}
 use Rattle.std.specs.Option.{option_map, option_and_then}
 use Rattle.std.specs.List.{position_from}
 use Rattle.std.proofs.lemmas.List.Quantifiers.{position-Some}
@@ -9,7 +9,7 @@ use Rattle.std.proofs.lemmas.Option.{slice_get-get_or, slice_get_past}
 use Rattle.std.proofs.lemmas.Bool.{eqb-false}
 use Rattle.mq_model.specs.Record.{Record, Past}
 use Rattle.mq_model.specs.Descriptors.{held, held_after, description, with_nonblock, opened_queue, called_queue, is_place}
-use Rattle.mq_model.specs.Messages.{is_in, is_send, is_receive, least}
+use Rattle.mq_model.specs.Messages.{least}
 use Rattle.mq_model.specs.Deadlines.{deadline_of}
 use Rattle.mq_model.specs.Waits.{is_wait, named_wait, names_wait, open_wait, answered_by}
 use Rattle.mq_model.specs.Legality.{Legal, IsLegalNext, may_call, reply_to}
@@ -24,7 +24,7 @@ use Rattle.mq_model.specs.declared.entries.OpenFlags.{OpenFlags}
 use Rattle.mq_model.specs.declared.faults.Fault.TheVariants.{BadDescriptor}
 use Rattle.mq_model.specs.declared.entries.Description.{Description}
 use Rattle.mq_model.specs.declared.entries.Call.{Call}
-use Rattle.mq_model.specs.declared.entries.Call.TheVariants.{MqOpen, MqClose, MqUnlink, MqSend, MqReceive, MqGetattr, MqSetattr, MqNotify, NextNotice, Collect, MqTimedSend, MqTimedReceive, Withdraw}
+use Rattle.mq_model.specs.declared.entries.Call.TheVariants.{MqOpen, MqClose, MqSend, MqReceive, MqSetattr, NextNotice, Collect, MqTimedSend, MqTimedReceive, Withdraw}
 use Rattle.mq_model.specs.declared.entries.Reply.{Reply}
 use Rattle.mq_model.specs.declared.entries.Reply.TheVariants.{Opened, Queued, Handed, Waits, Got, Collected, Attrs, Notice, Done, Refused, Withdrawn}
 use Rattle.mq_model.proofs.Places.{split, clash}
@@ -45,10 +45,6 @@ rec p call reply payload = record { entry = record { process = p; call = call; r
 abbrev until_of : Option OpenWait → Option Deadline
 until_of wait = option_and_then (λ (w : OpenWait). w.until) wait
 
-none-of : (o : Option ℕ) → is_none o ≡ true → o ≡ None
-none-of None e = refl
-none-of (Some w) e = absurd (let bad : false ≡ true = e in cc)
-
 -- the reply of a call that ends a wait
 abbrev pub ends_wait : Reply → Bool
 ends_wait (Collected by) = true
@@ -57,23 +53,14 @@ ends_wait reply = false
 
 -- a process that makes another call than a collect or a withdrawal has no open wait
 pub turn-none : (past : Past) (p : ℕ) (call : Call) (reply : Reply) → Says past p call reply → may_call past p call ≡ true → ends_wait reply ≡ false → open_wait past p ≡ None
-turn-none past p Collect reply says turn not = let bad : true ≡ false = rw says at not in absurd (cc)
-turn-none past p (Withdraw now) reply says turn not = let bad : true ≡ false = rw says at not in absurd (cc)
-turn-none past p call reply says turn not = none-of (open_wait past p) turn
+turn-none past p call reply says turn not = grind arith
 
 names-nothing : (reply : Reply) → named_wait reply ≡ None → (o : Option ℕ) → names_wait reply o ≡ false
-names-nothing reply e None = refl
-names-nothing reply e (Some w) = rw e refl
+names-nothing reply e o = grind arith
 
 -- a reply that names the open wait of a process names no other
 names-one : (past : Past) (reply : Reply) (receiver w : ℕ) → named_wait reply ≡ Some w → open_wait past receiver ≡ Some w → (k : ℕ) → names_wait reply (open_wait past k) ≡ (receiver == k)
-names-one past reply receiver w named open_at k = by (open_wait past k) refl
-  where
-    by : (o : Option ℕ) → open_wait past k ≡ o → names_wait reply o ≡ (receiver == k)
-    by None e = sym (ne_eqb receiver k (λ same. let here : open_wait past receiver ≡ None = rw same e in cc))
-    by (Some v) e = rw named (split (w == v)
-        (λ t. let same : w ≡ v = eqb-true _ _ t in let at : open_wait past k ≡ Some w = rw same e in rw t (sym (eq-eqb receiver k (same-waiter past receiver k w open_at at))))
-        (λ f. rw f (sym (ne_eqb receiver k (λ same. let at : open_wait past receiver ≡ Some v = rw same e in let clashes : Some w ≡ Some v = sym open_at ∙ at in eqb-false _ _ f (cc))))))
+names-one past reply receiver w named open_at k = grind (arith, eqb-true, eq-eqb, same-waiter, eqb-false)
 
 -- a record that names no wait answers none
 answered-same : (past : Past) (r : Record) → open_wait past r.entry.process ≡ None → named_wait r.entry.reply ≡ None → (k : ℕ) → answered_by (r ∷ past) k ≡ answered_by past k
@@ -114,12 +101,7 @@ keep-slot past owners m p call reply payload d v lt changes =
     let r : Record = rec p call reply payload in
     record {
       slots = slots-with_slot owners p d v m.slots;
-      held = λ k e. held_in-with_slot owners p d k e v m.slots lt changes.number ∙ split (p == k)
-          (λ t. let same : p ≡ k = eqb-true _ _ t in
-          let P : ℕ → Type 0 = λ j. (if d == e then v else held_in owners j e) ≡ held_after past call payload reply e (held past j e) in
-          let at : P p = ap (λ o. if d == e then v else o) (m.held p e) ∙ sym (changes.descriptors e) in
-          rw t (subst P same at))
-          (λ f. rw f (m.held k e));
+      held = grind (arith, nat_tests, held_in-with_slot, eqb-true);
       waits = λ k. ap (option_map (λ (w : OpenWait). w.place)) (wait_in-with_slot owners p d k v) ∙ m.waits k ∙ sym (open_wait-same past r changes.free changes.goes k);
       blocked = λ k w e. blocked-older past r w.kind w.queue w.place (m.blocked k w (sym (wait_in-with_slot owners p d k v) ∙ e));
       deadlines = λ k. ap until_of (wait_in-with_slot owners p d k v) ∙ m.deadlines k ∙ sym (wait_deadline-same past r changes.free changes.goes k);
@@ -144,74 +126,16 @@ keep-answer past owners m p call reply payload receiver w free goes named same o
 -- the process waits no longer
 keep-ended : (past : Past) (owners : List Owner) → OwnersMirror past owners → (p : ℕ) (call : Call) (reply : Reply) (payload : List ℕ) → is_wait reply ≡ false → named_wait reply ≡ None → ((d : ℕ) (before : Option Description) → held_after past call payload reply d before ≡ before) → p < length owners →
     OwnersMirror (rec p call reply payload ∷ past) (with_wait owners p None)
-keep-ended past owners m p call reply payload goes none same lt =
-    let r : Record = rec p call reply payload in
-    record {
-      slots = slots-with_wait owners p None m.slots;
-      held = λ k d. held_in-with_wait owners p None k d ∙ m.held k d ∙ sym (held-quiet past r (λ d. same d (held past p d)) k d);
-      waits = λ k. ap (option_map (λ (w : OpenWait). w.place)) (wait_in-with_wait owners p None k lt) ∙ split (p == k) (λ t. rw (t, goes) refl) (λ f. rw f (m.waits k));
-      blocked = λ k w e. blocked-older past r w.kind w.queue w.place (m.blocked k w (still k w e));
-      deadlines = λ k. ap until_of (wait_in-with_wait owners p None k lt) ∙ split (p == k) (λ t. rw (t, goes) refl) (λ f. rw f (m.deadlines k));
-      answers = λ k. answer_in-with_wait owners p None k lt ∙ split (p == k) (λ t. rw t refl) (λ f. rw f (m.answers k ∙ unnamed k));
-    }
-  where
-    still : (k : ℕ) (w : OpenWait) → wait_in (with_wait owners p None) k ≡ Some w → wait_in owners k ≡ Some w
-    still k w e = let at : (if p == k then None else wait_in owners k) ≡ Some w = sym (wait_in-with_wait owners p None k lt) ∙ e in
-        split (p == k) (λ t. let bad : None ≡ Some w = rw t at at in absurd (cc)) (λ f. rw f at at)
-
-    unnamed : (k : ℕ) → answered_by past k ≡ (if names_wait reply (open_wait past k) then Some (length past) else answered_by past k)
-    unnamed k = rw (names-nothing reply none (open_wait past k)) refl
-
-blocked-newest : (past : Past) (p : ℕ) (call : Call) (payload : List ℕ) (q : ℕ) → called_queue past p call ≡ Some q → ((is_send call ≡ true) ⊎ (is_receive call ≡ true)) → is_in (blocked (rec p call Waits payload ∷ past) (wait_kind call) q) (length past) ≡ true
-blocked-newest past p (MqSend d prio len) payload q on kind = rw (on, eq-eqb q q refl, eq-eqb (length past) (length past) refl) refl
-blocked-newest past p (MqTimedSend d prio len until now) payload q on kind = rw (on, eq-eqb q q refl, eq-eqb (length past) (length past) refl) refl
-blocked-newest past p (MqReceive d room) payload q on kind = rw (on, eq-eqb q q refl, eq-eqb (length past) (length past) refl) refl
-blocked-newest past p (MqTimedReceive d room until now) payload q on kind = rw (on, eq-eqb q q refl, eq-eqb (length past) (length past) refl) refl
-blocked-newest past p call payload q on (inl e) = absurd (cc)
-blocked-newest past p call payload q on (inr e) = absurd (cc)
-
-waits-kind : (past : Past) (p : ℕ) (call : Call) → Says past p call Waits → (is_send call ≡ true) ⊎ (is_receive call ≡ true)
-waits-kind past p (MqClose d) says = absurd says.0
-waits-kind past p (MqSend d prio len) says = inl refl
-waits-kind past p (MqTimedSend d prio len until now) says = inl refl
-waits-kind past p (MqReceive d room) says = inr refl
-waits-kind past p (MqTimedReceive d room until now) says = inr refl
-waits-kind past p NextNotice says = absurd (cc)
-waits-kind past p Collect says = absurd (cc)
-waits-kind past p (Withdraw now) says = absurd (cc)
-waits-kind past p call says = absurd says
+keep-ended past owners m p call reply payload goes none same lt = grind (arith, slots-with_wait, held_in-with_wait, held-quiet, wait_in-with_wait, blocked-older, answer_in-with_wait, names-nothing)
 
 keep-waits : (past : Past) (owners : List Owner) → OwnersMirror past owners → (p : ℕ) (call : Call) (payload : List ℕ) (q : ℕ) → Says past p call Waits → open_wait past p ≡ None → called_queue past p call ≡ Some q → p < length owners →
     OwnersMirror (rec p call Waits payload ∷ past) (with_wait owners p (Some (record { place = length past; queue = q; kind = wait_kind call; until = deadline_of call })))
-keep-waits past owners m p call payload q says free on lt =
-    let r : Record = rec p call Waits payload in
-    let wait : OpenWait = record { place = length past; queue = q; kind = wait_kind call; until = deadline_of call } in
-    record {
-      slots = slots-with_wait owners p (Some wait) m.slots;
-      held = λ k d. held_in-with_wait owners p (Some wait) k d ∙ m.held k d ∙ sym (held-quiet past r (λ d. refl) k d);
-      waits = λ k. ap (option_map (λ (w : OpenWait). w.place)) (wait_in-with_wait owners p (Some wait) k lt) ∙ split (p == k) (λ t. rw t refl) (λ f. rw f (m.waits k));
-      blocked = λ k w e. stands k w (sym (wait_in-with_wait owners p (Some wait) k lt) ∙ e);
-      deadlines = λ k. ap until_of (wait_in-with_wait owners p (Some wait) k lt) ∙ split (p == k) (λ t. rw t refl) (λ f. rw f (m.deadlines k));
-      answers = λ k. answer_in-with_wait owners p (Some wait) k lt ∙ split (p == k) (λ t. rw t refl) (λ f. rw f (m.answers k ∙ unnamed k));
-    }
-  where
-    unnamed : (k : ℕ) → answered_by past k ≡ (if names_wait Waits (open_wait past k) then Some (length past) else answered_by past k)
-    unnamed k = rw (names-nothing Waits refl (open_wait past k)) refl
-
-    stands : (k : ℕ) (w : OpenWait) → (if p == k then Some (record { place = length past; queue = q; kind = wait_kind call; until = deadline_of call }) else wait_in owners k) ≡ Some w → is_in (blocked (rec p call Waits payload ∷ past) w.kind w.queue) w.place ≡ true
-    stands k w e = split (p == k)
-        (λ t. let it : Some (record { place = length past; queue = q; kind = wait_kind call; until = deadline_of call }) ≡ Some w = rw t at e in
-        let same : record { place = length past; queue = q; kind = wait_kind call; until = deadline_of call } ≡ w = cc in
-        let P : OpenWait → Type 0 = λ w. is_in (blocked (rec p call Waits payload ∷ past) w.kind w.queue) w.place ≡ true in
-        subst P same (blocked-newest past p call payload q on (waits-kind past p call says)))
-        (λ f. let old : wait_in owners k ≡ Some w = rw f at e in blocked-older past (rec p call Waits payload) w.kind w.queue w.place (m.blocked k w old))
+keep-waits past owners m p call payload q says free on lt = grind (arith, slots-with_wait, held_in-with_wait, held-quiet, wait_in-with_wait, answer_in-with_wait, names-nothing, blocked-older)
 
 -- the process found is the one that waits since this place
 none-passes : (t : Owner → Bool) (owners : List Owner) (i : ℕ) → position_from t i owners ≡ None → (k : ℕ) (o : Owner) → slice_get owners k ≡ Some o → t o ≡ false
 none-passes t [] i e k o is = absurd (cc)
-none-passes t (x ∷ owners) i e zero o is = split (t x)
-    (λ y. let bad : Some i ≡ None = rw y at e in absurd (cc))
-    (λ n. let same : x ≡ o = cc in rw (← same) n)
+none-passes t (x ∷ owners) i e zero o is = grind arith
 none-passes t (x ∷ owners) i e (suc k) o is = split (t x)
     (λ y. let bad : Some i ≡ None = rw y at e in absurd (cc))
     (λ n. let rest : position_from t (i + 1) owners ≡ None = rw n at e in none-passes t owners (i + 1) rest k o is)
@@ -295,27 +219,17 @@ after-open past p flags attr payload d created q same e = rw same refl
 
 after-flag : (past : Past) (owners : List Owner) → OwnersMirror past owners → (p d : ℕ) (nonblock : Bool) (payload : List ℕ) (s : Status) (e : ℕ) →
     held_after past (MqSetattr d nonblock) payload (Attrs s) e (held past p e) ≡ (if d == e then option_map (with_nonblock nonblock) (held_in owners p d) else held past p e)
-after-flag past owners m p d nonblock payload s e = split (d == e)
-    (λ t. let same : d ≡ e = eqb-true _ _ t in rw t (ap (option_map (with_nonblock nonblock)) (sym (m.held p e) ∙ ap (held_in owners p) (sym same))))
-    (λ f. rw f refl)
+after-flag past owners m p d nonblock payload s e = grind (arith, eqb-true)
 
 -- what the replies Done and Attrs say of the descriptor of a close or a setattr
 close-held : (past : Past) (p d : ℕ) (payload : List ℕ) (s : Reply) → reply_to past p (MqClose d) payload ≡ Done → is_some (held past p d) ≡ true
 close-held past p d payload s e = split (is_some (held past p d)) (λ t. t) (λ f. let bad : Refused BadDescriptor ≡ Done = rw f at e in absurd (cc))
 
 setattr-held : (past : Past) (p d : ℕ) (nonblock : Bool) (payload : List ℕ) (s : Status) → reply_to past p (MqSetattr d nonblock) payload ≡ Attrs s → is_some (held past p d) ≡ true
-setattr-held past p d nonblock payload s e = by (held past p d) refl
-  where
-    by : (o : Option Description) → held past p d ≡ o → is_some (held past p d) ≡ true
-    by None is = absurd (let bad : Refused BadDescriptor ≡ Attrs s = rw is at e in cc)
-    by (Some h) is = rw is refl
+setattr-held past p d nonblock payload s e = grind arith
 
 held-small : (past : Past) (owners : List Owner) → OwnersMirror past owners → (p d : ℕ) → is_some (held past p d) ≡ true → d < 16
-held-small past owners m p d e = by (held past p d) refl e
-  where
-    by : (o : Option Description) → held past p d ≡ o → is_some (held past p d) ≡ true → d < 16
-    by None is e = absurd (let bad : false ≡ true = rw is at e in cc)
-    by (Some h) is e = held_in-number owners p d h m.slots (m.held p d ∙ is)
+held-small past owners m p d e = grind (arith, held_in-number)
 
 quiet : (past : Past) (p : ℕ) (call : Call) (reply : Reply) (payload : List ℕ) → open_wait past p ≡ None → is_wait reply ≡ false → named_wait reply ≡ None → ((d : ℕ) → held_after past call payload reply d (held past p d) ≡ held past p d) → IsQuiet past p call reply payload
 quiet past p call reply payload free goes unnamed same = record { free = free; goes = goes; unnamed = unnamed; descriptors = same }
@@ -329,8 +243,7 @@ keep-opened past owners m p call payload d created q is free lt at = keep-quiet 
 
 keep-done : (past : Past) (owners : List Owner) → OwnersMirror past owners → (p : ℕ) (call : Call) (payload : List ℕ) → Done ≡ reply_to past p call payload → open_wait past p ≡ None → p < length owners →
     OwnersMirror (rec p call Done payload ∷ past) (noted_done owners p call)
-keep-done past owners m p (MqClose d) payload is free lt =
-    keep-slot past owners m p (MqClose d) Done payload d None lt (record { free = free; goes = refl; unnamed = refl; number = held-small past owners m p d (close-held past p d payload Done (sym is)); descriptors = λ e. refl })
+keep-done past owners m p (MqClose d) payload is free lt = grind (arith, keep-slot, held-small, close-held)
 keep-done past owners m p call payload is free lt = keep-quiet past owners m p call Done payload (quiet past p call Done payload free refl refl (λ d. refl))
 
 keep-attributes : (past : Past) (owners : List Owner) → OwnersMirror past owners → (p : ℕ) (call : Call) (s : Status) (payload : List ℕ) → Attrs s ≡ reply_to past p call payload → open_wait past p ≡ None → p < length owners →

@@ -1,16 +1,13 @@
 -- The table of processes without descriptors and waits.
-use Rattle.std.proofs.Common.{◌≡◌, ℕ, zero, suc, [], length, replicate, Option, Some, None, refl, sym, ◌∙◌, ap}
-use Rattle.std.specs.Prelude.{slice_get}
-use Rattle.std.specs.Option.{option_map, option_and_then, unwrap_or}
+use Rattle.std.proofs.Common.{◌≡◌, ℕ, zero, suc, [], length, replicate, Option, Some, None, refl, sym, ap, arith, slice_get}
+use Rattle.std.specs.Option.{option_and_then, unwrap_or}
 use Rattle.mq_model.specs.Owners.{held_in, wait_in, answer_in, free_owner, slot_of, OwnersMirror}
 use Rattle.mq_model.specs.declared.entries.Description.{Description}
-use Rattle.mq_model.specs.declared.owners.OpenWait.{OpenWait}
 use Rattle.mq_model.specs.declared.owners.Owner.{Owner}
 
 none-there : (m d : ℕ) → unwrap_or (slice_get (replicate {A = Option Description} m None) d) None ≡ None
-none-there zero d = refl
-none-there (suc m) zero = refl
 none-there (suc m) (suc d) = none-there m d
+none-there _ _ = refl
 
 read-free : {X : Type 0} (g : Owner → Option X) → g free_owner ≡ None → (m p : ℕ) → option_and_then g (slice_get (replicate m free_owner) p) ≡ None
 read-free g e zero p = refl
@@ -36,11 +33,4 @@ slots-free (suc m) (suc p) o e = slots-free m p o e
 
 -- the table of processes without descriptors and waits is that of the empty journal
 pub owners-start : (m : ℕ) → OwnersMirror [] (replicate m free_owner)
-owners-start m = record {
-  slots = λ p o e. slots-free m p o e;
-  held = λ p d. held-free m p d;
-  waits = λ p. ap (option_map (λ (w : OpenWait). w.place)) (wait-free m p);
-  blocked = λ p w e. absurd (let bad : None ≡ Some w = sym (wait-free m p) ∙ e in cc);
-  deadlines = λ p. ap (option_and_then (λ (w : OpenWait). w.until)) (wait-free m p);
-  answers = λ p. answer-free m p;
-}
+owners-start m = grind (arith, slots-free, held-free, wait-free, answer-free)

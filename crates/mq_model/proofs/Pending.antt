@@ -1,20 +1,20 @@
 -- The waits in a table of processes are those that the definitions give.
-use Rattle.std.proofs.Common.{◌≡◌, ℕ, ◌==◌, true, false, ◌&&◌, not, List, Option, Some, None, refl, sym, ◌∙◌, ap, eqb-true, eq-eqb}
+use Rattle.std.proofs.lemmas.Bool.Decides.{nat_tests}
+use Rattle.std.proofs.Common.{◌≡◌, ℕ, ◌==◌, true, ◌&&◌, not, List, Option, Some, None, refl, sym, ◌∙◌, ap, eqb-true, eq-eqb, arith}
 use Rattle.std.specs.List.{filter}
 use Rattle.std.specs.Option.{option_map}
 use Rattle.std.proofs.lemmas.Bool.{and_parts}
 use Rattle.mq_model.specs.Record.{Past}
 use Rattle.mq_model.specs.Messages.{is_in, least}
-use Rattle.mq_model.specs.Waits.{open_wait, answered_by}
 use Rattle.mq_model.specs.Legality.{Legal}
 use Rattle.mq_model.specs.Owners.{wait_in, answer_in, pending, pending_in, is_kind, IsFirstWait, OwnersMirror, blocked, waiting}
 use Rattle.mq_model.specs.declared.owners.OpenWait.{OpenWait}
 use Rattle.mq_model.specs.declared.owners.Owner.{Owner}
 use Rattle.mq_model.proofs.Places.{split, is_in-filter}
 use Rattle.mq_model.proofs.NamedWaits.{blocked-once}
-use Rattle.mq_model.proofs.Waiters.{ended_waits, waiting-filter, in-filter, waiter, unnamed, least-none, least-some}
+use Rattle.mq_model.proofs.Waiters.{ended_waits, waiting-filter, waiter, unnamed, least-none, least-some}
 use Rattle.mq_model.specs.declared.owners.WaitKind.{WaitKind}
-use Rattle.mq_model.specs.declared.owners.WaitKind.TheVariants.{Send, Receive}
+use Rattle.mq_model.proofs.HeldQueues.{in-filter}
 
 -- what a pending wait is
 record IsPending (owners : List Owner) (p q : ℕ) (kind : WaitKind) (w : ℕ) : Type 0 where
@@ -26,9 +26,7 @@ record IsPending (owners : List Owner) (p q : ℕ) (kind : WaitKind) (w : ℕ) :
   of_kind : wait.kind ≡ kind
 
 is_kind-same : (s t : WaitKind) → is_kind s t ≡ true → t ≡ s
-is_kind-same Send Receive e = absurd (cc)
-is_kind-same Receive Send e = absurd (cc)
-is_kind-same other it e = refl
+is_kind-same s t e = grind arith
 
 is_pending : (owners : List Owner) (p q : ℕ) (kind : WaitKind) (w : ℕ) → pending_in owners p q kind ≡ Some w → IsPending owners p q kind w
 unfolding pending_in
@@ -43,8 +41,7 @@ is_pending owners p q kind w e = by (wait_in owners p) refl (answer_in owners p)
         (λ f. let same : None ≡ Some w = rw f at e in absurd (cc))
 
 is_kind-self : (s : WaitKind) → is_kind s s ≡ true
-is_kind-self Send = refl
-is_kind-self Receive = refl
+is_kind-self s = grind arith
 
 pending-is : (owners : List Owner) (p q : ℕ) (kind : WaitKind) (w : ℕ) (y : OpenWait) → wait_in owners p ≡ Some y → answer_in owners p ≡ None → y.place ≡ w → y.queue ≡ q → y.kind ≡ kind → pending_in owners p q kind ≡ Some w
 unfolding pending_in
@@ -53,13 +50,7 @@ pending-is owners p q kind w y is none place queue of_kind = rw (is, none, queue
 pub pending-waits : (past : Past) (owners : List Owner) → OwnersMirror past owners → Legal past → (p q : ℕ) (kind : WaitKind) (w : ℕ) → pending_in owners p q kind ≡ Some w → is_in (waiting past kind q) w ≡ true
 pending-waits past owners m legal p q kind w e =
     let x = is_pending owners p q kind w e in
-    let P : ℕ → Type 0 = λ k. open_wait past p ≡ Some k in
-    let open_at : open_wait past p ≡ Some x.wait.place = sym (m.waits p) ∙ ap (option_map (λ (y : OpenWait). y.place)) x.is in
-    let unanswered : answered_by past p ≡ None = sym (m.answers p) ∙ x.open_still in
-    let free : is_in (ended_waits past kind) x.wait.place ≡ false = unnamed past legal p x.wait.place open_at unanswered kind in
-    let stands : is_in (blocked past x.wait.kind x.wait.queue) x.wait.place ≡ true = m.blocked p x.wait x.is in
-    let stands' : is_in (blocked past kind q) x.wait.place ≡ true = rw (x.of_kind, x.queue) at stands in
-    rw (waiting-filter past kind q, ← x.place) (in-filter _ (blocked past kind q) x.wait.place stands' (rw free refl))
+    grind (arith, nat_tests, ended_waits, unnamed, waiting-filter, in-filter)
 
 pub waits-pending : (past : Past) (owners : List Owner) → OwnersMirror past owners → Legal past → (q : ℕ) (kind : WaitKind) (w : ℕ) → is_in (waiting past kind q) w ≡ true → (p : ℕ) × (pending_in owners p q kind ≡ Some w)
 waits-pending past owners m legal q kind w h =
@@ -84,5 +75,4 @@ least-pending past owners m legal q kind p w first =
     (λ k h. let x = waits-pending past owners m legal q kind k h in first.least x.0 k x.1)
 
 pub no-pending : (past : Past) (owners : List Owner) → OwnersMirror past owners → Legal past → (q : ℕ) (kind : WaitKind) → ((p : ℕ) → pending_in owners p q kind ≡ None) → least (waiting past kind q) ≡ None
-no-pending past owners m legal q kind none =
-    least-none (waiting past kind q) (λ k h. let x = waits-pending past owners m legal q kind k h in let a : Some k ≡ None = sym x.1 ∙ none x.0 in cc)
+no-pending past owners m legal q kind none = grind (arith, least-none, waits-pending)

@@ -1,13 +1,12 @@
 -- Facts on lists of places.
-use Rattle.std.proofs.Common.{◌≡◌, ℕ, ◌==◌, Bool, true, false, ◌||◌, List, [], ◌∷◌, Option, Some, None, refl, arith}
+use Rattle.std.proofs.Common.{◌≡◌, ℕ, ◌==◌, Bool, true, false, ◌||◌, List, [], ◌∷◌, Option, Some, refl, arith}
 use Rattle.std.specs.List.{filter, find}
 use Rattle.std.proofs.lemmas.Bool.Decides.{nat_tests}
 use Rattle.mq_model.specs.Messages.{is_in, with_place}
 
 -- a claim by whether a test holds
 pub split : {C : Type 0} (b : Bool) → (b ≡ true → C) → (b ≡ false → C) → C
-split true t f = t refl
-split false t f = f refl
+split b t f = grind arith
 
 pub same_place : (i j : ℕ) → (i == j) ≡ true → i ≡ j
 same_place i j h = grind (arith, nat_tests)
@@ -39,5 +38,4 @@ find-in t (x ∷ xs) m h =
     eqb-same m xs = let e : (m == m) ≡ true = grind (arith, nat_tests) in rw e refl
 
 pub is_in-with_place : (o : Option ℕ) (xs : List ℕ) (m : ℕ) → is_in xs m ≡ true → is_in (with_place o xs) m ≡ true
-is_in-with_place None xs m h = h
-is_in-with_place (Some k) xs m h = split (k == m) (λ here. rw here refl) (λ other. rw (other, h) refl)
+is_in-with_place o xs m h = grind arith

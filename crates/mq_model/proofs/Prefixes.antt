@@ -1,6 +1,7 @@
 -- The first records of a journal.
-use Rattle.std.proofs.Common.{◌≡◌, ℕ, suc, ◌+◌, ◌-◌, ◌<◌, ◌≤◌, ◌==◌, false, [], ◌∷◌, length, Option, Some, refl, ap, ◌∙◌, arith, length-drop, eqb-true, ne_eqb, leb-true, leb-false}
-use Rattle.std.specs.Prelude.{nat_le}
+use Rattle.std.proofs.lemmas.Bool.Decides.{nat_tests}
+use Rattle.std.proofs.lemmas.Grind.{common_steps}
+use Rattle.std.proofs.Common.{◌≡◌, ℕ, suc, ◌+◌, ◌-◌, ◌<◌, ◌≤◌, ◌==◌, false, [], ◌∷◌, length, Option, Some, refl, arith, length-drop, eqb-true, ne_eqb, leb-true, leb-false, nat_le}
 use Rattle.std.proofs.lemmas.List.{drop_all}
 use Rattle.std.proofs.lemmas.Bool.{eqb-false}
 use Rattle.mq_model.specs.Record.{Record, Past, record_at, first}
@@ -26,12 +27,7 @@ pub first-more : (past : Past) (k : ℕ) (r : Record) → record_at past k ≡ S
 first-more [] k r h = absurd (cc)
 first-more (s ∷ past) k r h =
     split (k == length past)
-    (λ t. let e : k ≡ length past = eqb-true _ _ t in
-    let same : Some s ≡ Some r = rw t at h in
-    let is : s ≡ r = cc in
-    let none : suc (length past) - (k + 1) ≡ 0 = omega arith in
-    let one : suc (length past) - k ≡ 1 = omega arith in
-    rw (none, one, is) refl)
+    (λ t. grind (arith, nat_tests, eqb-true))
     (λ f. let old : record_at past k ≡ Some r = rw f at h in
     let below : k < length past = record_at-below past k r old in
     let more : suc (length past) - (k + 1) ≡ suc (length past - (k + 1)) = omega arith in
@@ -50,24 +46,11 @@ record_at-first (s ∷ past) k q lt le =
     let other : (q == length past) ≡ false = ne_eqb _ _ (λ e. omega arith) in
     rw (less, other) (record_at-first past k q lt (omega arith)))
 
-record-exists : (past : Past) (q : ℕ) → q < length past → (r : Record) × (record_at past q ≡ Some r)
-record-exists [] q lt = absurd (omega arith)
-record-exists (s ∷ past) q lt =
-    split (q == length past)
-    (λ here. (s, rw here refl))
-    (λ there. let ne : q ≡ length past → ⊥ = eqb-false _ _ there in let old = record-exists past q (omega arith) in (old.0, rw there old.1))
-
 pub record_at-of_first : (past : Past) (k q : ℕ) (r : Record) → first (q + 1) past ≡ r ∷ first q past → q < k → k ≤ length past → record_at (first k past) q ≡ Some r
-record_at-of_first past k q r is lt le =
-    let found = record-exists past q (omega arith) in
-    let more : first (q + 1) past ≡ found.0 ∷ first q past = first-more past q found.0 found.1 in
-    let same : found.0 ≡ r = cc in
-    record_at-first past k q lt le ∙ found.1 ∙ ap Some same
+record_at-of_first past k q r is lt le = grind (arith, common_steps, first-more, record_at-first)
 
 pub named_is : (past : Past) (k q : ℕ) (r : Record) (o : Option ℕ) → first (q + 1) past ≡ r ∷ first q past → q < k → k ≤ length past → o ≡ bound_queue (first k past) r.payload → is_place q o ≡ is_named (first k past) q
-named_is past k q r o is lt le e =
-    let here = record_at-of_first past k q r is lt le in
-    rw (e, here) refl
+named_is past k q r o is lt le e = grind (arith, record_at-of_first)
 
 -- the first records, as many as there are, are all of them
 pub first-all : (past : Past) (k : ℕ) → k ≡ length past → first k past ≡ past

@@ -1,4 +1,5 @@
 -- What a receive and a hand-over leave in the queues.
+use Rattle.std.proofs.lemmas.Bool.Decides.{nat_tests}
 use Rattle.std.proofs.Common.{◌≡◌, ◌≢◌, ℕ, ◌<◌, ◌≤◌, ◌==◌, true, false, ◌&&◌, ◌||◌, not, List, [], ◌∷◌, length, Option, Some, None, if◌then◌else◌, refl, sym, ◌∙◌, ap, subst, arith, eqb-true, eq-eqb, ne_eqb, ◌⊎◌, inl, inr}
 use Rattle.std.specs.List.{filter}
 use Rattle.std.specs.Option.{option_map, unwrap_or}
@@ -9,8 +10,8 @@ use Rattle.mq_model.specs.Messages.{is_in, with_place, if_in, queues, admits, en
 use Rattle.mq_model.specs.Legality.{Legal}
 use Rattle.mq_model.specs.declared.entries.Call.{Call}
 use Rattle.mq_model.specs.declared.entries.Reply.{Reply}
-use Rattle.mq_model.specs.declared.entries.Reply.TheVariants.{Opened, Queued, Handed, Waits, Got, Collected, Attrs, Notice, Done, Refused, Withdrawn}
-use Rattle.mq_model.proofs.Places.{split, clash, is_in-filter, find-in}
+use Rattle.mq_model.specs.declared.entries.Reply.TheVariants.{Queued, Handed, Waits, Got}
+use Rattle.mq_model.proofs.Places.{split, clash, is_in-filter, find-in, is_in-with_place}
 use Rattle.mq_model.proofs.Cases.{Says}
 use Rattle.mq_model.proofs.LegalReplies.{legal_says, got_says}
 use Rattle.mq_model.proofs.Frames.{filter-same, record_at-older}
@@ -26,8 +27,7 @@ abbrev pub reply_at : Past → ℕ → Option Reply
 reply_at past m = option_map (λ r. r.entry.reply) (record_at past m)
 
 pub place-is : (o : Option ℕ) (q : ℕ) → is_place q o ≡ true → o ≡ Some q
-place-is None q e = absurd (cc)
-place-is (Some k) q e = ap Some (eqb-true _ _ e)
+place-is o q e = grind (arith, eqb-true)
 
 sent_to-older : (past : Past) (r : Record) (m : ℕ) → m < length past → sent_to (r ∷ past) m ≡ sent_to past m
 sent_to-older past r m lt = rw (ne_eqb m (length past) (λ e. omega arith)) refl
@@ -37,10 +37,6 @@ reply_at-older past r m lt = ap (option_map (λ (x : Record). x.entry.reply)) (r
 
 reply_at-newest : (past : Past) (r : Record) → reply_at (r ∷ past) (length past) ≡ Some r.entry.reply
 reply_at-newest past r = rw (eq-eqb (length past) (length past) refl) refl
-
-blocks-reply : (call : Call) (reply : Reply) → blocks_send call reply ≡ true → reply ≡ Waits
-blocks-reply call Waits e = refl
-blocks-reply call reply e = absurd (cc)
 
 -- a blocked send is on its queue, and has the reply Waits
 pub record IsBlockedOn (past : Past) (q w : ℕ) : Type 0 where
@@ -53,34 +49,24 @@ blocked-on (r ∷ past) q w h = split (blocks_send r.entry.call r.entry.reply &&
     (λ t. let new : (length past == w || is_in (blocked_sends past q) w) ≡ true = rw t at h in
     let parts = and_parts (blocks_send r.entry.call r.entry.reply) (is_on past r.entry q) t in
     split (length past == w)
-    (λ e. let same : length past ≡ w = eqb-true _ _ e in
-    record {
-      to = rw (← same, eq-eqb (length past) (length past) refl) (place-is _ q parts.1);
-      reply = rw (← same) (reply_at-newest past r ∙ ap Some (blocks-reply r.entry.call r.entry.reply parts.0));
-    })
+    (λ e. grind (arith, nat_tests, eqb-true, eq-eqb, place-is, reply_at-newest))
     (λ n. older (blocked-on past q w (rw n at new)) (blocked_sends-below past q w (rw n at new))))
     (λ f. older (blocked-on past q w (rw f at h)) (blocked_sends-below past q w (rw f at h)))
   where
     older : IsBlockedOn past q w → w < length past → IsBlockedOn (r ∷ past) q w
     older x lt = record { to = sent_to-older past r w lt ∙ x.to; reply = reply_at-older past r w lt ∙ x.reply }
 
-queues-reply : (call : Call) (reply : Reply) → queues call reply ≡ true → (n : Option ℕ) × (reply ≡ Queued n)
-queues-reply call (Queued n) e = (n, refl)
-queues-reply call reply e = absurd (cc)
+pub queues-reply : (call : Call) (reply : Reply) → queues call reply ≡ true → (n : Option ℕ) × (reply ≡ Queued n)
+queues-reply call reply e = grind arith
 
 -- a reply that admits a waiting send ends its wait
 pub admits-ends : (reply : Reply) (m : ℕ) → admits reply ≡ Some m → ends_send reply ≡ Some m
-admits-ends (Got place admitted notified) m e = e
-admits-ends reply m e = absurd (cc)
+admits-ends reply m e = grind arith
 
 -- a message that entered a queue was sent to it, and either it entered at once or its wait ended
 pub record IsAdmittedTo (past : Past) (q m : ℕ) : Type 0 where
   pub to : sent_to past m ≡ Some q
   pub how : ((n : Option ℕ) × (reply_at past m ≡ Some (Queued n))) ⊎ (is_in (ended_sends past) m ≡ true)
-
-pub with-more : (o : Option ℕ) (xs : List ℕ) (m : ℕ) → is_in xs m ≡ true → is_in (with_place o xs) m ≡ true
-with-more None xs m h = h
-with-more (Some k) xs m h = split (k == m) (λ t. rw t refl) (λ f. rw (f, h) refl)
 
 pub admitted-to : (past : Past) (q m : ℕ) → is_in (admitted past q) m ≡ true → IsAdmittedTo past q m
 admitted-to [] q m h = absurd (cc)
@@ -91,24 +77,12 @@ admitted-to (r ∷ past) q m h = by (entered past r.entry q) refl h (λ rest. ad
       where
         how : ((n : Option ℕ) × (reply_at past m ≡ Some (Queued n))) ⊎ (is_in (ended_sends past) m ≡ true) → ((n : Option ℕ) × (reply_at (r ∷ past) m ≡ Some (Queued n))) ⊎ (is_in (ended_sends (r ∷ past)) m ≡ true)
         how (inl y) = inl (y.0, reply_at-older past r m lt ∙ y.1)
-        how (inr y) = inr (with-more (ends_send r.entry.reply) (ended_sends past) m y)
+        how (inr y) = inr (is_in-with_place (ends_send r.entry.reply) (ended_sends past) m y)
 
     here : entered past r.entry q ≡ Some m → IsAdmittedTo (r ∷ past) q m
     here e = split (queues r.entry.call r.entry.reply && is_on past r.entry q)
-        (λ t. let is : Some (length past) ≡ Some m = rw t at e in let same : length past ≡ m = cc in
-        let parts = and_parts (queues r.entry.call r.entry.reply) (is_on past r.entry q) t in
-        let reply = queues-reply r.entry.call r.entry.reply parts.0 in
-        record {
-          to = rw (← same, eq-eqb (length past) (length past) refl) (place-is _ q parts.1);
-          how = inl (reply.0, rw (← same) (reply_at-newest past r ∙ ap Some reply.1));
-        })
-        (λ f. let is : if_in (blocked_sends past q) (admits r.entry.reply) ≡ Some m = rw f at e in
-        let inside = if_in-inside (blocked_sends past q) (admits r.entry.reply) m is in
-        let lt = blocked_sends-below past q m inside.0 in
-        record {
-          to = sent_to-older past r m lt ∙ (blocked-on past q m inside.0).to;
-          how = inr (rw (admits-ends r.entry.reply m inside.1) (rw (eq-eqb m m refl) refl));
-        })
+        (λ t. grind (arith, nat_tests, and_parts, queues-reply, eq-eqb, place-is, reply_at-newest))
+        (λ f. grind (arith, nat_tests, if_in-inside, blocked_sends-below, sent_to-older, blocked-on, admits-ends, eq-eqb))
 
     by : (o : Option ℕ) → entered past r.entry q ≡ o → is_in (with_place (entered past r.entry q) (admitted past q)) m ≡ true → (is_in (admitted past q) m ≡ true → IsAdmittedTo past q m) → IsAdmittedTo (r ∷ past) q m
     by None e h rest = let old : is_in (admitted past q) m ≡ true = rw e at h in older (rest old) (admitted-below past q m old)
@@ -135,7 +109,7 @@ taken-cases (r ∷ past) legal m h = by (taken_by (length past) r.entry.reply) r
   where
     older : ((w : ℕ) × (reply_at past m ≡ Some (Handed w))) ⊎ ((q : ℕ) × (is_in (admitted past q) m ≡ true)) → m < length past → ((w : ℕ) × (reply_at (r ∷ past) m ≡ Some (Handed w))) ⊎ ((q : ℕ) × (is_in (admitted (r ∷ past) q) m ≡ true))
     older (inl x) lt = inl (x.0, reply_at-older past r m lt ∙ x.1)
-    older (inr x) lt = inr (x.0, with-more (entered past r.entry x.0) (admitted past x.0) m x.1)
+    older (inr x) lt = inr (x.0, is_in-with_place (entered past r.entry x.0) (admitted past x.0) m x.1)
 
     here : (reply : Reply) → r.entry.reply ≡ reply → Says past r.entry.process r.entry.call reply → taken_by (length past) reply ≡ Some m → ((w : ℕ) × (reply_at (r ∷ past) m ≡ Some (Handed w))) ⊎ ((q : ℕ) × (is_in (admitted (r ∷ past) q) m ≡ true))
     here (Got k a n) is says e =
@@ -144,7 +118,7 @@ taken-cases (r ∷ past) legal m h = by (taken_by (length past) r.entry.reply) r
         let inside = (find-in _ (present past got.2.queue) k got.6).0 in
         let P : ℕ → Type 0 = λ j. is_in (admitted past got.2.queue) j ≡ true in
         let there : P m = subst P same (present-admitted past got.2.queue k inside) in
-        inr (got.2.queue, with-more (entered past r.entry got.2.queue) (admitted past got.2.queue) m there)
+        inr (got.2.queue, is_in-with_place (entered past r.entry got.2.queue) (admitted past got.2.queue) m there)
     here (Handed w) is says e = let same : length past ≡ m = cc in inl (w, rw (← same) (reply_at-newest past r ∙ ap Some is))
     here reply is says e = absurd (cc)
 
@@ -159,24 +133,10 @@ taken-cases (r ∷ past) legal m h = by (taken_by (length past) r.entry.reply) r
 
 -- a send that still waits entered no queue, and was not taken
 pub waiting-not_admitted : (past : Past) (q w k : ℕ) → is_in (waiting_sends past q) w ≡ true → is_in (admitted past k) w ≡ false
-waiting-not_admitted past q w k h =
-    let parts = is_in-filter (λ w. not (is_in (ended_sends past) w)) (blocked_sends past q) w h in
-    let on = blocked-on past q w parts.0 in
-    false_from_ne_true _ (λ there. by on.reply (not-true _ parts.1) (admitted-to past k w there).how)
-  where
-    by : reply_at past w ≡ Some Waits → is_in (ended_sends past) w ≡ false → ((n : Option ℕ) × (reply_at past w ≡ Some (Queued n))) ⊎ (is_in (ended_sends past) w ≡ true) → ⊥
-    by waits out (inl x) = let bad : Some Waits ≡ Some (Queued x.0) = sym waits ∙ x.1 in cc
-    by waits out (inr x) = clash _ x out
+waiting-not_admitted past q w k h = grind (arith, is_in-filter, blocked-on, false_from_ne_true, not-true, admitted-to, clash)
 
 pub waiting-not_taken : (past : Past) → Legal past → (q w : ℕ) → is_in (waiting_sends past q) w ≡ true → is_in (taken past) w ≡ false
-waiting-not_taken past legal q w h =
-    let parts = is_in-filter (λ w. not (is_in (ended_sends past) w)) (blocked_sends past q) w h in
-    let on = blocked-on past q w parts.0 in
-    false_from_ne_true _ (λ there. by on.reply (taken-cases past legal w there))
-  where
-    by : reply_at past w ≡ Some Waits → ((v : ℕ) × (reply_at past w ≡ Some (Handed v))) ⊎ ((k : ℕ) × (is_in (admitted past k) w ≡ true)) → ⊥
-    by waits (inl x) = let bad : Some Waits ≡ Some (Handed x.0) = sym waits ∙ x.1 in cc
-    by waits (inr x) = clash _ x.1 (waiting-not_admitted past q w x.0 h)
+waiting-not_taken past legal q w h = grind (arith, is_in-filter, blocked-on, false_from_ne_true, taken-cases, clash, waiting-not_admitted)
 
 pub without-absent : (m : ℕ) (xs : List ℕ) → is_in xs m ≡ false → without m xs ≡ xs
 without-absent m [] e = refl
@@ -229,8 +189,7 @@ present-got_here past legal p call m (Some w) n payload q facts =
 
 -- a hand-over leaves what is present
 pub present-handed : (past : Past) (p : ℕ) (call : Call) (w : ℕ) (payload : List ℕ) (q : ℕ) → present (rec p call (Handed w) payload ∷ past) q ≡ present past q
-present-handed past p call w payload q =
-    filter-same _ _ (admitted past q) (λ k inside. let lt = admitted-below past q k inside in rw (ne_eqb (length past) k (λ same. omega (arith, lt))) refl)
+present-handed past p call w payload q = grind (arith, filter-same, admitted-below)
 
 -- a priority does not change
 pub priority-older : (past : Past) (r : Record) (m : ℕ) → m < length past → priority (r ∷ past) m ≡ priority past m

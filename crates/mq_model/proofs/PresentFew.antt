@@ -1,26 +1,23 @@
 -- A queue never holds more messages than its creator allowed.
-use Rattle.std.proofs.Common.{◌≡◌, ℕ, suc, ◌<◌, ◌≤◌, ◌==◌, Bool, true, false, ◌&&◌, ◌||◌, not, List, [], ◌∷◌, length, Option, Some, None, is_some, is_none, refl, sym, ◌∙◌, ap, subst, arith, eqb-true, eq-eqb}
-use Rattle.std.specs.Prelude.{ℤ, int_le, nat_le, pos, negsuc}
-use Rattle.std.specs.Option.{option_map, unwrap_or}
+use Rattle.std.proofs.Common.{◌≡◌, ℕ, ◌<◌, ◌≤◌, ◌==◌, Bool, true, false, ◌&&◌, List, [], ◌∷◌, length, Option, Some, refl, sym, ◌∙◌, subst, arith, eqb-true, eq-eqb, ℤ, int_le, pos}
+use Rattle.std.specs.Option.{option_map}
 use Rattle.std.proofs.lemmas.Bool.{eqb-false}
-use Rattle.std.proofs.lemmas.Bool.Decides.{nat_tests}
 use Rattle.mq_model.specs.Record.{Record, Past}
-use Rattle.mq_model.specs.Names.{creates, bound_queue, attributes, attributes_given, are_within_limits}
-use Rattle.mq_model.specs.Descriptors.{held, called_queue, created, lowest_free, alive, is_place}
-use Rattle.mq_model.specs.Messages.{is_in, is_send, with_place, present, is_full}
-use Rattle.mq_model.specs.Legality.{Legal, IsLegalNext, reply_to_open}
+use Rattle.mq_model.specs.Names.{creates, attributes, attributes_given, are_within_limits}
+use Rattle.mq_model.specs.Descriptors.{held, called_queue, created, is_place}
+use Rattle.mq_model.specs.Messages.{is_in, is_send, present, is_full}
+use Rattle.mq_model.specs.Legality.{Legal, IsLegalNext}
 use Rattle.mq_model.proofs.Places.{split, find-in}
-use Rattle.mq_model.proofs.Cases.{Says, BestReply, either}
+use Rattle.mq_model.proofs.Cases.{Says, BestReply}
 use Rattle.mq_model.proofs.LegalReplies.{legal_says}
 use Rattle.mq_model.proofs.Frames.{created-below, attributes-older}
 use Rattle.mq_model.proofs.HeldQueues.{created-held, created-more}
 use Rattle.mq_model.proofs.Steps.{without, present-queued, present-queued_elsewhere}
 use Rattle.mq_model.proofs.Presence.{sent_to, admitted-to, present-admitted, present-got_here, present-got_elsewhere, present-handed, without-fewer, GotFacts}
 use Rattle.mq_model.specs.declared.entries.Attr.{Attr}
-use Rattle.mq_model.specs.declared.entries.OpenFlags.{OpenFlags}
 use Rattle.mq_model.specs.declared.entries.Description.{Description}
 use Rattle.mq_model.specs.declared.entries.Call.{Call}
-use Rattle.mq_model.specs.declared.entries.Call.TheVariants.{MqOpen, MqClose, MqUnlink, MqSend, MqReceive, MqGetattr, MqSetattr, MqNotify, NextNotice, Collect, MqTimedSend, MqTimedReceive, Withdraw}
+use Rattle.mq_model.specs.declared.entries.Call.TheVariants.{MqClose, MqSend, MqReceive, NextNotice, Collect, MqTimedSend, MqTimedReceive, Withdraw}
 use Rattle.mq_model.specs.declared.entries.Reply.{Reply}
 use Rattle.mq_model.specs.declared.entries.Reply.TheVariants.{Opened, Queued, Handed, Waits, Got, Collected, Attrs, Notice, Done, Refused, Withdrawn}
 
@@ -32,64 +29,18 @@ rec p call reply payload = record { entry = record { process = p; call = call; r
 pub attributes-newest : (past : Past) (r : Record) → attributes (r ∷ past) (length past) ≡ attributes_given r.entry.call
 attributes-newest past r = rw (eq-eqb (length past) (length past) refl) refl
 
--- what an open that created its queue gave
-given-within : (flags : OpenFlags) (attr : Option Attr) → are_within_limits attr ≡ true → are_within_limits (Some (attributes_given (MqOpen flags attr))) ≡ true
-given-within flags None e = refl
-given-within flags (Some attr) e = e
-
 abbrev CreatedSays : Option Attr → Reply → Type 0
 CreatedSays attr (Opened d true) = are_within_limits attr ≡ true
 CreatedSays attr reply = Unit {0}
 
-created-reply : (past : Past) (p : ℕ) (flags : OpenFlags) (attr : Option Attr) (name : List ℕ) → CreatedSays attr (reply_to_open past p flags attr name)
-created-reply past p flags attr name =
-    let P = CreatedSays attr in
-    let bound = is_some (bound_queue past name) in
-    let free = lowest_free past p in
-    either P (flags.create && flags.excl && bound) _ _ (λ _. tt) (λ _.
-    either P (not flags.create && not bound) _ _ (λ _. tt) (λ _.
-    either P (not bound && not (are_within_limits attr)) _ _ (λ _. tt) (λ within.
-    either P (is_none free) _ _ (λ _. tt) (λ _.
-    either P (not bound && nat_le 64 (length (alive past))) _ _ (λ _. tt) (λ _. opened bound (are_within_limits attr) refl within)))))
-  where
-    opened : (bound within : Bool) → are_within_limits attr ≡ within → (not bound && not within) ≡ false → CreatedSays attr (Opened (unwrap_or (lowest_free past p) 0) (not bound))
-    opened true within is e = tt
-    opened false true is e = is
-    opened false false is e = absurd (let bad : true ≡ false = e in cc)
-
 -- a record that creates its queue is an open within the limits
 creates-within : (past : Past) (r : Record) → IsLegalNext past r → creates r.entry.call r.entry.reply ≡ true → are_within_limits (Some (attributes_given r.entry.call)) ≡ true
-creates-within past r legal e = by r.entry.call r.entry.reply refl refl e
-  where
-    by : (call : Call) (reply : Reply) → r.entry.call ≡ call → r.entry.reply ≡ reply → creates call reply ≡ true → are_within_limits (Some (attributes_given r.entry.call)) ≡ true
-    by (MqOpen flags attr) (Opened d true) c is e =
-        let answered : Opened d true ≡ reply_to_open past r.entry.process flags attr r.payload = rw (c, is) at legal.reply in
-        let within : are_within_limits attr ≡ true = rw (← answered) at (created-reply past r.entry.process flags attr r.payload) in
-        rw c (given-within flags attr within)
-    by call (Opened d false) c is e = absurd (let bad : false ≡ true = e in cc)
-    by (MqClose d') (Opened d true) c is e = absurd (let bad : false ≡ true = e in cc)
-    by MqUnlink (Opened d true) c is e = absurd (let bad : false ≡ true = e in cc)
-    by (MqSend d' prio len) (Opened d true) c is e = absurd (let bad : false ≡ true = e in cc)
-    by (MqTimedSend d' prio len until now) (Opened d true) c is e = absurd (let bad : false ≡ true = e in cc)
-    by (MqReceive d' room) (Opened d true) c is e = absurd (let bad : false ≡ true = e in cc)
-    by (MqTimedReceive d' room until now) (Opened d true) c is e = absurd (let bad : false ≡ true = e in cc)
-    by (MqGetattr d') (Opened d true) c is e = absurd (let bad : false ≡ true = e in cc)
-    by (MqSetattr d' nonblock) (Opened d true) c is e = absurd (let bad : false ≡ true = e in cc)
-    by (MqNotify d' value) (Opened d true) c is e = absurd (let bad : false ≡ true = e in cc)
-    by NextNotice (Opened d true) c is e = absurd (let bad : false ≡ true = e in cc)
-    by Collect (Opened d true) c is e = absurd (let bad : false ≡ true = e in cc)
-    by (Withdraw now) (Opened d true) c is e = absurd (let bad : false ≡ true = e in cc)
-    by call reply c is e = absurd (cc)
+creates-within past r legal e = grind arith
 
 -- a queue created is an older one, or the newest record created it
 pub created-cases : {C : Type 0} (past : Past) (r : Record) (q : ℕ) → is_in (created (r ∷ past)) q ≡ true →
     (is_in (created past) q ≡ true → q < length past → C) → (creates r.entry.call r.entry.reply ≡ true → length past ≡ q → C) → C
-created-cases past r q h older newest = split (creates r.entry.call r.entry.reply)
-    (λ t. let h' : (length past == q || is_in (created past) q) ≡ true = rw t at h in
-    split (length past == q)
-    (λ e. newest t (eqb-true _ _ e))
-    (λ n. let old : is_in (created past) q ≡ true = rw n at h' in older old (created-below past q old)))
-    (λ f. let old : is_in (created past) q ≡ true = rw f at h in older old (created-below past q old))
+created-cases past r q h older newest = grind (arith, eqb-true, created-below)
 
 -- the attributes of each queue are within the limits
 pub attributes-within : (past : Past) → Legal past → (q : ℕ) → is_in (created past) q ≡ true → are_within_limits (Some (attributes past q)) ≡ true
@@ -105,25 +56,7 @@ place-some o q e k f = let same : Some q ≡ Some k = sym e ∙ f in cc
 
 -- what was called on is a queue
 pub called-created : (past : Past) → Legal past → (p q : ℕ) (call : Call) → called_queue past p call ≡ Some q → is_in (created past) q ≡ true
-called-created past legal p q call e = by call e
-  where
-    on : (d : ℕ) → option_map (λ (h : Description). h.queue) (held past p d) ≡ Some q → is_in (created past) q ≡ true
-    on d e = held-by (held past p d) refl e
-      where
-        held-by : (o : Option Description) → held past p d ≡ o → option_map (λ (h : Description). h.queue) o ≡ Some q → is_in (created past) q ≡ true
-        held-by None is e = absurd (cc)
-        held-by (Some h) is e = let same : h.queue ≡ q = cc in rw (← same) (created-held past legal p d h is)
-
-    by : (call : Call) → called_queue past p call ≡ Some q → is_in (created past) q ≡ true
-    by (MqClose d) e = on d e
-    by (MqSend d prio len) e = on d e
-    by (MqTimedSend d prio len until now) e = on d e
-    by (MqReceive d room) e = on d e
-    by (MqTimedReceive d room until now) e = on d e
-    by (MqGetattr d) e = on d e
-    by (MqSetattr d nonblock) e = on d e
-    by (MqNotify d value) e = on d e
-    by call e = absurd (cc)
+called-created past legal p q call e = grind (arith, created-held)
 
 pub sent-created : (past : Past) → Legal past → (m q : ℕ) → sent_to past m ≡ Some q → is_in (created past) q ≡ true
 sent-created [] legal m q e = absurd (cc)
@@ -135,7 +68,7 @@ sent-created (r ∷ past) legal m q e = split (m == length past)
 pub present-created : (past : Past) → Legal past → (q m : ℕ) → is_in (present past q) m ≡ true → is_in (created past) q ≡ true
 present-created past legal q m h = sent-created past legal m q (admitted-to past q m (present-admitted past q m h)).to
 
-none-in : (xs : List ℕ) → ((m : ℕ) → is_in xs m ≡ true → ⊥) → xs ≡ []
+pub none-in : (xs : List ℕ) → ((m : ℕ) → is_in xs m ≡ true → ⊥) → xs ≡ []
 none-in [] none = refl
 none-in (x ∷ xs) none = absurd (none x (rw (eq-eqb x x refl) refl))
 
@@ -144,17 +77,10 @@ pub present-new : (past : Past) → Legal past → (q : ℕ) → length past ≤
 present-new past legal q le = none-in (present past q) (λ m h. let lt = created-below past q (present-created past legal q m h) in omega arith)
 
 le-one : (a : ℤ) → int_le (pos 1) a ≡ true → int_le (pos 0) a ≡ true
-le-one (pos k) h = grind (arith, nat_tests)
-le-one (negsuc k) h = absurd (let bad : false ≡ true = h in cc)
+le-one a h = grind arith
 
 le-less : (a : ℤ) (m n : ℕ) → m ≤ n → int_le (pos n) a ≡ true → int_le (pos m) a ≡ true
-le-less (pos k) m n le h = grind (arith, nat_tests)
-le-less (negsuc k) m n le h = absurd (let bad : false ≡ true = h in cc)
-
--- what is below a number may grow by one, if that is not negative
-le-more : (a : ℤ) (n : ℕ) → int_le a (pos n) ≡ false → int_le (pos (suc n)) a ≡ true
-le-more (pos k) n h = grind (arith, nat_tests)
-le-more (negsuc k) n h = absurd (let bad : true ≡ false = h in cc)
+le-less a m n le h = grind arith
 
 abbrev Few : Past → ℕ → Type 0
 Few past q = int_le (pos (length (present past q))) (attributes past q).maxmsg ≡ true
@@ -167,21 +93,9 @@ without-le : (m : ℕ) (xs : List ℕ) → length (without m xs) ≤ length xs
 without-le m [] = omega arith
 without-le m (x ∷ xs) = let le = without-le m xs in split (m == x) (λ t. rw t (omega (arith, le))) (λ f. rw f (omega (arith, le)))
 
-length-with : (o : Option ℕ) (xs : List ℕ) → length (with_place o xs) ≤ suc (length xs)
-length-with None xs = omega arith
-length-with (Some k) xs = omega arith
-
 few-given : (past : Past) → Legal past → (p : ℕ) (call : Call) (m : ℕ) (a n : Option ℕ) (payload : List ℕ) (k : ℕ) → GotFacts past k m a → (q : ℕ) →
     length (present (rec p call (Got m a n) payload ∷ past) q) ≤ length (present past q)
-few-given past legal p call m a n payload k facts q = split (q == k)
-    (λ t. let same : q ≡ k = eqb-true _ _ t in
-    let here = present-got_here past legal p call m a n payload k facts in
-    let fewer = without-fewer m (present past k) facts.inside in
-    let more = length-with a (without m (present past k)) in
-    let le : length (present (rec p call (Got m a n) payload ∷ past) k) ≤ length (present past k) = rw here (omega arith) in
-    let P : ℕ → Type 0 = λ j. length (present (rec p call (Got m a n) payload ∷ past) j) ≤ length (present past j) in
-    subst P (sym same) le)
-    (λ f. rw (present-got_elsewhere past p call m a n payload k q facts (eqb-false _ _ f)) (omega arith))
+few-given past legal p call m a n payload k facts q = grind (arith, eqb-true, present-got_here, without-fewer, without, present-got_elsewhere, eqb-false)
 
 got-facts : (past : Past) (h : Description) (m : ℕ) (a n : Option ℕ) → BestReply past h (Got m a n) → GotFacts past h.queue m a
 got-facts past h m a n says = record { inside = (find-in _ (present past h.queue) m says.0).0; admitted = says.1 }
@@ -204,24 +118,10 @@ called-on past p d q h e on = let test : (h.queue == q) ≡ true = rw e at on in
 
 few-sent : (past : Past) → Legal past → (p d : ℕ) (call : Call) (h : Description) (n : Option ℕ) (payload : List ℕ) → is_send call ≡ true → called_queue past p call ≡ option_map (λ h. h.queue) (held past p d) → held past p d ≡ Some h → is_full past h.queue ≡ false →
     (q : ℕ) → q < length past → Few past q → Few (rec p call (Queued n) payload ∷ past) q
-few-sent past legal p d call h n payload sends calls is free q lt before =
-    let r : Record = rec p call (Queued n) payload in
-    split (is_place q (called_queue past p call))
-    (λ on. let same : h.queue ≡ q = called-on past p d q h is (rw (← calls) on) in
-    let room : is_full past q ≡ false = rw same at free in
-    rw (attributes-older past r q lt, ap length (present-queued past p call q n payload legal sends on)) (le-more (attributes past q).maxmsg (length (present past q)) room))
-    (λ off. rw (attributes-older past r q lt, ap length (present-queued_elsewhere past p call q n payload off)) before)
+few-sent past legal p d call h n payload sends calls is free q lt before = grind (arith, called-on, attributes-older, present-queued, present-queued_elsewhere)
 
 few-queued : (past : Past) → Legal past → (p : ℕ) (call : Call) (n : Option ℕ) (payload : List ℕ) → Says past p call (Queued n) → (q : ℕ) → q < length past → Few past q → Few (rec p call (Queued n) payload ∷ past) q
-few-queued past legal p (MqSend d prio len) n payload says q lt before = few-sent past legal p d (MqSend d prio len) says.0 n payload refl refl says.1 says.3.1 q lt before
-few-queued past legal p (MqTimedSend d prio len until now) n payload says q lt before = few-sent past legal p d (MqTimedSend d prio len until now) says.0 n payload refl refl says.1 says.3.1 q lt before
-few-queued past legal p (MqClose d) n payload says q lt before = absurd says.0
-few-queued past legal p (MqReceive d room) n payload says q lt before = absurd says.3
-few-queued past legal p (MqTimedReceive d room until now) n payload says q lt before = absurd says.3
-few-queued past legal p NextNotice n payload says q lt before = absurd (cc)
-few-queued past legal p Collect n payload says q lt before = absurd (cc)
-few-queued past legal p (Withdraw now) n payload says q lt before = absurd (cc)
-few-queued past legal p call n payload says q lt before = absurd says
+few-queued past legal p call n payload says q lt before = grind (arith, few-sent)
 
 few-next : (past : Past) → Legal past → (p : ℕ) (call : Call) (reply : Reply) (payload : List ℕ) → Says past p call reply → (q : ℕ) → q < length past → Few past q → Few (rec p call reply payload ∷ past) q
 few-next past legal p call (Queued n) payload says q lt before = few-queued past legal p call n payload says q lt before
@@ -238,14 +138,10 @@ few-next past legal p call (Refused f) payload says q lt before = not-more past 
 
 -- the record that creates a queue leaves it empty
 creates-opened : (call : Call) (reply : Reply) → creates call reply ≡ true → (d : ℕ) × (reply ≡ Opened d true)
-creates-opened call (Opened d true) e = (d, refl)
-creates-opened call (Opened d false) e = absurd (let bad : false ≡ true = e in cc)
-creates-opened call reply e = absurd (cc)
+creates-opened call reply e = grind arith
 
 first-two : (a b c d : Bool) → (a && b && c && d) ≡ true → (a ≡ true) × (b ≡ true)
-first-two true true c d e = (refl, refl)
-first-two true false c d e = absurd (let bad : false ≡ true = e in cc)
-first-two false b c d e = absurd (let bad : false ≡ true = e in cc)
+first-two a b c d e = grind arith
 
 within-both : (a : Attr) → are_within_limits (Some a) ≡ true → (int_le (pos 1) a.maxmsg ≡ true) × (int_le a.maxmsg (pos 4096) ≡ true)
 within-both a e = first-two (int_le (pos 1) a.maxmsg) (int_le a.maxmsg (pos 4096)) (int_le (pos 1) a.msgsize) (int_le a.msgsize (pos 65536)) e
@@ -272,9 +168,8 @@ present-few (r ∷ past) legal q h = created-cases past r q h
     (λ old lt. few-next past legal.0 r.entry.process r.entry.call r.entry.reply r.payload (legal_says past r legal.1) q lt (present-few past legal.0 q old))
     (λ new here. let P : ℕ → Type 0 = Few (r ∷ past) in subst P here (few-new past r legal new))
 
-at-most : (a : ℤ) (n k : ℕ) → int_le (pos n) a ≡ true → int_le a (pos k) ≡ true → n ≤ k
-at-most (pos j) n k h g = grind (arith, nat_tests)
-at-most (negsuc j) n k h g = absurd (let bad : false ≡ true = h in cc)
+pub at-most : (a : ℤ) (n k : ℕ) → int_le (pos n) a ≡ true → int_le a (pos k) ≡ true → n ≤ k
+at-most a n k h g = grind arith
 
 pub created-bound : (past : Past) → Legal past → (q : ℕ) → is_in (created past) q ≡ true → length (present past q) ≤ 4096
 created-bound past legal q h = at-most (attributes past q).maxmsg (length (present past q)) 4096 (present-few past legal q h) (within-most (attributes past q) (attributes-within past legal q h))

@@ -1,31 +1,24 @@
 -- What the definitions become after one more record.
-use Rattle.std.proofs.Common.{◌≡◌, ℕ, suc, ◌<◌, ◌≤◌, ◌==◌, Bool, true, false, ◌&&◌, ◌||◌, not, List, [], ◌∷◌, length, Option, Some, None, refl, ◌∙◌, arith, eqb-true}
+use Rattle.std.proofs.Common.{◌≡◌, ℕ, suc, ◌<◌, ◌≤◌, ◌==◌, Bool, true, false, ◌||◌, not, List, [], ◌∷◌, length, Option, Some, refl, arith}
 use Rattle.std.specs.List.{filter}
 use Rattle.std.proofs.lemmas.Bool.{false_from_ne_true}
 use Rattle.mq_model.specs.Record.{Record, Past}
-use Rattle.mq_model.specs.Messages.{is_in, is_send, if_in, taken, taken_by, with_place, present, admitted, entered, queues, admits, blocked_sends, blocks_send}
-use Rattle.mq_model.specs.Descriptors.{is_place, is_on, called_queue}
+use Rattle.mq_model.specs.Messages.{is_in, is_send, if_in, taken, taken_by, with_place, present, admitted, entered, blocked_sends}
+use Rattle.mq_model.specs.Descriptors.{is_place, called_queue}
 use Rattle.mq_model.specs.Legality.{Legal, IsLegalNext}
-use Rattle.mq_model.proofs.Places.{split, is_in-filter, find-in}
+use Rattle.mq_model.proofs.Places.{is_in-filter, find-in}
 use Rattle.mq_model.proofs.Cases.{Says}
 use Rattle.mq_model.proofs.LegalReplies.{legal_says, got_says}
 use Rattle.mq_model.specs.declared.entries.Call.{Call}
 use Rattle.mq_model.specs.declared.entries.Reply.{Reply}
-use Rattle.mq_model.specs.declared.entries.Reply.TheVariants.{Opened, Queued, Handed, Waits, Got, Collected, Attrs, Notice, Done, Refused, Withdrawn}
+use Rattle.mq_model.specs.declared.entries.Reply.TheVariants.{Queued, Handed, Got}
 
 -- every place of a list is before n
 abbrev pub Below : ℕ → List ℕ → Type 0
 Below n xs = (m : ℕ) → is_in xs m ≡ true → m < n
 
-below-cons : (n k : ℕ) (xs : List ℕ) → Below n xs → k ≤ n → Below (suc n) (k ∷ xs)
-below-cons n k xs below le m h = split (k == m) (λ here. let e : k ≡ m = eqb-true _ _ here in omega arith) (λ other. let rest : is_in xs m ≡ true = rw other at h in omega (arith, below m rest))
-
-below-more : (n : ℕ) (xs : List ℕ) → Below n xs → Below (suc n) xs
-below-more n xs below m h = omega (arith, below m h)
-
 below-with : (n : ℕ) (o : Option ℕ) (xs : List ℕ) → Below n xs → ((k : ℕ) → o ≡ Some k → k ≤ n) → Below (suc n) (with_place o xs)
-below-with n None xs below le = below-more n xs below
-below-with n (Some k) xs below le = below-cons n k xs below (le k refl)
+below-with n o xs below le = grind arith
 
 -- the place n itself is not among places before it
 pub not-below : (n : ℕ) (xs : List ℕ) → Below n xs → is_in xs n ≡ false
@@ -33,27 +26,13 @@ not-below n xs below = false_from_ne_true _ (λ h. omega (arith, below n h))
 
 pub blocked_sends-below : (past : Past) (q : ℕ) → Below (length past) (blocked_sends past q)
 blocked_sends-below [] q = λ m h. absurd (cc)
-blocked_sends-below (r ∷ past) q =
-    let old = blocked_sends-below past q in
-    let P : List ℕ → Type 0 = Below (suc (length past)) in
-    split (blocks_send r.entry.call r.entry.reply && is_on past r.entry q)
-    (λ t. let new : P (length past ∷ blocked_sends past q) = below-cons (length past) (length past) (blocked_sends past q) old (omega arith) in rw t new)
-    (λ f. let same : P (blocked_sends past q) = below-more (length past) (blocked_sends past q) old in rw f same)
+blocked_sends-below (r ∷ past) q = grind (arith, blocked_sends-below past q)
 
 pub if_in-inside : (xs : List ℕ) (o : Option ℕ) (k : ℕ) → if_in xs o ≡ Some k → (is_in xs k ≡ true) × (o ≡ Some k)
-if_in-inside xs None k h = absurd (cc)
-if_in-inside xs (Some w) k h =
-    split (is_in xs w)
-    (λ t. let e : Some w ≡ Some k = rw t at h in let same : w ≡ k = cc in (rw (← same) t, e))
-    (λ f. let e : None ≡ Some k = rw f at h in absurd (cc))
+if_in-inside xs o k h = grind arith
 
 entered-below : (past : Past) (r : Record) (q k : ℕ) → entered past r.entry q ≡ Some k → k ≤ length past
-entered-below past r q k h =
-    split (queues r.entry.call r.entry.reply && is_on past r.entry q)
-    (λ t. let e : Some (length past) ≡ Some k = rw t at h in let same : length past ≡ k = cc in omega arith)
-    (λ f. let e : if_in (blocked_sends past q) (admits r.entry.reply) ≡ Some k = rw f at h in
-    let inside = if_in-inside (blocked_sends past q) (admits r.entry.reply) k e in
-    omega (arith, blocked_sends-below past q k inside.0))
+entered-below past r q k h = grind (arith, if_in-inside, blocked_sends-below)
 
 pub admitted-below : (past : Past) (q : ℕ) → Below (length past) (admitted past q)
 admitted-below [] q = λ m h. absurd (cc)
@@ -86,18 +65,12 @@ present-queued past p call q n message legal sends on = rw (sends, on, not-below
 
 pub present-queued_elsewhere : (past : Past) (p : ℕ) (call : Call) (q : ℕ) (n : Option ℕ) (message : List ℕ) → is_place q (called_queue past p call) ≡ false →
     present (sent p call n message ∷ past) q ≡ present past q
-present-queued_elsewhere past p call q n message off = by (is_send call) refl
-  where
-    by : (b : Bool) → is_send call ≡ b → present (sent p call n message ∷ past) q ≡ present past q
-    by true e = rw (e, off) refl
-    by false e = rw e refl
+present-queued_elsewhere past p call q n message off = grind arith
 
 -- two tests in a row
 pub filter-both : (s t : ℕ → Bool) (xs : List ℕ) → filter (λ k. not (s k || t k)) xs ≡ filter (λ k. not (s k)) (filter (λ k. not (t k)) xs)
 filter-both s t [] = refl
-filter-both s t (x ∷ xs) = split (t x)
-    (λ yes. split (s x) (λ ys. rw (yes, ys, filter-both s t xs) refl) (λ ns. rw (yes, ns, filter-both s t xs) refl))
-    (λ no. split (s x) (λ ys. rw (no, ys, filter-both s t xs) refl) (λ ns. rw (no, ns, filter-both s t xs) refl))
+filter-both s t (x ∷ xs) = grind (arith, filter-both s t xs)
 
 -- some places without one of them
 abbrev pub without : ℕ → List ℕ → List ℕ

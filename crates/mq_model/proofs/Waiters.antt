@@ -1,11 +1,10 @@
 -- Whose open wait a call is that still waits.
-use Rattle.std.proofs.Common.{◌≡◌, ℕ, ◌<◌, ◌≤◌, ◌==◌, Bool, true, false, ◌&&◌, not, List, [], ◌∷◌, length, Option, Some, None, if◌then◌else◌, refl, sym, ◌∙◌, ap, subst, arith, eqb-true, eq-eqb, min}
+use Rattle.std.proofs.lemmas.Bool.Decides.{nat_tests}
+use Rattle.std.proofs.Common.{◌≡◌, ℕ, ◌<◌, ◌≤◌, ◌==◌, Bool, true, false, not, List, [], ◌∷◌, length, Option, Some, None, if◌then◌else◌, refl, sym, ◌∙◌, ap, subst, arith, eqb-true, eq-eqb, min, unwrap_or}
 use Rattle.std.specs.List.{filter}
-use Rattle.std.specs.Option.{option_map, unwrap_or}
 use Rattle.std.proofs.lemmas.Bool.{and_parts, eqb-false}
-use Rattle.mq_model.specs.Record.{Record, Past, record_at}
-use Rattle.mq_model.specs.Descriptors.{is_on}
-use Rattle.mq_model.specs.Messages.{is_in, with_place, ends_receive, ends_send, blocks_receive, blocks_send, blocked_sends, blocked_receives, least, waiting_sends, waiting_receives, ended_sends, ended_receives}
+use Rattle.mq_model.specs.Record.{Record, Past}
+use Rattle.mq_model.specs.Messages.{is_in, with_place, ends_receive, ends_send, blocked_sends, blocked_receives, least, waiting_sends, waiting_receives, ended_sends, ended_receives}
 use Rattle.mq_model.specs.Waits.{is_wait, names_wait, open_wait, answered_by}
 use Rattle.mq_model.specs.Legality.{Legal, IsLegalNext, may_call}
 use Rattle.mq_model.proofs.Places.{split, is_in-filter, is_in-with_place}
@@ -17,11 +16,11 @@ use Rattle.mq_model.proofs.OpenWaits.{withdrawn-open, withdrawn-other}
 use Rattle.mq_model.proofs.OthersLeave.{open_wait-below}
 use Rattle.mq_model.proofs.NamedWaits.{blocked-once, blocked-cases, blocked-below, newest-receive, newest-send, unended-receive, least-in}
 use Rattle.mq_model.specs.declared.entries.Call.{Call}
-use Rattle.mq_model.specs.declared.entries.Call.TheVariants.{MqOpen, MqClose, MqUnlink, MqSend, MqReceive, MqGetattr, MqSetattr, MqNotify, NextNotice, Collect, MqTimedSend, MqTimedReceive, Withdraw}
 use Rattle.mq_model.specs.declared.entries.Reply.{Reply}
 use Rattle.mq_model.specs.declared.entries.Reply.TheVariants.{Opened, Queued, Handed, Waits, Got, Collected, Attrs, Notice, Done, Refused, Withdrawn}
 use Rattle.mq_model.specs.declared.owners.WaitKind.{WaitKind}
 use Rattle.mq_model.specs.declared.owners.WaitKind.TheVariants.{Send, Receive}
+use Rattle.mq_model.proofs.HeldQueues.{in-filter}
 
 -- the waits of a kind that ended
 abbrev pub ended_waits : Past → WaitKind → List ℕ
@@ -29,41 +28,19 @@ ended_waits past Send = ended_sends past
 ended_waits past Receive = ended_receives past
 
 pub waiting-filter : (past : Past) (kind : WaitKind) (q : ℕ) → waiting past kind q ≡ filter (λ w. not (is_in (ended_waits past kind) w)) (blocked past kind q)
-waiting-filter past Send q = refl
-waiting-filter past Receive q = refl
-
-pub in-filter : (t : ℕ → Bool) (xs : List ℕ) (m : ℕ) → is_in xs m ≡ true → t m ≡ true → is_in (filter t xs) m ≡ true
-in-filter t [] m h passes = absurd (cc)
-in-filter t (x ∷ xs) m h passes = split (x == m)
-    (λ e. let same : x ≡ m = eqb-true _ _ e in let pass : t x ≡ true = rw same passes in rw (pass, e) refl)
-    (λ n. let rest : is_in xs m ≡ true = rw n at h in split (t x) (λ y. rw (y, n) (in-filter t xs m rest passes)) (λ z. rw z (in-filter t xs m rest passes)))
+waiting-filter past kind q = grind arith
 
 -- a process with an open wait that is not answered may only withdraw it
 no-call : (past : Past) (p w : ℕ) (call : Call) (reply : Reply) → Says past p call reply → may_call past p call ≡ true → open_wait past p ≡ Some w → answered_by past p ≡ None → (reply ≡ Withdrawn w → ⊥) → ⊥
-no-call past p w Collect reply says h e a not = let none : false ≡ true = rw a at h in cc
-no-call past p w (Withdraw now) reply says h e a not = not (rw e at says)
-no-call past p w call reply says h e a not = let none : false ≡ true = rw e at h in cc
-
-blocks-wait : (call : Call) (reply : Reply) → blocks_receive call reply ≡ true → is_wait reply ≡ true
-blocks-wait call Waits h = refl
-blocks-wait call reply h = absurd (cc)
+no-call past p w call reply says h e a not = grind arith
 
 -- a Got admits the first waiting send of a queue
 pub admits-least : (past : Past) (p : ℕ) (call : Call) (m : ℕ) (a n : Option ℕ) → Says past p call (Got m a n) → (q : ℕ) × (a ≡ least (waiting_sends past q))
-admits-least past p (MqReceive d room) m a n says = (says.0.queue, says.3.1)
-admits-least past p (MqTimedReceive d room until now) m a n says = (says.0.queue, says.3.1)
-admits-least past p (MqClose d) m a n says = absurd says.0
-admits-least past p (MqSend d prio len) m a n says = absurd says.3
-admits-least past p (MqTimedSend d prio len until now) m a n says = absurd says.3
-admits-least past p NextNotice m a n says = absurd (cc)
-admits-least past p Collect m a n says = absurd (cc)
-admits-least past p (Withdraw now) m a n says = absurd (cc)
-admits-least past p call m a n says = absurd says
+admits-least past p call m a n says = grind arith
 
 -- a receive that still waits is named by no reply
 not-named : (past : Past) (p q w : ℕ) (call : Call) (reply : Reply) → Says past p call reply → is_in (blocked_receives past q) w ≡ true → not (is_in (with_place (ends_receive reply) (ended_receives past)) w) ≡ true → names_wait reply (Some w) ≡ false
 not-named past p q w call (Handed k) says stands free = split (k == w) (λ t. let bad : false ≡ true = rw t at free in absurd (cc)) (λ f. f)
-not-named past p q w call (Got m None n) says stands free = refl
 not-named past p q w call (Got m (Some v) n) says stands free = split (v == w)
     (λ t. let same : v ≡ w = eqb-true _ _ t in
     let got = admits-least past p call m (Some v) n says in
@@ -72,23 +49,18 @@ not-named past p q w call (Got m (Some v) n) says stands free = split (v == w)
     let both = blocked-once past Send Receive got.0 q w (subst P same inside.0) stands in
     let bad : Send ≡ Receive = both.0 in absurd (cc))
     (λ f. f)
-not-named past p q w call reply says stands free = refl
+not-named past p q w call _ says stands free = refl
 
 -- a wait that a reply ends is among those that ended
 ended-now : (w : ℕ) (ended : List ℕ) (o : Option ℕ) → o ≡ Some w → not (is_in (with_place o ended) w) ≡ true → ⊥
-ended-now w ended None e free = absurd (cc)
-ended-now w ended (Some k) e free = let same : k ≡ w = cc in let bad : false ≡ true = rw (eq-eqb k w same) at free in cc
+ended-now w ended o e free = grind (arith, eq-eqb)
 
 waiter-receive : (past : Past) → Legal past → (q w : ℕ) → is_in (waiting_receives past q) w ≡ true → (p : ℕ) × (open_wait past p ≡ Some w) × (answered_by past p ≡ None)
 waiter-receive [] legal q w h = absurd (cc)
 waiter-receive (r ∷ past) legal q w h =
     let parts = is_in-filter _ (blocked_receives (r ∷ past) q) w h in
     split (length past == w)
-    (λ e. let same : length past ≡ w = eqb-true _ _ e in
-    let mine : (blocks_receive r.entry.call r.entry.reply && is_on past r.entry q) ≡ true = newest-receive past r q (rw (← same) at parts.0) in
-    let waits : is_wait r.entry.reply ≡ true = blocks-wait r.entry.call r.entry.reply (and_parts (blocks_receive r.entry.call r.entry.reply) (is_on past r.entry q) mine).0 in
-    let self : (r.entry.process == r.entry.process) ≡ true = eq-eqb r.entry.process r.entry.process refl in
-    (r.entry.process, rw (self, waits) (ap Some same), rw self refl))
+    (λ e. grind (arith, nat_tests, eqb-true, newest-receive, and_parts, eq-eqb))
     (λ n. let old : is_in (blocked_receives past q) w ≡ true = (blocked-cases past r Receive q w parts.0).1 (eqb-false _ _ n) in
     let free : is_in (ended_receives past) w ≡ false = split (is_in (ended_receives past) w) (λ t. let more : is_in (with_place (ends_receive r.entry.reply) (ended_receives past)) w ≡ true = is_in-with_place (ends_receive r.entry.reply) (ended_receives past) w t in let bad : false ≡ true = rw more at parts.1 in absurd (cc)) (λ f. f) in
     let x = waiter-receive past legal.0 q w (in-filter _ (blocked_receives past q) w old (rw free refl)) in
@@ -100,20 +72,11 @@ waiter-receive (r ∷ past) legal q w h =
 
 -- a Handed hands to the first waiting receive of a queue
 pub hands-least : (past : Past) (p : ℕ) (call : Call) (k : ℕ) → Says past p call (Handed k) → (q : ℕ) × (least (waiting_receives past q) ≡ Some k)
-hands-least past p (MqSend d prio len) k says = (says.0.queue, says.3)
-hands-least past p (MqTimedSend d prio len until now) k says = (says.0.queue, says.3)
-hands-least past p (MqReceive d room) k says = absurd says.3
-hands-least past p (MqTimedReceive d room until now) k says = absurd says.3
-hands-least past p (MqClose d) k says = absurd says.0
-hands-least past p NextNotice k says = absurd (cc)
-hands-least past p Collect k says = absurd (cc)
-hands-least past p (Withdraw now) k says = absurd (cc)
-hands-least past p call k says = absurd says
+hands-least past p call k says = grind arith
 
 -- a send that still waits is named by no reply
 not-named-send : (past : Past) (p q w : ℕ) (call : Call) (reply : Reply) → Says past p call reply → is_in (blocked_sends past q) w ≡ true → not (is_in (with_place (ends_send reply) (ended_sends past)) w) ≡ true → names_wait reply (Some w) ≡ false
 not-named-send past p q w call (Got m (Some v) n) says stands free = split (v == w) (λ t. let bad : false ≡ true = rw t at free in absurd (cc)) (λ f. f)
-not-named-send past p q w call (Got m None n) says stands free = refl
 not-named-send past p q w call (Handed v) says stands free = split (v == w)
     (λ t. let same : v ≡ w = eqb-true _ _ t in
     let least_one = hands-least past p call v says in
@@ -122,22 +85,14 @@ not-named-send past p q w call (Handed v) says stands free = split (v == w)
     let both = blocked-once past Receive Send least_one.0 q w (subst P same inside.0) stands in
     let bad : Receive ≡ Send = both.0 in absurd (cc))
     (λ f. f)
-not-named-send past p q w call reply says stands free = refl
-
-blocks-wait-send : (call : Call) (reply : Reply) → blocks_send call reply ≡ true → is_wait reply ≡ true
-blocks-wait-send call Waits h = refl
-blocks-wait-send call reply h = absurd (cc)
+not-named-send past p q w call _ says stands free = refl
 
 waiter-send : (past : Past) → Legal past → (q w : ℕ) → is_in (waiting_sends past q) w ≡ true → (p : ℕ) × (open_wait past p ≡ Some w) × (answered_by past p ≡ None)
 waiter-send [] legal q w h = absurd (cc)
 waiter-send (r ∷ past) legal q w h =
     let parts = is_in-filter _ (blocked_sends (r ∷ past) q) w h in
     split (length past == w)
-    (λ e. let same : length past ≡ w = eqb-true _ _ e in
-    let mine : (blocks_send r.entry.call r.entry.reply && is_on past r.entry q) ≡ true = newest-send past r q (rw (← same) at parts.0) in
-    let waits : is_wait r.entry.reply ≡ true = blocks-wait-send r.entry.call r.entry.reply (and_parts (blocks_send r.entry.call r.entry.reply) (is_on past r.entry q) mine).0 in
-    let self : (r.entry.process == r.entry.process) ≡ true = eq-eqb r.entry.process r.entry.process refl in
-    (r.entry.process, rw (self, waits) (ap Some same), rw self refl))
+    (λ e. grind (arith, nat_tests, eqb-true, newest-send, and_parts, eq-eqb))
     (λ n. let old : is_in (blocked_sends past q) w ≡ true = (blocked-cases past r Send q w parts.0).1 (eqb-false _ _ n) in
     let free : is_in (ended_sends past) w ≡ false = split (is_in (ended_sends past) w) (λ t. let more : is_in (with_place (ends_send r.entry.reply) (ended_sends past)) w ≡ true = is_in-with_place (ends_send r.entry.reply) (ended_sends past) w t in let bad : false ≡ true = rw more at parts.1 in absurd (cc)) (λ f. f) in
     let x = waiter-send past legal.0 q w (in-filter _ (blocked_sends past q) w old (rw free refl)) in
@@ -159,13 +114,7 @@ ends_send-below past r k legal e = by r.entry.reply (legal_says past r legal) e
 
 ended_sends-below : (past : Past) → Legal past → Below (length past) (ended_sends past)
 ended_sends-below [] legal = λ m h. absurd (cc)
-ended_sends-below (r ∷ past) legal = λ m h. step (ends_send r.entry.reply) refl (ended_sends-below past legal.0) m h
-  where
-    step : (o : Option ℕ) → ends_send r.entry.reply ≡ o → Below (length past) (ended_sends past) → (m : ℕ) → is_in (with_place o (ended_sends past)) m ≡ true → m < length (r ∷ past)
-    step None e before m h = let lt = before m h in omega (arith, lt)
-    step (Some k) e before m h = split (k == m)
-        (λ t. let same : k ≡ m = eqb-true _ _ t in let lt = ends_send-below past r k legal.1 e in omega (arith, lt))
-        (λ f. let old : is_in (ended_sends past) m ≡ true = rw f at h in let lt = before m old in omega (arith, lt))
+ended_sends-below (r ∷ past) legal = grind (arith, Below, eqb-true, ends_send-below, ended_sends-below past legal.0)
 
 unended-send : (past : Past) → Legal past → (p w : ℕ) → open_wait past p ≡ Some w → answered_by past p ≡ None → is_in (ended_sends past) w ≡ false
 unended-send [] legal p w e a = absurd (cc)
@@ -204,13 +153,11 @@ unended-send (r ∷ past) legal p w e a = split (r.entry.process == p)
 
 -- a wait that no entry names is the open wait of its process, which no entry answers
 pub waiter : (past : Past) → Legal past → (kind : WaitKind) (q w : ℕ) → is_in (waiting past kind q) w ≡ true → (p : ℕ) × (open_wait past p ≡ Some w) × (answered_by past p ≡ None)
-waiter past legal Receive q w h = waiter-receive past legal q w h
-waiter past legal Send q w h = waiter-send past legal q w h
+waiter past legal kind q w h = grind (arith, waiter-receive, waiter-send)
 
 -- no entry names an open wait that is not answered
 pub unnamed : (past : Past) → Legal past → (p w : ℕ) → open_wait past p ≡ Some w → answered_by past p ≡ None → (kind : WaitKind) → is_in (ended_waits past kind) w ≡ false
-unnamed past legal p w e a Receive = unended-receive past legal p w e a
-unnamed past legal p w e a Send = unended-send past legal p w e a
+unnamed past legal p w e a kind = grind (arith, unended-receive, unended-send)
 
 pub least-none : (xs : List ℕ) → ((k : ℕ) → is_in xs k ≡ true → ⊥) → least xs ≡ None
 least-none [] none = refl

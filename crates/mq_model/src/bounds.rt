@@ -1,5 +1,5 @@
 //! The bounds of a journal.
-ghost use Rattle.std.specs.Prelude.{◌≡◌, ◌+◌, ◌<◌, ◌^◌};
+ghost use Rattle.std.specs.Prelude.{◌≡◌, ◌<◌};
 ghost use Rattle.mq_model.specs.Bounds.{exceeds};
 
 /// What a journal may hold: this number of entries, and this number of payload bytes, those of

@@ -1,7 +1,7 @@
 //! The reply to each call, from the facts that it depends on: the cases of the standard, in the
 //! order of errors. The queues take the facts from their tables, the checker takes them from the
 //! entries, and the definitions give them for every journal.
-ghost use Rattle.std.specs.Prelude.{◌≡◌, ◌<◌, ◌^◌, IfSome, pos, int_lt, int_le};
+ghost use Rattle.std.specs.Prelude.{◌≡◌, ◌<◌, ◌^◌, IfSome, pos, int_lt};
 ghost use Rattle.mq_model.specs.Names.{attributes_given, are_within_limits};
 
 use crate::entries::{

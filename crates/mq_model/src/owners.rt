@@ -3,7 +3,7 @@
 //! says what the definitions say about the entries so far.
 ghost use Rattle.std.specs.Prelude.{◌≡◌, ◌<◌, ◌≤◌, ℕ, length, IfSome, None, Some, is_none};
 ghost use Rattle.std.specs.Option.{option_map};
-ghost use Rattle.std.specs.List.{list_any, position};
+ghost use Rattle.std.specs.List.{position};
 ghost use Rattle.mq_model.specs.Descriptors.{is_place};
 
 use crate::entries::{Call, Deadline, Description, Entry, Reply};

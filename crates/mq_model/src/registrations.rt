@@ -1,7 +1,7 @@
 //! The registration on a queue, entry by entry.
-ghost use Rattle.std.specs.Prelude.{◌≡◌, ◌≢◌, IsTrue, IsFalse, ◌↔◌, Some, None, ◌==◌, ◌&&◌, ◌||◌, ℕ, Bool, Option};
+ghost use Rattle.std.specs.Prelude.{◌≡◌, ◌≢◌, IsTrue, IsFalse, Some, None, ◌==◌, ◌&&◌, ◌||◌, ℕ, Bool, Option};
 ghost use Rattle.mq_model.specs.Descriptors.{is_place};
-ghost use Rattle.mq_model.specs.Notices.{registration_by, registration_of, only_if, notified, is_removal, removes, is_close_of, closes, ends, unless, or_else, registration_after, is_about_registrations};
+ghost use Rattle.mq_model.specs.Notices.{registration_by, registration_of, notified, is_removal, removes, is_close_of, closes, ends, unless, registration_after, is_about_registrations};
 
 use crate::entries::{Call, Entry, Registration, Reply};
 

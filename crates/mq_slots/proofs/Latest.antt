@@ -1,7 +1,6 @@
 -- The messages in the slots are sorted, the latest first: a push puts its message before them, and
 -- a pop leaves the order of the others.
-use Rattle.std.proofs.Common.{◌≡◌, ◌≢◌, ℕ, zero, suc, ◌+◌, ◌<◌, ◌≤◌, inl, inr, List, [], ◌∷◌, length, refl, sym, ◌∙◌, ap, subst, arith, get_or-set_other, get_or-set_same}
-use Rattle.std.specs.Prelude.{slice_set}
+use Rattle.std.proofs.Common.{◌≡◌, ◌≢◌, ℕ, zero, suc, ◌+◌, ◌<◌, ◌≤◌, inl, inr, List, [], ◌∷◌, length, refl, sym, ◌∙◌, ap, subst, arith, get_or-set_other, get_or-set_same, slice_set}
 use Rattle.std.proofs.lemmas.List.{length-set}
 use Rattle.std.proofs.lemmas.Bool.{cases_lt, cases_eq, lt-ltb, le-ltb}
 use Rattle.mq_slots.specs.declared.cells.Cell.{Cell}
@@ -17,17 +16,12 @@ use Rattle.mq_slots.proofs.Popping.{IsPop, pop-first, pop-apart}
 
 messages-descending : (cells : List Cell) → Descending (messages cells)
 messages-descending [] = tt
-messages-descending (c ∷ cells) = elim (cases_lt c.prio 32768) [
-  | inl h ↦ rw (lt-ltb c.prio 32768 h) (placed-descending (c.prio, c.place) (messages cells) (messages-descending cells))
-  | inr h ↦ rw (le-ltb c.prio 32768 h) (messages-descending cells)
-]
+messages-descending (c ∷ cells) = grind (arith, cases_lt, lt-ltb, placed-descending, le-ltb, messages-descending cells)
 
 -- the latest message comes into a spare slot
 messages-filled : (cells : List Cell) (i : ℕ) (c : Cell) → i < length cells → 32768 ≤ prio_at cells i → c.prio < 32768 → Below c.place (messages cells) → messages (slice_set cells i c) ≡ (c.prio, c.place) ∷ messages cells
 messages-filled [] i c within spare used below = absurd (omega arith)
-messages-filled (d ∷ cells) zero c within spare used below =
-    let rest : Below c.place (messages cells) = rw (le-ltb d.prio 32768 spare) at below in
-    rw (lt-ltb c.prio 32768 used, le-ltb d.prio 32768 spare) (placed-top (c.prio, c.place) (messages cells) rest)
+messages-filled (d ∷ cells) zero c within spare used below = grind (arith, Below, le-ltb, lt-ltb, placed-top)
 messages-filled (d ∷ cells) (suc i) c within spare used below = elim (cases_lt d.prio 32768) [
   | inl h ↦ (let all : Below c.place (placed (d.prio, d.place) (messages cells)) = rw (lt-ltb d.prio 32768 h) at below in
       let parts = below-placed c.place (d.prio, d.place) (messages cells) all in

@@ -7,8 +7,7 @@ use Rattle.mq_slots.specs.Messages.{placed, without}
 -- which messages there are -----------------------------------------------------------------------------------------------
 
 first-or-later : (x : ℕ × ℕ) (xs : List (ℕ × ℕ)) (m : ℕ × ℕ) → (k : ℕ) → k < length (x ∷ xs) → get_or (x ∷ xs) k m ≡ m → (m ≡ x) ⊎ Contains xs m
-first-or-later x xs m zero within is = inl (sym is)
-first-or-later x xs m (suc k) within is = inr (k, omega arith, is)
+first-or-later x xs m k within is = grind arith
 
 pub contains-cons : (x : ℕ × ℕ) (xs : List (ℕ × ℕ)) (m : ℕ × ℕ) → Contains (x ∷ xs) m → (m ≡ x) ⊎ Contains xs m
 contains-cons x xs m there = first-or-later x xs m there.0 there.1 there.2
@@ -48,10 +47,7 @@ placed-cases m (x ∷ xs) other there = elim (cases_lt x.1 m.1) [
 
 pub length-placed : (m : ℕ × ℕ) (xs : List (ℕ × ℕ)) → length (placed m xs) ≡ length xs + 1
 length-placed m [] = refl
-length-placed m (x ∷ xs) = elim (cases_lt x.1 m.1) [
-  | inl h ↦ rw (lt-ltb x.1 m.1 h) (omega arith)
-  | inr h ↦ rw (le-ltb x.1 m.1 h) (let rest = length-placed m xs in omega arith)
-]
+length-placed m (x ∷ xs) = grind (arith, cases_lt, lt-ltb, le-ltb, length-placed m xs)
 
 -- their order
 -- ---------------------------------------------------------------------------------------
@@ -76,10 +72,7 @@ contains-below n (x ∷ xs) all = (all x (contains-here x xs), contains-below n 
 
 placed-below : (n : ℕ) (m : ℕ × ℕ) (xs : List (ℕ × ℕ)) → m.1 < n → Below n xs → Below n (placed m xs)
 placed-below n m [] lt below = (lt, tt)
-placed-below n m (x ∷ xs) lt below = elim (cases_lt x.1 m.1) [
-  | inl h ↦ rw (lt-ltb x.1 m.1 h) (lt, below)
-  | inr h ↦ rw (le-ltb x.1 m.1 h) (below.0, placed-below n m xs lt below.1)
-]
+placed-below n m (x ∷ xs) lt below = grind (arith, cases_lt, lt-ltb, le-ltb, placed-below n m xs lt below.1)
 
 pub below-placed : (n : ℕ) (m : ℕ × ℕ) (xs : List (ℕ × ℕ)) → Below n (placed m xs) → (m.1 < n) × Below n xs
 below-placed n m [] below = (below.0, tt)
@@ -90,10 +83,7 @@ below-placed n m (x ∷ xs) below = elim (cases_lt x.1 m.1) [
 
 pub placed-descending : (m : ℕ × ℕ) (xs : List (ℕ × ℕ)) → Descending xs → Descending (placed m xs)
 placed-descending m [] down = (tt, tt)
-placed-descending m (x ∷ xs) down = elim (cases_lt x.1 m.1) [
-  | inl h ↦ rw (lt-ltb x.1 m.1 h) ((omega arith, below-more (x.1 + 1) (m.1 + 1) xs (omega arith) down.0), down)
-  | inr h ↦ rw (le-ltb x.1 m.1 h) (placed-below (x.1 + 1) m xs (omega arith) down.0, placed-descending m xs down.1)
-]
+placed-descending m (x ∷ xs) down = grind (arith, cases_lt, lt-ltb, below-more, le-ltb, placed-below, placed-descending m xs down.1)
 
 -- the latest message is first
 pub placed-top : (m : ℕ × ℕ) (xs : List (ℕ × ℕ)) → Below m.1 xs → placed m xs ≡ m ∷ xs
@@ -119,31 +109,12 @@ pub without-none : (place : ℕ) (xs : List (ℕ × ℕ)) → NoneAt place xs �
 without-none place [] none = refl
 without-none place (x ∷ xs) none = rw (ne_eqb x.1 place none.0) (ap (λ rest. x ∷ rest) (without-none place xs none.1))
 
-without-below : (n place : ℕ) (xs : List (ℕ × ℕ)) → Below n xs → Below n (without place xs)
-without-below n place [] below = tt
-without-below n place (x ∷ xs) below = elim (cases_eq x.1 place) [
-  | inl e ↦ rw (eq-eqb x.1 place e) (without-below n place xs below.1)
-  | inr e ↦ rw (ne_eqb x.1 place e) (below.0, without-below n place xs below.1)
-]
-
 -- the message itself goes
 pub without-placed : (place : ℕ) (m : ℕ × ℕ) (xs : List (ℕ × ℕ)) → m.1 ≡ place → without place (placed m xs) ≡ without place xs
 without-placed place m [] is = rw (eq-eqb m.1 place is) refl
-without-placed place m (x ∷ xs) is = elim (cases_lt x.1 m.1) [
-  | inl h ↦ rw (lt-ltb x.1 m.1 h, eq-eqb m.1 place is) refl
-  | inr h ↦ rw (le-ltb x.1 m.1 h) (elim (cases_eq x.1 place) [
-    | inl e ↦ rw (eq-eqb x.1 place e) (without-placed place m xs is)
-    | inr e ↦ rw (ne_eqb x.1 place e) (ap (λ rest. x ∷ rest) (without-placed place m xs is))
-  ])
-]
+without-placed place m (x ∷ xs) is = grind (arith, cases_lt, lt-ltb, eq-eqb, le-ltb, cases_eq, without-placed place m xs is)
 
 -- another message is kept
 pub without-other : (place : ℕ) (m : ℕ × ℕ) (xs : List (ℕ × ℕ)) → m.1 ≢ place → Descending xs → without place (placed m xs) ≡ placed m (without place xs)
 without-other place m [] other down = rw (ne_eqb m.1 place other) refl
-without-other place m (x ∷ xs) other down = elim (cases_lt x.1 m.1) [
-  | inl h ↦ rw (lt-ltb x.1 m.1 h, ne_eqb m.1 place other) (sym (placed-top m (without place (x ∷ xs)) (without-below m.1 place (x ∷ xs) (h, below-more (x.1 + 1) m.1 xs (omega arith) down.0))))
-  | inr h ↦ rw (le-ltb x.1 m.1 h) (elim (cases_eq x.1 place) [
-    | inl e ↦ rw (eq-eqb x.1 place e) (without-other place m xs other down.1)
-    | inr e ↦ rw (ne_eqb x.1 place e, le-ltb x.1 m.1 h) (ap (λ rest. x ∷ rest) (without-other place m xs other down.1))
-  ])
-]
+without-other place m (x ∷ xs) other down = grind (arith, cases_lt, lt-ltb, placed-top, below-more, le-ltb, cases_eq, eq-eqb, without-other place m xs other down.1)

@@ -1,7 +1,6 @@
 -- A pop takes the best message out, and keeps the slots sound.
-use Rattle.std.proofs.Common.{◌≡◌, ◌≢◌, ◌↔◌, ℕ, ◌+◌, ◌-◌, ◌<◌, ◌≤◌, inl, inr, ◌==◌, List, length, sym, ◌∙◌, ap, subst, arith, eqb-true, get_or-set_other}
+use Rattle.std.proofs.Common.{◌≡◌, ◌≢◌, ◌↔◌, ℕ, ◌+◌, ◌-◌, ◌<◌, ◌≤◌, inl, inr, ◌==◌, List, length, sym, ◌∙◌, ap, subst, arith, eqb-true, get_or-set_other, slice_set}
 use Rattle.std.specs.List.{Contains}
-use Rattle.std.specs.Prelude.{slice_set}
 use Rattle.std.proofs.lemmas.List.{length-set, length-take-le, get_or-take}
 use Rattle.std.proofs.lemmas.Bool.{cases_Bool, cases_lt, lt-ltb, le-ltb, eqb-false}
 use Rattle.mq_slots.specs.declared.cells.Cell.{Cell}
@@ -23,12 +22,7 @@ pub record IsPop (cells : List Cell) (levels : List Level) (free count room : �
   pub some : count + 1 ≢ length cells
 
 pub pop-first : (cells : List Cell) (levels : List Level) (free count room : ℕ) → IsPop cells levels free count room → IsFirst (length cells) (prio_at cells) (place_at cells) (next_at cells 0)
-pop-first cells levels free count room pop =
-    let sound = pop.sound in
-    let counted = sound.counted in
-    let some = pop.some in
-    let used = some-used cells (omega arith) in
-    head-first (length cells) (prio_at cells) (place_at cells) (next_at cells) sound.chained used.0 used.1 used.2
+pop-first cells levels free count room pop = grind (arith, some-used, head-first)
 
 pub pop-apart : (cells : List Cell) (levels : List Level) (free count room : ℕ) → IsPop cells levels free count room → 0 ≢ next_at cells 0
 pop-apart cells levels free count room pop e =

@@ -1,11 +1,10 @@
 -- The messages in a list of slots: which they are, and how many.
-use Rattle.std.proofs.Common.{◌≡◌, ℕ, zero, suc, ◌+◌, ◌<◌, ◌≤◌, inl, inr, List, [], ◌∷◌, length, refl, sym, ap, subst, arith}
+use Rattle.std.proofs.Common.{◌≡◌, ℕ, zero, suc, ◌+◌, ◌<◌, ◌≤◌, inl, inr, List, [], ◌∷◌, length, refl, sym, subst, arith, nat_lt, slice_set}
 use Rattle.std.specs.List.{Contains}
-use Rattle.std.specs.Prelude.{nat_lt, slice_set}
 use Rattle.std.proofs.lemmas.Bool.{cases_Bool, cases_lt, ltb-true, lt-ltb, le-ltb}
 use Rattle.mq_slots.specs.declared.cells.Cell.{Cell}
 use Rattle.mq_slots.specs.Cells.{cell_at}
-use Rattle.mq_slots.specs.Messages.{placed, messages}
+use Rattle.mq_slots.specs.Messages.{messages}
 use Rattle.mq_slots.specs.Sound.{prio_at, place_at}
 use Rattle.mq_slots.proofs.Placing.{placed-here, placed-still, placed-cases, length-placed}
 
@@ -51,29 +50,18 @@ has-present cells m h = subst (λ x. Contains (messages cells) x) (sym h.is) (ce
 pub length-filled : (cells : List Cell) (i : ℕ) (c : Cell) → i < length cells → 32768 ≤ prio_at cells i → c.prio < 32768 → length (messages (slice_set cells i c)) ≡ length (messages cells) + 1
 length-filled [] i c within spare used = absurd (omega arith)
 length-filled (d ∷ cells) zero c within spare used = rw (lt-ltb c.prio 32768 used, le-ltb d.prio 32768 spare) (length-placed (c.prio, c.place) (messages cells))
-length-filled (d ∷ cells) (suc i) c within spare used =
-    let rest = length-filled cells i c (omega arith) spare used in
-    let new = length-placed (d.prio, d.place) (messages (slice_set cells i c)) in
-    let old = length-placed (d.prio, d.place) (messages cells) in
-    elim (cases_Bool (nat_lt d.prio 32768)) [ inl e ↦ rw e (omega arith) | inr e ↦ rw e rest ]
+length-filled (d ∷ cells) (suc i) c within spare used = grind (arith, length-placed, cases_Bool, length-filled cells i c (omega arith) spare used)
 
 -- a message that leaves its slot is one less
 pub length-emptied : (cells : List Cell) (i : ℕ) (c : Cell) → i < length cells → prio_at cells i < 32768 → 32768 ≤ c.prio → length (messages (slice_set cells i c)) + 1 ≡ length (messages cells)
 length-emptied [] i c within used spare = absurd (omega arith)
 length-emptied (d ∷ cells) zero c within used spare = rw (lt-ltb d.prio 32768 used, le-ltb c.prio 32768 spare) (sym (length-placed (d.prio, d.place) (messages cells)))
-length-emptied (d ∷ cells) (suc i) c within used spare =
-    let rest = length-emptied cells i c (omega arith) used spare in
-    let new = length-placed (d.prio, d.place) (messages (slice_set cells i c)) in
-    let old = length-placed (d.prio, d.place) (messages cells) in
-    elim (cases_Bool (nat_lt d.prio 32768)) [ inl e ↦ rw e (omega arith) | inr e ↦ rw e rest ]
+length-emptied (d ∷ cells) (suc i) c within used spare = grind (arith, length-placed, cases_Bool, length-emptied cells i c (omega arith) used spare)
 
 -- a slot that keeps its message leaves the messages as they are
 pub messages-relinked : (cells : List Cell) (i next : ℕ) → messages (slice_set cells i (record (cell_at cells i) { next = next })) ≡ messages cells
-messages-relinked [] i next = refl
-messages-relinked (d ∷ cells) zero next = refl
-messages-relinked (d ∷ cells) (suc i) next =
-    let rest = messages-relinked cells i next in
-    elim (cases_Bool (nat_lt d.prio 32768)) [ inl e ↦ rw e (ap (placed (d.prio, d.place)) rest) | inr e ↦ rw e rest ]
+messages-relinked (d ∷ cells) (suc i) next = grind (arith, cases_Bool, messages-relinked cells i next)
+messages-relinked _ _ next = refl
 
 -- if there are messages, some slot has one
 pub some-used : (cells : List Cell) → 0 < length (messages cells) → (i : ℕ) × (i < length cells) × (prio_at cells i < 32768)

@@ -1,13 +1,13 @@
 -- A push keeps the slots sound, and adds one message.
-use Rattle.std.proofs.Common.{◌≡◌, ◌≢◌, ◌↔◌, ℕ, ◌+◌, ◌-◌, ◌<◌, ◌≤◌, ◌⊎◌, inl, inr, ◌==◌, List, length, sym, ◌∙◌, ap, subst, arith, eqb-true, get_or-set_other, get_or-set_same}
+use Rattle.std.proofs.lemmas.Grind.{common_steps}
+use Rattle.std.proofs.Common.{◌≡◌, ◌≢◌, ◌↔◌, ℕ, ◌+◌, ◌-◌, ◌<◌, ◌≤◌, ◌⊎◌, inl, inr, ◌==◌, List, length, sym, ◌∙◌, ap, subst, arith, eqb-true, get_or-set_other, get_or-set_same, insert, slice_set}
 use Rattle.std.specs.List.{Contains}
-use Rattle.std.specs.Prelude.{insert, slice_set}
 use Rattle.std.proofs.lemmas.List.{length-set}
 use Rattle.std.proofs.lemmas.List.Edits.{length-insert}
 use Rattle.std.proofs.lemmas.Bool.{cases_Bool, cases_eq, cases_lt, lt-ltb, le-ltb, eqb-false}
 use Rattle.mq_slots.specs.declared.cells.Cell.{Cell}
 use Rattle.mq_slots.specs.declared.levels.Level.{Level}
-use Rattle.mq_slots.specs.Cells.{cell_at, linked}
+use Rattle.mq_slots.specs.Cells.{linked}
 use Rattle.mq_slots.specs.Levels.{no_level, level_at, last_from, noted}
 use Rattle.mq_slots.specs.Chains.{span, IsChained, IsFreed, IsLevelled}
 use Rattle.mq_slots.specs.Messages.{messages}
@@ -71,21 +71,11 @@ push-before cells levels free count room at prio place push =
 
 -- the slot before the message is another than the spare one
 pub push-apart : (cells : List Cell) (levels : List Level) (free count room at prio place : ℕ) → IsPush cells levels free count room at prio place → last_from levels at ≢ free
-push-apart cells levels free count room at prio place push e =
-    let before = push-before cells levels free count room at prio place push in
-    let new = push-new cells levels free count room at prio place push in
-    let chained = before.chained in
-    let spare = new.spare in
-    let same : prio_at cells (last_from levels at) ≡ prio_at cells free = ap (prio_at cells) e in
-    omega arith
+push-apart cells levels free count room at prio place push e = grind (arith, push-before, push-new)
 
 push-linked : (cells : List Cell) (levels : List Level) (free count room at prio place : ℕ) → IsPush cells levels free count room at prio place
     → (let cells' = linked cells (last_from levels at) free prio place in Linked (prio_at cells) (place_at cells) (next_at cells) (prio_at cells') (place_at cells') (next_at cells') (last_from levels at) free prio place)
-push-linked cells levels free count room at prio place push =
-    linked-cells cells (last_from levels at) free prio place
-    (push-before cells levels free count room at prio place push).within
-    (push-new cells levels free count room at prio place push).within
-    (push-apart cells levels free count room at prio place push)
+push-linked cells levels free count room at prio place push = grind (arith, common_steps, linked-cells, push-before, push-new, push-apart)
 
 push-slots : (cells : List Cell) (before new prio place : ℕ) → length (linked cells before new prio place) ≡ length cells
 push-slots cells before new prio place = length-set _ new _ ∙ length-set cells before _
@@ -120,17 +110,7 @@ push-levelled cells levels free count room at prio place push p' t' nx' before s
     ]
 
 pub pushed-count : (cells : List Cell) (levels : List Level) (free count room at prio place : ℕ) → IsPush cells levels free count room at prio place → length (messages (linked cells (last_from levels at) free prio place)) ≡ length (messages cells) + 1
-pushed-count cells levels free count room at prio place push =
-    let before = last_from levels at in
-    let new = push-new cells levels free count room at prio place push in
-    let relinked = slice_set cells before (record (cell_at cells before) { next = free }) in
-    let apart : free ≢ before = λ e. push-apart cells levels free count room at prio place push (sym e) in
-    let kept : cell_at relinked free ≡ cell_at cells free = get_or-set_other cells before free _ _ apart in
-    let kept_p : prio_at relinked free ≡ prio_at cells free = ap (λ (c : Cell). c.prio) kept in
-    let spare = new.spare in
-    let within : free < length relinked = subst (λ x. free < x) (sym (length-set cells before _)) new.within in
-    length-filled relinked free (record { prio = prio; place = place; next = next_at cells before }) within (omega arith) push.low
-    ∙ ap (λ (ms : List (ℕ × ℕ)). length ms + 1) (messages-relinked cells before free)
+pushed-count cells levels free count room at prio place push = grind (arith, push-new, push-apart, get_or-set_other, length-set, length-filled, messages-relinked)
 
 -- there is room for another level
 pub push-room : (cells : List Cell) (levels : List Level) (free count room at prio place : ℕ) → IsPush cells levels free count room at prio place → length levels < room

@@ -1,6 +1,6 @@
 //! The slots of a queue. Those with a message form one linked list, and the spare ones another.
-ghost use Rattle.std.specs.Prelude.{◌≡◌, ◌+◌, ◌<◌, ◌≤◌, [], ◌∷◌, ◌++◌, length, IfOk, slice_set, vec_len};
-ghost use Rattle.mq_slots.specs.Cells.{blank, cell_at, linked, unlinked, IsFresh};
+ghost use Rattle.std.specs.Prelude.{◌≡◌, ◌+◌, ◌<◌, ◌≤◌, length, IfOk};
+ghost use Rattle.mq_slots.specs.Cells.{cell_at, linked, unlinked, IsFresh};
 
 use std::alloc::{AllocError, Global};
 

@@ -1,5 +1,5 @@
 //! The messages present in one queue.
-ghost use Rattle.std.specs.Prelude.{◌≡◌, ◌≢◌, ℕ, ◌+◌, ◌-◌, ◌<◌, ◌≤◌, ◌↔◌, ◌⊎◌, [], ◌∷◌, length, Contains, IfOk, IfSome, IfNone, IsNone, IsTrue};
+ghost use Rattle.std.specs.Prelude.{◌≡◌, ◌≢◌, ℕ, ◌+◌, ◌-◌, ◌<◌, ◌≤◌, ◌↔◌, ◌⊎◌, [], ◌∷◌, length, Contains, IfOk, IfSome, IsNone, IsTrue};
 ghost use Rattle.mq_slots.specs.Messages.{IsBest, without};
 
 use crate::cells::{self, Cell};

@@ -1,5 +1,5 @@
 //! The table of the priorities in use, with the last slot of each.
-ghost use Rattle.std.specs.Prelude.{◌≡◌, ℕ, ◌+◌, ◌<◌, ◌≤◌, [], ◌∷◌, length, vec_len, vec_capacity};
+ghost use Rattle.std.specs.Prelude.{◌≡◌, ℕ, ◌+◌, ◌<◌, ◌≤◌, length, vec_len, vec_capacity};
 ghost use Rattle.mq_slots.specs.Levels.{level_at, last_from, noted, dropped, IsRising};
 
 /// A level: a priority in use, and the slot of its newest message. It is small, because an

@@ -1,6 +1,5 @@
 -- With bounds there is room for all that they allow.
-use Rattle.std.proofs.Common.{◌≡◌, ℕ, ◌+◌, ◌≤◌, true, false, List, ◌∷◌, length, Option, None, Result, Ok, Err, arith, rules}
-use Rattle.std.specs.Prelude.{IsOk}
+use Rattle.std.proofs.Common.{◌≡◌, ℕ, ◌+◌, ◌≤◌, true, false, List, ◌∷◌, length, Option, None, Result, Ok, Err, arith, rules, IsOk}
 use Rattle.std.specs.Result.{is_err}
 use Rattle.mq_model.specs.Record.{Record, Past, payload_bytes}
 use Rattle.mq_ledger.specs.Ledgers.{Shown}

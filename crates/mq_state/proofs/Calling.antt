@@ -1,8 +1,9 @@
 -- The calls in which processes wait.
-use Rattle.std.proofs.Common.{◌≡◌, ℕ, ◌+◌, ◌≤◌, ◌==◌, true, false, List, ◌∷◌, length, length-set, Option, Some, None, slice_index_or, refl, sym, ap, ◌∙◌, arith, eqb-true, eq-eqb, get_or-set_same, get_or-set_other}
+use Rattle.std.proofs.lemmas.Bool.Decides.{nat_tests}
+use Rattle.std.proofs.Common.{◌≡◌, ℕ, ◌+◌, ◌≤◌, ◌==◌, true, false, List, ◌∷◌, length, length-set, Option, Some, None, slice_index_or, refl, sym, ◌∙◌, arith, eqb-true, eq-eqb, get_or-set_same, get_or-set_other}
 use Rattle.std.proofs.lemmas.Bool.{eqb-false}
-use Rattle.std.specs.Option.{option_map, option_and_then, unwrap_or}
-use Rattle.mq_model.specs.Record.{Record, Past, record_at}
+use Rattle.std.specs.Option.{option_map, unwrap_or}
+use Rattle.mq_model.specs.Record.{Record, Past}
 use Rattle.mq_model.specs.Waits.{is_wait, open_wait}
 use Rattle.mq_model.specs.declared.entries.Call.{Call}
 use Rattle.mq_model.specs.declared.entries.Call.TheVariants.{Collect}
@@ -22,8 +23,7 @@ call_at o = unwrap_or (option_map (λ (x : Record). x.entry.call) o) Collect
 
 -- the call of a wait that remains open
 older : (past : Past) (r : Record) (p w : ℕ) → open_wait past p ≡ Some w → open_wait (r ∷ past) p ≡ Some w → waiting_call (r ∷ past) p ≡ waiting_call past p
-older past r p w was is =
-    ap (λ (o : Option ℕ). call_at (option_and_then (record_at (r ∷ past)) o)) is ∙ ap call_at (record_at-older past r w (open_wait-below past p w was)) ∙ sym (ap (λ (o : Option ℕ). call_at (option_and_then (record_at past) o)) was)
+older past r p w was is = grind (arith, record_at-older, open_wait-below)
 
 pub calls-keep : (past : Past) (r : Record) (n : ℕ) (calls : List Call) → AreCalls past n calls → r.entry.process ≤ n → AreCalls (r ∷ past) n (calls_noted (wait_move r.entry.reply) r.entry.process r.entry.call calls)
 calls-keep past r n calls old few = record { count = count (wait_move r.entry.reply); at = λ p w e. split (r.entry.process == p) (λ own. mine p w own e) (λ other. others p w other e) }
@@ -45,10 +45,7 @@ calls-keep past r n calls old few = record { count = count (wait_move r.entry.re
 
     mine : (p w : ℕ) → (r.entry.process == p) ≡ true → open_wait (r ∷ past) p ≡ Some w → slice_index_or (calls_noted (wait_move r.entry.reply) r.entry.process r.entry.call calls) p Collect ≡ waiting_call (r ∷ past) p
     mine p w own e = split (is_wait r.entry.reply)
-        (λ t. let place : Some (length past) ≡ Some w = rw (own, t) at e in let here : length past ≡ w = cc in let same : r.entry.process ≡ p = eqb-true _ _ own in
-        let begins : wait_move r.entry.reply ≡ Begins = waits r.entry.reply t in
-        let count = old.count in
-        rw (begins, ← same) (get_or-set_same calls r.entry.process r.entry.call Collect (omega (arith, few, count)) ∙ sym (newest r.entry.process t)))
+        (λ t. grind (arith, nat_tests, eqb-true, get_or-set_same))
         (λ f. let none : None ≡ Some w = rw (own, f) at e in absurd (cc))
       where
         waits : (reply : Reply) → is_wait reply ≡ true → wait_move reply ≡ Begins

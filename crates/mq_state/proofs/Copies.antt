@@ -1,5 +1,5 @@
 -- Copies of the tables say the same.
-use Rattle.std.proofs.Common.{◌≡◌, ℕ, zero, suc, ◌≤◌, List, [], ◌∷◌, length, refl, ap, ◌∙◌, arith}
+use Rattle.std.proofs.Common.{◌≡◌, ℕ, zero, suc, ◌≤◌, List, [], ◌∷◌, length, refl, ap, arith}
 use Rattle.std.specs.List.{AllZip}
 use Rattle.mq_model.specs.Record.{Past}
 use Rattle.mq_state.specs.InboxShown.{InboxShown}
@@ -14,9 +14,8 @@ pub record IsCopy (old new : InboxShown) : Type 0 where
 
 pub copies-count : (old new : List InboxShown) → AllZip IsCopy old new → length new ≡ length old
 copies-count [] [] are = refl
-copies-count [] (y ∷ new) are = absurd are
-copies-count (x ∷ old) [] are = absurd are
 copies-count (x ∷ old) (y ∷ new) are = ap suc (copies-count old new are.1)
+copies-count _ _ are = absurd are
 
 pub copies-notices : (old new : List InboxShown) → AllZip IsCopy old new → (p : ℕ) → notices_in new p ≡ notices_in old p
 unfolding notices_in
@@ -36,18 +35,4 @@ copies-room (x ∷ old) (y ∷ new) are (suc p) = copies-room old new are.1 p
 
 -- tables that say the same are those of the same records
 pub same_are_those : (past : Past) (old new : Tables) → AreThoseOf past old → SaysSame old new → AreThoseOf past new
-same_are_those past old new are same = record {
-  legal = are.legal;
-  few = rw same.n are.few;
-  mirror = record {
-    owner_count = rw (same.owners, same.n) are.mirror.owner_count;
-    inbox_count = rw same.n (same.inbox_count ∙ are.mirror.inbox_count);
-    lines = rw same.owners are.mirror.lines;
-    existing = rw same.queues are.mirror.existing;
-    notices = λ p. same.notices p ∙ are.mirror.notices p;
-  };
-  waits = rw (same.waits, same.owners) are.waits;
-  known = rw (same.owners, same.queues) are.known;
-  notice_room = rw same.queues (λ p. let h = are.notice_room p in let more = same.room p in omega (arith, h, more));
-  calls = rw (same.n, same.calls) are.calls;
-}
+same_are_those past old new are same = grind arith

@@ -22,7 +22,7 @@ none-true t (x ∷ xs) each =
     let here : t x ≡ false = each 0 x (omega arith) in
     rw here (none-true t xs (λ k e less. each (suc k) e (omega (arith, less))))
 
-in-places : (queues : List QueueShown) (k : ℕ) (d : QueueShown) → k < length queues → is_in (map (λ x. x.place) queues) (get_or queues k d).place ≡ true
+pub in-places : (queues : List QueueShown) (k : ℕ) (d : QueueShown) → k < length queues → is_in (map (λ x. x.place) queues) (get_or queues k d).place ≡ true
 in-places [] k d lt = absurd (omega (arith, lt))
 in-places (x ∷ queues) zero d lt = rw (eq-eqb x.place x.place refl) refl
 in-places (x ∷ queues) (suc k) d lt = split (x.place == (get_or queues k d).place) (λ t. rw t refl) (λ f. rw f (in-places queues k d (omega (arith, lt))))

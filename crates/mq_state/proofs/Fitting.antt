@@ -1,6 +1,5 @@
 -- A message that was accepted fits the buffers of its queue.
-use Rattle.std.proofs.Common.{◌≡◌, ℕ, ◌<◌, ◌≤◌, true, false, List, [], ◌∷◌, length, Option, Some, arith, ◌&&◌, ◌==◌}
-use Rattle.std.specs.Prelude.{int_lt, pos}
+use Rattle.std.proofs.Common.{◌≡◌, ℕ, ◌<◌, ◌≤◌, true, false, List, [], ◌∷◌, length, Option, Some, arith, ◌&&◌, ◌==◌, int_lt, pos, unwrap_or}
 use Rattle.mq_model.specs.Record.{Record, Past, record_at, first}
 use Rattle.mq_model.specs.Names.{attributes}
 use Rattle.mq_model.specs.Descriptors.{called_queue, is_on}
@@ -25,7 +24,6 @@ use Rattle.mq_state.proofs.QueuesKeep.{alive-below}
 use Rattle.mq_model.proofs.OthersLeave.{open_wait-below}
 use Rattle.mq_laws.proofs.SentMessages.{IsSentTo, is_sent, blocked-sent, admitted-sent}
 use Rattle.mq_laws.proofs.LegalPlaces.{legal-at, first-older}
-use Rattle.std.specs.Option.{unwrap_or}
 
 -- the message of a send that did not fail is at most as long as the msgsize of its queue
 send-fits : (past : Past) (p : ℕ) (call : Call) (reply : Reply) (payload : List ℕ) (q : ℕ) → Says past p call reply → is_payload call reply payload ≡ true → is_send call ≡ true → is_sent reply ≡ true → called_queue past p call ≡ Some q →

@@ -1,9 +1,9 @@
 -- After each entry there is room for the notice of each registration.
-use Rattle.std.proofs.Common.{◌≡◌, ◌≢◌, ℕ, ◌+◌, ◌<◌, ◌≤◌, Bool, true, false, List, [], ◌∷◌, length, map, cond, Option, Some, is_some, refl, sym, ◌∙◌, ap, arith, eq-eqb}
+use Rattle.std.proofs.Common.{◌≡◌, ◌≢◌, ℕ, ◌+◌, ◌<◌, ◌≤◌, Bool, true, false, List, [], ◌∷◌, length, map, cond, Option, Some, is_some, refl, arith, eq-eqb}
 use Rattle.std.proofs.lemmas.List.{length-map}
 use Rattle.std.proofs.lemmas.List.Sums.{sum_by-cons, sum_by_push, count_by-le-length}
 use Rattle.mq_model.specs.Record.{Past}
-use Rattle.mq_model.specs.Notices.{registration_of, registered, notified}
+use Rattle.mq_model.specs.Notices.{registration_of, notified}
 use Rattle.mq_model.specs.Legality.{Legal}
 use Rattle.mq_model.specs.declared.owners.Owner.{Owner}
 use Rattle.mq_model.specs.declared.entries.Entry.{Entry}
@@ -108,12 +108,7 @@ done-room past p call queues inboxes after q has kept room k = grind (arith, qui
 notified-room : (past : Past) → Legal past → (queues : List QueueShown) → QueuesMirror past queues → (p : ℕ) (call : Call) (reply : Reply) (payload : List ℕ) (q : ℕ) → EntryOn past p call payload reply q → (inboxes after : List InboxShown) →
     HasNoticeRoom queues inboxes → KeepsRoom queues inboxes after q true → (j : ℕ) → notified reply ≡ Some j → ((n : Registration) → registration_of (length past) p call reply ≢ Some n) → (k : ℕ) →
     registrations_in (map (reregistered q (length past) (record { process = p; call = call; reply = reply })) queues) k ≤ room_in after k
-notified-room past legal queues m p call reply payload q on inboxes after has kept j is none k =
-    let n = mapped (λ (n : Registration). n.place) (registered past q) j (notifies-registered past p call reply payload q on j is) in
-    let stands = registration-read past queues m q (notifies-alive past legal p call reply payload q on (ap is_some is)) ∙ n.1 in
-    let over = map-notified q (length past) (record { process = p; call = call; reply = reply }) queues n.0 (λ i n made same. none n made) stands (is ∙ ap Some (sym n.2)) in
-    let fewer = map-fewer q (length past) (record { process = p; call = call; reply = reply }) queues k (λ n made same. none n made) in
-    grind (arith, kept k, has k)
+notified-room past legal queues m p call reply payload q on inboxes after has kept j is none k = grind (arith, mapped, notifies-registered, registration-read, notifies-alive, map-notified, map-fewer)
 
 lines-room : (past : Past) → Legal past → (queues : List QueueShown) → QueuesMirror past queues → (p : ℕ) (call : Call) (reply : Reply) (payload : List ℕ) (q : ℕ) → EntryOn past p call payload reply q → (inboxes after : List InboxShown) →
     HasNoticeRoom queues inboxes → KeepsRoom queues inboxes after q (is_some (notified reply)) → HasRoomToRegister queues inboxes p call reply → (k : ℕ) →
@@ -121,8 +116,7 @@ lines-room : (past : Past) → Legal past → (queues : List QueueShown) → Que
 lines-room past legal queues m p call (Queued (Some j)) payload q on inboxes after has kept room k = notified-room past legal _ m p call (Queued (Some j)) payload q on _ _ has kept j refl (λ n e. cc) k
 lines-room past legal queues m p call (Got i a (Some j)) payload q on inboxes after has kept room k = notified-room past legal _ m p call (Got i a (Some j)) payload q on _ _ has kept j refl (λ n e. cc) k
 lines-room past legal queues m p call Done payload q on inboxes after has kept room k = done-room past p call queues inboxes after q has kept room k
-lines-room past legal queues m p call reply payload q on inboxes after has kept room k =
-    quiet-room (length past) (record { process = p; call = call; reply = reply }) queues inboxes after q has kept k (λ n e. absurd (cc))
+lines-room past legal queues m p call reply payload q on inboxes after has kept room k = grind (arith, quiet-room)
 
 -- after an entry the tables have room for the notice of each registration, if there was room for
 -- the one that it makes

@@ -70,9 +70,7 @@ pool-removed queues i d spares after o lt cap pool kept =
 -- a queue is created ------------------------------------------------------------------------------------------------------
 
 pub pool-fresh : (queues after : List QueueShown) (spares : List Held) (here : ℕ) (given : Attr) (o : Held) (a a' b : ℕ) → after ≡ queues ++ fresh here o.cap given ∷ [] → a' ≡ a → PoolWith (Some o) queues spares a b → PoolWith None after spares a' b
-pool-fresh queues after spares here given o a a' b is same with_one =
-    let wide = All-push Wide queues (fresh here o.cap given) with_one.0.wide with_one.1 in
-    grind (arith, length-append, wide)
+pool-fresh queues after spares here given o a a' b is same with_one = grind (arith, common_steps, All-push, length-append)
 
 -- with bounds and without
 pub pool-within : (o : Option Bounds) (before after : Option Held) (queues queues' : List QueueShown) (spares spares' : List Held) (a b a' b' : ℕ) → (PoolWith before queues spares a b → PoolWith after queues' spares' a' b') → PoolWithin o before queues spares a b → PoolWithin o after queues' spares' a' b'

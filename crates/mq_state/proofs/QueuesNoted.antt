@@ -1,13 +1,12 @@
 -- The table of queues is that of the journal after each entry.
 use Rattle.std.proofs.lemmas.Bool.Decides.{nat_tests}
-use Rattle.std.proofs.Common.{◌≡◌, ℕ, ◌<◌, ◌≤◌, ◌==◌, Bool, true, false, ◌&&◌, ◌||◌, not, List, [], ◌∷◌, ◌++◌, length, map, reverse, Option, Some, None, if◌then◌else◌, refl, sym, ◌∙◌, ap, arith, eqb-true, eq-eqb, ne_eqb, inl, inr}
-use Rattle.std.specs.Prelude.{int_le, pos}
+use Rattle.std.proofs.Common.{◌≡◌, ℕ, ◌<◌, ◌≤◌, ◌==◌, Bool, true, false, ◌&&◌, ◌||◌, not, List, [], ◌∷◌, ◌++◌, length, map, reverse, Option, Some, None, if◌then◌else◌, refl, sym, ◌∙◌, ap, arith, eqb-true, eq-eqb, ne_eqb, inl, inr, int_le, pos}
 use Rattle.std.specs.List.{filter}
 use Rattle.std.proofs.lemmas.Bool.{eqb-false}
 use Rattle.mq_model.specs.Record.{Past}
 use Rattle.mq_model.specs.Names.{creates, bound_queue, attributes_given}
 use Rattle.mq_model.specs.Descriptors.{held, created, alive, is_named, is_held, is_place}
-use Rattle.mq_model.specs.Messages.{is_in, present}
+use Rattle.mq_model.specs.Messages.{is_in}
 use Rattle.mq_model.specs.Notices.{registered, registration_after}
 use Rattle.mq_model.specs.Legality.{Legal}
 use Rattle.mq_model.specs.Owners.{OwnersMirror, is_held_in}
@@ -19,9 +18,8 @@ use Rattle.mq_model.specs.declared.entries.Reply.{Reply}
 use Rattle.mq_model.specs.declared.entries.Reply.TheVariants.{Opened, Attrs, Done}
 use Rattle.mq_model.specs.declared.owners.Owner.{Owner}
 use Rattle.mq_model.proofs.Places.{split}
-use Rattle.mq_model.proofs.HeldQueues.{bound-created, called-alive}
-use Rattle.mq_model.proofs.Waiters.{in-filter}
-use Rattle.mq_model.proofs.Presence.{sent_to, admitted-to, present-admitted}
+use Rattle.mq_model.proofs.HeldQueues.{bound-created, called-alive, in-filter}
+use Rattle.mq_model.proofs.Presence.{sent_to}
 use Rattle.mq_model.proofs.Alive.{is_needed, is_held-table, named-same, named-created, named-newest, named-unlinked, bound-named, alive-same_queues, alive-opened, alive-new, alive-closed, alive-unlinked}
 use Rattle.mq_model.proofs.Frames.{attributes-older}
 use Rattle.mq_state.specs.declared.moves.LineMove.{LineMove}
@@ -34,6 +32,7 @@ use Rattle.mq_state.proofs.Moving.{rec, OpenedOn, EntryOn}
 use Rattle.mq_state.proofs.QueuesKeep.{alive-below, reverse-cons, in-reverse, line-alive, slots-few, presence, same-slots}
 use Rattle.std.proofs.lemmas.List.Elements.{filter-append}
 use Rattle.std.proofs.lemmas.List.{map-append, append-nil}
+use Rattle.mq_model.proofs.PresentFew.{present-new}
 
 -- which queues are named after the entry
 named-keeps : (past : Past) (p : ℕ) (call : Call) (reply : Reply) (payload : List ℕ) (q : ℕ) → EntryOn past p call payload reply q → (k : ℕ) → k < length past →
@@ -119,23 +118,15 @@ noted-queues-keeps past legal owners queues m p call reply payload q on allows o
 
 -- a queue that was just created ------------------------------------------------------------------------------------------
 
-nil-of : (xs : List ℕ) → ((m : ℕ) → is_in xs m ≡ true → ⊥) → xs ≡ []
-nil-of [] none = refl
-nil-of (x ∷ xs) none = absurd (none x (rw (eq-eqb x x refl) refl))
-
 pub sent_to-below : (past : Past) → Legal past → (m q : ℕ) → sent_to past m ≡ Some q → q < length past
 sent_to-below [] legal m q e = absurd (cc)
 sent_to-below (r ∷ past) legal m q e = let here = called-alive past legal.0 r.entry.process r.entry.call q in grind (arith, split, alive-below past q, sent_to-below past legal.0 m q)
-
--- a queue that was not created yet has no message and no registration
-present-later : (past : Past) → Legal past → (q : ℕ) → length past ≤ q → present past q ≡ []
-present-later past legal q le = nil-of (present past q) (λ m h. grind (arith, sent_to-below past legal m q, admitted-to past q m (present-admitted past q m h)))
 
 on-below : (past : Past) (q : ℕ) → length past ≤ q → (o : Option ℕ) → ((k : ℕ) → o ≡ Some k → is_in (alive past) k ≡ true) → is_place q o ≡ false
 on-below past q le None exists = refl
 on-below past q le (Some k) exists = ne_eqb k q (λ same. let lt = alive-below past k (exists k refl) in omega (arith, lt))
 
-registered-later : (past : Past) → Legal past → (q : ℕ) → length past ≤ q → registered past q ≡ None
+pub registered-later : (past : Past) → Legal past → (q : ℕ) → length past ≤ q → registered past q ≡ None
 registered-later [] legal q le = refl
 registered-later (r ∷ past) legal q le = grind (arith, on-below past q (omega arith) _ (called-alive past legal.0 r.entry.process r.entry.call), registered-later past legal.0 q)
 
@@ -164,5 +155,5 @@ noted-queues-creates past legal owners queues m p call d payload q cap on roomy 
     new-line =
         let named = named-newest past (rec p call (Opened d true) payload) (rw on.is refl) in
         let registration = registered-later past legal (length past) (omega arith) in
-        let slots = present-later past legal (length past) (omega arith) in
+        let slots = present-new past legal (length past) (omega arith) in
         grind (arith, eq-eqb)

@@ -14,12 +14,11 @@ use Rattle.mq_model.specs.Descriptors.{alive}
 use Rattle.mq_model.specs.Messages.{is_in, is_send, is_receive, blocked_sends, present, admits, waiting_sends, least}
 use Rattle.mq_model.specs.Legality.{Legal, IsLegalNext, reply_to}
 use Rattle.mq_model.specs.declared.entries.Call.{Call}
-use Rattle.mq_model.specs.declared.entries.Call.TheVariants.{MqOpen, MqClose, MqUnlink, MqSend, MqReceive, MqGetattr, MqSetattr, MqNotify, NextNotice, Collect, MqTimedSend, MqTimedReceive, Withdraw}
 use Rattle.mq_model.specs.declared.entries.Reply.{Reply}
 use Rattle.mq_model.specs.declared.entries.Reply.TheVariants.{Opened, Queued, Handed, Waits, Got, Collected, Attrs, Notice, Done, Refused, Withdrawn}
 use Rattle.mq_model.proofs.Cases.{Says, reply_says}
 use Rattle.mq_model.proofs.LegalReplies.{legal_says, got_says}
-use Rattle.mq_model.proofs.Places.{find-in, is_in-filter, split}
+use Rattle.mq_model.proofs.Places.{find-in, is_in-filter}
 use Rattle.mq_model.proofs.NamedWaits.{least-in}
 use Rattle.mq_model.proofs.HeldQueues.{held-alive}
 use Rattle.mq_model.specs.declared.bounds.Bounds.{Bounds}
@@ -42,16 +41,7 @@ pub given-readable : (s : Shown) → IsReadable s → Legal s.records → (p : �
 given-readable s reads legal p call (Got m a n) says =
     let got = got_says s.records p call m a n says in
     reads m (present-needed s.records legal got.2.queue m (held-alive s.records legal p got.0 got.2 got.4) (find-in _ (present s.records got.2.queue) m got.6).0)
-given-readable s reads legal p call (Opened d new) says = tt
-given-readable s reads legal p call (Queued n) says = tt
-given-readable s reads legal p call (Handed w) says = tt
-given-readable s reads legal p call Waits says = tt
-given-readable s reads legal p call (Collected b) says = tt
-given-readable s reads legal p call (Withdrawn b) says = tt
-given-readable s reads legal p call (Attrs x) says = tt
-given-readable s reads legal p call (Notice v) says = tt
-given-readable s reads legal p call Done says = tt
-given-readable s reads legal p call (Refused f) says = tt
+given-readable s reads legal p call _ says = tt
 
 pub reply-readable : (s : Shown) → IsReadable s → Legal s.records → (p : ℕ) (call : Call) (name : List ℕ) (reply : Reply) → reply ≡ reply_to s.records p call name → CanReadGiven s reply
 reply-readable s reads legal p call name reply is =
@@ -60,19 +50,7 @@ reply-readable s reads legal p call name reply is =
 
 -- a receive's queue, and the send that it admits
 admitted-queue : (past : Past) → Legal past → (p : ℕ) (call : Call) (m : ℕ) (a n : Option ℕ) → Says past p call (Got m a n) → (q : ℕ) × (is_in (alive past) q ≡ true) × (a ≡ least (waiting_sends past q))
-admitted-queue past legal p (MqReceive d room) m a n says = (says.0.queue, held-alive past legal p d says.0 says.1, says.3.1)
-admitted-queue past legal p (MqTimedReceive d room until now) m a n says = (says.0.queue, held-alive past legal p d says.0 says.1, says.3.1)
-admitted-queue past legal p (MqOpen flags attr) m a n says = absurd says
-admitted-queue past legal p (MqClose d) m a n says = absurd says.0
-admitted-queue past legal p MqUnlink m a n says = absurd says
-admitted-queue past legal p (MqSend d prio len) m a n says = absurd says.3
-admitted-queue past legal p (MqTimedSend d prio len until now) m a n says = absurd says.3
-admitted-queue past legal p (MqGetattr d) m a n says = absurd says
-admitted-queue past legal p (MqSetattr d nonblock) m a n says = absurd says
-admitted-queue past legal p (MqNotify d value) m a n says = absurd says
-admitted-queue past legal p NextNotice m a n says = absurd (cc)
-admitted-queue past legal p Collect m a n says = absurd (cc)
-admitted-queue past legal p (Withdraw now) m a n says = absurd (cc)
+admitted-queue past legal p call m a n says = grind (arith, held-alive)
 
 -- the send that a reply admits
 pub admitted-readable : (s : Shown) → IsReadable s → Legal s.records → (r : Record) → IsLegalNext s.records r → CanReadAdmitted s (admits r.entry.reply)
@@ -98,13 +76,11 @@ admitted-readable s reads legal r next = by r.entry.reply (legal_says s.records 
 -- the room that bounds ask for is there after one more record
 pub room-stays : (bounds : Option Bounds) (j j' : Shown) (r : Record) → (bounds ≢ None → j.stored ≡ true) → HasRoomWithin bounds j → j'.records ≡ r ∷ j.records → j.entry_room ≤ j'.entry_room + 1 →
     (j.stored ≡ true → j.byte_room ≤ j'.byte_room + length r.payload) → HasRoomWithin bounds j'
-room-stays None j j' r stored room records entries bytes = tt
-room-stays (Some b) j j' r stored room records entries bytes = room-keeps (Some b) j j' r room records entries (bytes (stored (λ e. cc)))
+room-stays bounds j j' r stored room records entries bytes = grind (arith, room-keeps)
 
 -- the same room, shown by another
 pub room-same : (bounds : Option Bounds) (j j' : Shown) → j'.records ≡ j.records → j'.entry_room ≡ j.entry_room → j'.byte_room ≡ j.byte_room → HasRoomWithin bounds j → HasRoomWithin bounds j'
-room-same None j j' records entries bytes room = tt
-room-same (Some b) j j' records entries bytes room = (rw (records, entries) room.0, rw (records, bytes) room.1)
+room-same bounds j j' records entries bytes room = grind arith
 
 one-kind : (call : Call) → is_send call ≡ true → is_receive call ≡ true → ⊥
 one-kind call s r = grind arith
@@ -139,18 +115,7 @@ handed-is past legal p w b open_at answered r at receives =
 
 -- the message that a collect returns can be read
 pub collect-readable : (s : Shown) → IsReadable s → Legal s.records → (p b : ℕ) → answered_by s.records p ≡ Some b → is_receive (waiting_call s.records p) ≡ true → CanRead s b
-collect-readable s reads legal p b answered receives = by (open_wait s.records p) refl
-  where
-    found : (w : ℕ) → open_wait s.records p ≡ Some w → (o : Option Record) → record_at s.records w ≡ o → CanRead s b
-    found w e None none = let bad : is_receive Collect ≡ true = rw (e, none) at receives in absurd (cc)
-    found w e (Some r) at =
-        let is : is_receive r.entry.call ≡ true = rw (e, at) at receives in
-        let x = handed-is s.records legal p w b e answered r at is in
-        reads b (handed-needed s.records legal p b x.0 answered x.1)
-
-    by : (o : Option ℕ) → open_wait s.records p ≡ o → CanRead s b
-    by None none = let bad : is_receive Collect ≡ true = rw none at receives in absurd (cc)
-    by (Some w) e = found w e (record_at s.records w) refl
+collect-readable s reads legal p b answered receives = grind (arith, handed-is, handed-needed)
 
 -- of no record is anything needed
 pub none-needed : (k : ℕ) → IsNeeded [] k → ⊥
@@ -158,19 +123,7 @@ none-needed k needed = let bad : false ≡ true = needed.kept in cc
 
 -- the same records, with as much room at least, of which what is needed can be read
 pub kept-again : (j j' : Shown) (t : Tables) → IsKeptBy j t → j'.records ≡ j.records → j.entry_room ≤ j'.entry_room → j.byte_room ≤ j'.byte_room → j'.stored ≡ j.stored → IsReadable j' → IsKeptBy j' t
-kept-again j j' t kept records entries bytes stored reads = record {
-  tables = rw records kept.tables;
-  processes = rw records kept.processes;
-  room = let room = kept.room in omega (arith, room, entries);
-  bounded = within t.bounds kept.bounded;
-  notices = rw records kept.notices;
-  readable = reads;
-  stored = λ some. stored ∙ kept.stored some;
-}
-  where
-    within : (b : Option Bounds) → HasRoomWithin b j → HasRoomWithin b j'
-    within None room = tt
-    within (Some b) room = (rw records (let le = room.0 in omega (arith, le, entries)), rw records (let le = room.1 in omega (arith, le, bytes)))
+kept-again j j' t kept records entries bytes stored reads = grind arith
 
 -- the same, of which as much can be read
 pub kept-roomier : (j j' : Shown) (t : Tables) → IsKeptBy j t → j'.records ≡ j.records → j.entry_room ≤ j'.entry_room → j.byte_room ≤ j'.byte_room → j'.stored ≡ j.stored → ((k : ℕ) → CanRead j k → CanRead j' k) → IsKeptBy j' t
@@ -178,29 +131,13 @@ kept-roomier j j' t kept records entries bytes stored keeps = kept-again j j' t 
 
 -- a queue whose line is not there exists no longer
 pub gone-line : (past : Past) (queues : List QueueShown) → QueuesMirror past queues → (q : ℕ) → queue_in queues q ≡ None → is_in (alive past) q ≡ false
-gone-line past queues mirror q none = split (is_in (alive past) q)
-    (λ there. let x = alive-line past queues mirror q there in let bad : None ≡ Some x.0 = sym none ∙ x.1 in absurd (cc))
-    (λ gone. gone)
+gone-line past queues mirror q none = grind (arith, alive-line)
 
 -- what is lost with such a queue is forgotten
 pub kept-forgotten : (j j' : Shown) (t : Tables) (q : ℕ) → IsKeptBy j t → queue_in t.queues.items q ≡ None → j'.records ≡ j.records → j.entry_room ≤ j'.entry_room → j'.byte_room ≡ j.byte_room → j'.stored ≡ j.stored →
     ((k : ℕ) → home j.records k ≢ Some q → CanRead j k → CanRead j' k) → IsKeptBy j' t
-kept-forgotten j j' t q kept none records entries bytes stored keeps = kept-again j j' t kept records entries (omega (arith, bytes)) stored
-    (λ k needed. enough-forget j.records q (CanRead j) (CanRead j') (gone-line j.records t.queues.items kept.tables.mirror.existing q none) keeps kept.readable k (rw records at needed))
+kept-forgotten j j' t q kept none records entries bytes stored keeps = grind (arith, kept-again, enough-forget, gone-line)
 
 -- the queue that a send, or a call that waits, is made on
 pub goes-to : (past : Past) (p : ℕ) (call : Call) (reply : Reply) (payload : List ℕ) (q : ℕ) → q ≡ entry_queue past p call payload → IsLegalNext past (rec p call reply payload) → GoesTo past (rec p call reply payload) q
-goes-to past p call reply payload q is next = by reply (subst (EntryOn past p call payload reply) (sym is) (entry-on past p call reply payload next))
-  where
-    by : (y : Reply) → EntryOn past p call payload y q → GoesTo past (rec p call y payload) q
-    by (Queued n) on = on.called
-    by Waits on = on
-    by (Opened d new) on = tt
-    by (Handed w) on = tt
-    by (Got m a n) on = tt
-    by (Collected b) on = tt
-    by (Withdrawn b) on = tt
-    by (Attrs x) on = tt
-    by (Notice v) on = tt
-    by Done on = tt
-    by (Refused f) on = tt
+goes-to past p call reply payload q is next = grind (arith, EntryOn, entry-on, rec)

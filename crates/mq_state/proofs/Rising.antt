@@ -1,5 +1,5 @@
 -- The places of the rows rise, so that a queue is found by binary search, and has only one index.
-use Rattle.std.proofs.Common.{◌≡◌, ℕ, suc, ◌+◌, ◌<◌, ◌≤◌, ◌==◌, Bool, true, false, List, [], ◌∷◌, ◌++◌, length, map, reverse, Some, None, get_or, refl, arith}
+use Rattle.std.proofs.Common.{◌≡◌, ℕ, suc, ◌+◌, ◌<◌, ◌≤◌, ◌==◌, Bool, true, false, List, [], ◌∷◌, ◌++◌, length, reverse, Some, None, get_or, refl, arith}
 use Rattle.std.specs.List.{filter, position, position_from}
 use Rattle.std.proofs.lemmas.Iterator.Adapters.{position_from-zero}
 use Rattle.mq_model.specs.Record.{Past}
@@ -11,6 +11,7 @@ use Rattle.mq_state.specs.QueueShown.{QueueShown}
 use Rattle.mq_state.specs.Queues.{Rises, HaveRisingPlaces, QueuesMirror}
 use Rattle.mq_state.proofs.QueuesKeep.{in-append, in-reverse, reverse-cons}
 use Rattle.std.proofs.lemmas.List.{get_or_default}
+use Rattle.mq_state.proofs.Finding.{in-places}
 
 rises-push : (ks : List ℕ) (k : ℕ) → Rises ks → ((j : ℕ) → is_in ks j ≡ true → j < k) → Rises (ks ++ k ∷ [])
 rises-push [] k rises below = grind arith
@@ -26,12 +27,8 @@ rising-places past queues m = rw m.places (rises-created _ past)
 
 -- by index ---------------------------------------------------------------------------------------------------------------
 
-in-at : (queues : List QueueShown) (j : ℕ) (d : QueueShown) → j < length queues → is_in (map (λ x. x.place) queues) (get_or queues j d).place ≡ true
-in-at (x ∷ queues) (suc j) d lt = grind (arith, in-at queues j d)
-in-at queues j d lt = grind arith
-
 rising-at : (queues : List QueueShown) → HaveRisingPlaces queues → (i j : ℕ) (d e : QueueShown) → i < j → j < length queues → (get_or queues i d).place < (get_or queues j e).place
-rising-at (x ∷ queues) rises i (suc j) d e lt within = grind (arith, rises.0, in-at queues j e, rising-at queues rises.1)
+rising-at (x ∷ queues) rises i (suc j) d e lt within = grind (arith, rises.0, in-places queues j e, rising-at queues rises.1)
 rising-at queues rises i j d e lt within = absurd (omega arith)
 
 at-index : (queues : List QueueShown) (q i n : ℕ) (d : QueueShown) → i < length queues → (get_or queues i d).place ≡ q → ((k : ℕ) (e : QueueShown) → k < i → (get_or queues k e).place < q) → position_from (λ x. x.place == q) n queues ≡ Some (n + i)

@@ -1,5 +1,5 @@
 -- When no process can make a call.
-use Rattle.std.proofs.Common.{◌≡◌, ℕ, true, false, List, [], Option, arith}
+use Rattle.std.proofs.Common.{◌≡◌, ℕ, true, false, List, [], Option, arith, unwrap_or, pos}
 use Rattle.std.proofs.lemmas.Bool.Decides.{nat_tests}
 use Rattle.mq_model.specs.Record.{Past}
 use Rattle.mq_model.specs.Waits.{wait_deadline}
@@ -7,8 +7,6 @@ use Rattle.mq_model.specs.declared.bounds.Bounds.{Bounds}
 use Rattle.mq_model.specs.declared.entries.Call.{Call}
 use Rattle.mq_model.specs.declared.entries.Call.TheVariants.{MqClose, Collect, Withdraw}
 use Rattle.mq_state.specs.Room.{can_make, can_call}
-use Rattle.std.specs.Option.{unwrap_or}
-use Rattle.std.specs.Prelude.{pos}
 
 -- such a process can make none
 pub can_make-none : (bounds : Option Bounds) (past : Past) (p : ℕ) → can_call bounds past p ≡ false → (call : Call) (given : List ℕ) → can_make bounds past p call given ≡ false

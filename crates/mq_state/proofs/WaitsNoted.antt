@@ -1,6 +1,5 @@
 -- How many processes wait after an entry, and that the tables keep their sizes.
-use Rattle.std.proofs.Common.{◌≡◌, ℕ, refl, ◌+◌, ◌<◌, ◌≤◌, List, length, arith}
-use Rattle.std.specs.Prelude.{IsTrue}
+use Rattle.std.proofs.Common.{◌≡◌, ℕ, refl, ◌+◌, ◌<◌, ◌≤◌, List, length, arith, IsTrue}
 use Rattle.std.proofs.lemmas.List.Sums.{count_by-le-length}
 use Rattle.mq_model.specs.Record.{Past}
 use Rattle.mq_model.specs.Legality.{may_call}

@@ -32,10 +32,6 @@ at-last P all xs x is holds = last-of P xs x (rw is at holds)
 pub before-last : {X : Type 0} (P : X → Type 0) (all xs : List X) (x : X) → all ≡ xs ++ x ∷ [] → All P all → All P xs
 before-last P all xs x is holds = front-of P xs x (rw is at holds)
 
--- what holds of all holds of those after the first
-pub after-first : {X : Type 0} (P : X → Type 0) (all xs : List X) (x : X) → all ≡ x ∷ xs → All P all → All P xs
-after-first P all xs x is holds = All-tail P x xs (rw is at holds)
-
 pub at-first : {X : Type 0} (P : X → Type 0) (all xs : List X) (x : X) → all ≡ x ∷ xs → All P all → P x
 at-first P all xs x is holds = All-head P x xs (rw is at holds)
 

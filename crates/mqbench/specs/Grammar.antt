@@ -3,7 +3,7 @@ use Rattle.std.specs.Prelude.{ℕ, Bool, true, false, not, ◌&&◌, ◌==◌, �
 use Rattle.std.specs.List.{list_any}
 use Rattle.std.specs.Str.{bytes_eq}
 use Rattle.text_io.specs.Words.{Word, words_of}
-use Rattle.mqbench.specs.Sizes.{◌>>=◌, size_written}
+use Rattle.mqbench.specs.Sizes.{size_written, ◌>>=◌}
 use Rattle.mqbench.specs.declared.fault.LineFault.{LineFault}
 use Rattle.mqbench.specs.declared.fault.LineFault.TheVariants.{NoWorkload, DeepMessages, CrowdMessages, OddCrowd, NoJournal}
 use Rattle.mqbench.specs.declared.size.Size.{Size}

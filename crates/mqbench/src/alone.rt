@@ -1,5 +1,4 @@
 //! Workloads of one process.
-ghost use Rattle.std.specs.Prelude.{◌≡◌, OnOk};
 ghost use Rattle.mqbench.specs.Ready.{IsReady};
 
 use crate::calls::{open, receive, send};

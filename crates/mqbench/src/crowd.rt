@@ -1,5 +1,4 @@
 //! Workloads in which processes alternate between two parts, with one thread for each process.
-ghost use Rattle.std.specs.Prelude.{◌≡◌};
 ghost use Rattle.std.specs.List.{All};
 ghost use Rattle.mqbench.specs.Ready.{IsReady};
 

@@ -1,5 +1,4 @@
 //! The workload of one process that works while the others are blocked.
-ghost use Rattle.std.specs.Prelude.{◌≡◌};
 ghost use Rattle.std.specs.List.{All};
 ghost use Rattle.mqbench.specs.Ready.{IsReady};
 

@@ -1,5 +1,5 @@
 //! Processes on the same queues, with one thread for each process.
-ghost use Rattle.std.specs.Prelude.{◌≡◌, OnOk};
+ghost use Rattle.std.specs.Prelude.{OnOk};
 ghost use Rattle.std.specs.List.{All};
 ghost use Rattle.mqbench.specs.Ready.{IsReady};
 

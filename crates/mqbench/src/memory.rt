@@ -1,5 +1,4 @@
 //! The workload that observes the memory of the program.
-ghost use Rattle.std.specs.Prelude.{◌≡◌};
 ghost use Rattle.mqbench.specs.Ready.{IsReady};
 
 use crate::alone::{DEPTH, calls};

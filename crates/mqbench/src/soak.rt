@@ -2,7 +2,7 @@
 //! process, while the memory of the program must not grow. Half of them send and receive messages
 //! that say who sent them, each of which has to arrive once and in order. The others make the calls
 //! of a storm on other queues.
-ghost use Rattle.std.specs.Prelude.{◌≡◌, ◌<◌};
+ghost use Rattle.std.specs.Prelude.{◌<◌};
 ghost use Rattle.std.specs.List.{All};
 ghost use Rattle.mqbench.specs.Ready.{IsReady};
 

@@ -1,5 +1,4 @@
 //! The workload of one process beside many others, which have opened many queues.
-ghost use Rattle.std.specs.Prelude.{◌≡◌};
 ghost use Rattle.std.specs.List.{All};
 ghost use Rattle.mqbench.specs.Ready.{IsReady};
 

@@ -1,5 +1,5 @@
 //! What a line asks for, and the words for it.
-ghost use Rattle.std.specs.Prelude.{◌≡◌, ◌≤◌, ◌*◌, ◌∷◌, [], map};
+ghost use Rattle.std.specs.Prelude.{◌≡◌, ◌*◌, ◌∷◌, [], map};
 ghost use Rattle.mqbench.specs.Grammar.{request_written, busy_written, measured_written, bounded_written, unstored_written, reads_journal, is_stored, usual_storage, workload_written, size_alone, deep_written, replay_written, crowd_written, idle_written, storm_written, name_written, named};
 
 use crate::fault::LineFault;

@@ -8,7 +8,6 @@ use Rattle.journal_tasks.specs.declared.every_order.Trial.{Trial}
 use Rattle.journal_tasks.specs.declared.judge.Question.{Question}
 use Rattle.journal_tasks.specs.declared.state.Wanted.{Wanted}
 use Rattle.journal_tasks.specs.declared.window.Window.{Window}
-use Rattle.journal_views.specs.declared.form.Form.{Form}
 use Rattle.journal_views.specs.declared.form.Form.TheVariants.{Text, Json}
 
 -- all entries are shown, unless the first or the last is given

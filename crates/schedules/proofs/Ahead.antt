@@ -1,5 +1,6 @@
 -- What remains for a search: the choices that are left at the nodes of its path.
-use Rattle.std.proofs.Common.{◌≡◌, ℕ, ◌+◌, ◌<◌, ◌≤◌, ◌⊎◌, inl, inr, Bool, true, false, List, [], ◌∷◌, ◌++◌, Option, Some, None, IsSome, refl, subst, sym, ap, ◌∙◌, arith}
+use Rattle.std.proofs.lemmas.Bool.Decides.{nat_tests}
+use Rattle.std.proofs.Common.{◌≡◌, ℕ, ◌+◌, ◌<◌, ◌≤◌, ◌⊎◌, inl, inr, Bool, true, false, List, [], ◌∷◌, ◌++◌, Option, Some, None, IsSome, refl, subst, sym, ap, ◌∙◌, arith, rules}
 use Rattle.std.proofs.lemmas.Bool.{cases_lt}
 use Rattle.std.specs.Option.{option_and_then}
 use Rattle.schedules.specs.Schedules.{after, HasNoGoal}
@@ -30,11 +31,7 @@ covered-skips {S} next is_goal IsPersistent enough [] low high s now le runs non
     let P : S → Type 0 = λ x. (choice : ℕ) → low ≤ choice → choice < high → next x choice ≡ None in
     let here : (choice : ℕ) → low ≤ choice → choice < high → next s choice ≡ None = subst P same none in
     let done : AreDoneBelow next is_goal s high ⊎ IsPersistent s high = elim covered.1 [
-      | inl before ↦ inl (λ less t below step.
-          elim (cases_lt less low) [
-            | inl h ↦ before less t h step
-            | inr h ↦ let e : next s less ≡ None = here less h below in let k : ⊥ = cc in absurd k
-          ])
+      | inl before ↦ grind (arith, nat_tests, cases_lt)
       | inr persistent ↦ elim (cases_lt low high) [
         | inl lt ↦ inl (done_below next is_goal s high (enough s low persistent (λ t step. let e : next s low ≡ None = here low (omega arith) lt in let k : ⊥ = cc in absurd k)))
         | inr ge ↦ inr (let e : low ≡ high = omega (arith, le, ge) in let Q : ℕ → Type 0 = λ n. IsPersistent s n in subst Q e persistent)
@@ -60,8 +57,7 @@ pub ahead-from : {S : Type 0} (next : S → ℕ → Option S) (is_goal : S → B
     after next path s ≡ Some now → IsFirstFrom next now from first →
     Covered next is_goal IsPersistent (path ++ from ∷ []) s → IsAhead next is_goal IsPersistent path s now first
 ahead-from next is_goal IsPersistent enough path from None s now runs first covered = no_goal_here next is_goal IsPersistent enough path from s now runs first covered
-ahead-from next is_goal IsPersistent enough path from (Some choice) s now runs first covered =
-    (covered-skips next is_goal IsPersistent enough path from choice s now first.0 runs first.2 covered, first.1)
+ahead-from next is_goal IsPersistent enough path from (Some choice) s now runs first covered = search (rules, covered-skips)
 
 -- persistent choices can be taken
 abbrev pub CanBeTaken : {S : Type 0} → (S → ℕ → Option S) → (S → ℕ → Type 0) → Type 0
@@ -72,12 +68,7 @@ pub ahead-first : {S : Type 0} (next : S → ℕ → Option S) (is_goal : S → 
     (path : List ℕ) (first : Option ℕ) (s t : S) →
     after next path s ≡ Some t → is_goal t ≡ false → Covered next is_goal IsPersistent path s →
     IsFirst next IsPersistent t first → IsAhead next is_goal IsPersistent path s t first
-ahead-first {S} next is_goal IsPersistent enough can path first s t runs no_goal covered is = elim is [
-  | inl from ↦ ahead-from next is_goal IsPersistent enough path 0 first s t runs from (covered-push next is_goal IsPersistent path s t runs no_goal covered)
-  | inr alone ↦
-      let P : Option ℕ → Type 0 = λ o. IsAhead next is_goal IsPersistent path s t o in
-      subst P (sym alone.is) (covered-alone next is_goal IsPersistent path alone.choice s t runs no_goal alone.persistent covered, can t alone.choice alone.persistent)
-]
+ahead-first {S} next is_goal IsPersistent enough can path first s t runs no_goal covered is = grind (arith, ahead-from, covered-push, covered-alone)
 
 -- the same, unless it leads to no goal
 pub ahead-entered : {S : Type 0} (next : S → ℕ → Option S) (is_goal : S → Bool) (IsPersistent : S → ℕ → Type 0) → Suffices next is_goal IsPersistent → CanBeTaken next IsPersistent →
@@ -85,11 +76,8 @@ pub ahead-entered : {S : Type 0} (next : S → ℕ → Option S) (is_goal : S �
     after next path s ≡ Some t → is_goal t ≡ false → Covered next is_goal IsPersistent path s →
     (done ≡ false → IsFirst next IsPersistent t first) → (done ≡ true → first ≡ None) → (done ≡ true → HasNoGoal next is_goal t) →
     IsAhead next is_goal IsPersistent path s t first
-ahead-entered next is_goal IsPersistent enough can path first s t false runs no_goal covered new nothing none =
-    ahead-first next is_goal IsPersistent enough can path first s t runs no_goal covered (new refl)
-ahead-entered {S} next is_goal IsPersistent enough can path first s t true runs no_goal covered new nothing none =
-    let P : Option ℕ → Type 0 = λ o. IsAhead next is_goal IsPersistent path s t o in
-    subst P (sym (nothing refl)) (none refl)
+ahead-entered next is_goal IsPersistent enough can path first s t false runs no_goal covered new nothing none = grind (arith, ahead-first)
+ahead-entered {S} next is_goal IsPersistent enough can path first s t true runs no_goal covered new nothing none = grind arith
 
 -- the position of a search: its path leads to a node, which is the state of the machine if a choice
 -- is to be taken there
@@ -114,23 +102,11 @@ stands-first next is_goal IsPersistent IsKey enough can start first no_goal is =
   ahead = ahead-first next is_goal IsPersistent enough can [] first start start refl no_goal tt is;
 }
 
-ahead-fewer : {S : Type 0} (next : S → ℕ → Option S) (is_goal fewer : S → Bool) (IsPersistent : S → ℕ → Type 0) → ((s : S) → is_goal s ≡ false → fewer s ≡ false) →
-    (path : List ℕ) (s now : S) (choice : Option ℕ) → IsAhead next is_goal IsPersistent path s now choice → IsAhead next fewer IsPersistent path s now choice
-ahead-fewer next is_goal fewer IsPersistent less path s now None ahead = λ schedule to reaches. less to (ahead schedule to reaches)
-ahead-fewer next is_goal fewer IsPersistent less path s now (Some choice) ahead = (covered-fewer next is_goal fewer IsPersistent less (path ++ choice ∷ []) s ahead.0, ahead.1)
-
 -- if there are fewer goals
 pub stands-fewer : {S : Type 0} (next : S → ℕ → Option S) (is_goal fewer : S → Bool) (IsPersistent : S → ℕ → Type 0) (IsKey : S → List ℕ → Type 0) → ((s : S) → is_goal s ≡ false → fewer s ≡ false) →
     (path : List ℕ) (levels : List Level) (start machine : S) (choice : Option ℕ) →
     Stands next is_goal IsPersistent IsKey path levels start machine choice → Stands next fewer IsPersistent IsKey path levels start machine choice
-stands-fewer next is_goal fewer IsPersistent IsKey less path levels start machine choice stands = record {
-  node = stands.node;
-  runs = stands.runs;
-  here = stands.here;
-  covered = covered-fewer next is_goal fewer IsPersistent less path start stands.covered;
-  known = stands.known;
-  ahead = ahead-fewer next is_goal fewer IsPersistent less path start stands.node choice stands.ahead;
-}
+stands-fewer next is_goal fewer IsPersistent IsKey less path levels start machine choice stands = grind (arith, covered-fewer)
 
 -- a choice was taken
 pub stands-push : {S : Type 0} (next : S → ℕ → Option S) (is_goal : S → Bool) (IsPersistent : S → ℕ → Type 0) (IsKey : S → List ℕ → Type 0) → Suffices next is_goal IsPersistent → CanBeTaken next IsPersistent →
@@ -151,27 +127,8 @@ stands-push {S} next is_goal IsPersistent IsKey enough can path levels start mac
       ahead = ahead-entered next is_goal IsPersistent enough can (path ++ choice ∷ []) first start t done further no_goal stands.ahead.0 new nothing none;
     }
 
-first-later : {S : Type 0} (next : S → ℕ → Option S) (s : S) (from : ℕ) (first : Option ℕ) → IsFirstFrom next s from first → (c : ℕ) → first ≡ Some c → from ≤ c
-first-later next s from None is c e = let k : ⊥ = cc in absurd k
-first-later next s from (Some choice) is c e = let same : choice ≡ c = cc in rw (← same) is.0
-
 following-later : {S : Type 0} (next : S → ℕ → Option S) (IsPersistent : S → ℕ → Type 0) (s : S) (choice : ℕ) (other : Option ℕ) → IsFollowing next IsPersistent s choice other → (c : ℕ) → other ≡ Some c → choice + 1 ≤ c
-following-later next IsPersistent s choice other is c e = elim is [
-  | inl first ↦ first-later next s (choice + 1) other first c e
-  | inr alone ↦ let none : other ≡ None = alone.0 in let k : ⊥ = cc in absurd k
-]
-
--- the choices up to this one lead to no goal, and the next one follows it
-ahead-following : {S : Type 0} (next : S → ℕ → Option S) (is_goal : S → Bool) (IsPersistent : S → ℕ → Type 0) → Suffices next is_goal IsPersistent →
-    (path : List ℕ) (choice : ℕ) (other : Option ℕ) (s now : S) →
-    after next path s ≡ Some now → IsFollowing next IsPersistent now choice other → ((t : S) → next now choice ≡ Some t → HasNoGoal next is_goal t) →
-    Covered next is_goal IsPersistent (path ++ (choice + 1) ∷ []) s → IsAhead next is_goal IsPersistent path s now other
-ahead-following {S} next is_goal IsPersistent enough path choice other s now runs is none covered = elim is [
-  | inl first ↦ ahead-from next is_goal IsPersistent enough path (choice + 1) other s now runs first covered
-  | inr alone ↦
-      let P : Option ℕ → Type 0 = λ o. IsAhead next is_goal IsPersistent path s now o in
-      subst P (sym alone.0) (enough now choice alone.1 none)
-]
+following-later next IsPersistent s choice other is c e = grind arith
 
 -- a choice was taken back
 pub record Leaves {S : Type 0} (next : S → ℕ → Option S) (is_goal : S → Bool) (IsPersistent : S → ℕ → Type 0) (IsKey : S → List ℕ → Type 0) (front : List ℕ) (last : ℕ) (levels : List Level) (start left : S) : Type 0 where
@@ -200,24 +157,7 @@ stands-back {S} next is_goal IsPersistent IsKey enough path front last levels st
       | None ↦ (λ e h. cc)
       | Some node ↦ (λ e h.
           let level = split.here node e in
-          let step : next node last ≡ Some stands.node = taken next node stands.node last (rw e at last_step) in
-          record {
-            others = split.others;
-            level = split.kept;
-            are = split.are;
-            key = level.key stands.node step;
-            later = following-later next IsPersistent node last split.kept.other level.following;
-            back = λ machine at. record {
-              node = node;
-              runs = e;
-              here = λ some. let f = at some in cc;
-              covered = covered-front next is_goal IsPersistent front (last ∷ []) start covered;
-              known = split.front_are;
-              ahead =
-                  ahead-following next is_goal IsPersistent enough front last split.kept.other start node e level.following
-                  (λ t there. none t (after-push next front last start node t e there)) further;
-            };
-          })
+          grind (arith, nat_tests, taken, following-later, covered-front, after-push, Covered, IsAhead, ahead-from))
     ]
     in
     goes (after next front start) refl (front_runs next front (last ∷ []) start stands.node runs)
@@ -226,8 +166,4 @@ stands-back {S} next is_goal IsPersistent IsKey enough path front last levels st
 pub step-goes : {S : Type 0} (next : S → ℕ → Option S) (s t : S) (choice : ℕ) (went : Bool) →
     (went ≡ true → next s choice ≡ Some t) → (went ≡ false → next s choice ≡ None) → IsSome (next s choice) → next s choice ≡ Some t
 step-goes next s t choice true goes none some = goes refl
-step-goes {S} next s t choice false goes none some =
-    let P : Option S → Type 0 = λ o. IsSome o in
-    let nothing : Option S = None in
-    let h : IsSome nothing = subst P (none refl) some in
-    cc
+step-goes {S} next s t choice false goes none some = grind arith

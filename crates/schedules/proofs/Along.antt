@@ -1,5 +1,5 @@
 -- What a search keeps for each choice of its path.
-use Rattle.std.proofs.Common.{◌≡◌, ℕ, List, [], ◌∷◌, ◌++◌, Option, Some, None, refl, subst, ap}
+use Rattle.std.proofs.Common.{◌≡◌, ℕ, List, [], ◌∷◌, ◌++◌, Option, Some, None, refl, subst, ap, arith}
 use Rattle.std.specs.Option.{option_and_then}
 use Rattle.schedules.specs.Schedules.{after}
 
@@ -14,16 +14,12 @@ AreAlong {S} next IsOf (choice ∷ path) (l ∷ ls) s = IsOf s choice l × ((t :
 pub along-push : {S L : Type 0} (next : S → ℕ → Option S) (IsOf : S → ℕ → L → Type 0) (path : List ℕ) (ls : List L) (choice : ℕ) (l : L) (s now : S) →
     after next path s ≡ Some now → IsOf now choice l →
     AreAlong next IsOf path ls s → AreAlong next IsOf (path ++ choice ∷ []) (ls ++ l ∷ []) s
-along-push {S} next IsOf [] [] choice l s now runs is are =
-    let same : now ≡ s = cc in
-    let P : S → Type 0 = λ x. IsOf x choice l in
-    (subst P same is, (λ t step. tt))
-along-push next IsOf [] (k ∷ ls) choice l s now runs is are = absurd are
-along-push next IsOf (c ∷ path) [] choice l s now runs is are = absurd are
+along-push {S} next IsOf [] [] choice l s now runs is are = grind arith
 along-push {S} next IsOf (c ∷ path) (k ∷ ls) choice l s now runs is are = (
   are.0,
   (λ t step. along-push next IsOf path ls choice l t now (let e : option_and_then (after next path) (next s c) ≡ Some now = runs in rw step at e) is (are.1 t step)),
 )
+along-push next IsOf _ _ choice l s now runs is are = absurd are
 
 -- the last choice of a path
 pub record IsLast {S L : Type 0} (next : S → ℕ → Option S) (IsOf : S → ℕ → L → Type 0) (front : List ℕ) (last : ℕ) (ls : List L) (s : S) : Type 0 where
@@ -43,12 +39,7 @@ along-last {S} next IsOf [] last (l ∷ []) s now runs are = record {
   front_are = tt;
   here = λ node is. let same : s ≡ node = cc in let P : S → Type 0 = λ x. IsOf x last l in subst P same are.0;
 }
-along-last {S} next IsOf [] last (l ∷ m ∷ ls) s now runs are =
-    let goes : (o : Option S) → next s last ≡ o → option_and_then (after next []) o ≡ Some now → IsLast next IsOf [] last (l ∷ m ∷ ls) s =
-    λ (o : Option S). elim o as (λ o. next s last ≡ o → option_and_then (after next []) o ≡ Some now → IsLast next IsOf [] last (l ∷ m ∷ ls) s)
-    [ None ↦ (λ e h. cc) | Some t ↦ (λ e h. absurd (are.1 t e)) ]
-    in
-    goes (next s last) refl runs
+along-last {S} next IsOf [] last (l ∷ m ∷ ls) s now runs are = grind arith
 along-last next IsOf (c ∷ front) last [] s now runs are = absurd are
 along-last {S} {L} next IsOf (c ∷ front) last (l ∷ ls) s now runs are =
     let goes : (o : Option S) → next s c ≡ o → option_and_then (after next (front ++ last ∷ [])) o ≡ Some now → IsLast next IsOf (c ∷ front) last (l ∷ ls) s =
@@ -69,8 +60,4 @@ along-last {S} {L} next IsOf (c ∷ front) last (l ∷ ls) s now runs are =
 
 -- a schedule of one choice
 pub taken : {S : Type 0} (next : S → ℕ → Option S) (s t : S) (choice : ℕ) → after next (choice ∷ []) s ≡ Some t → next s choice ≡ Some t
-taken {S} next s t choice runs =
-    let goes : (o : Option S) → option_and_then (after next []) o ≡ Some t → o ≡ Some t =
-    λ (o : Option S). elim o as (λ o. option_and_then (after next []) o ≡ Some t → o ≡ Some t) [ None ↦ (λ h. h) | Some u ↦ (λ h. h) ]
-    in
-    goes (next s choice) runs
+taken {S} next s t choice runs = grind arith

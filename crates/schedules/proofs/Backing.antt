@@ -1,5 +1,5 @@
 -- Going back to the state after a path.
-use Rattle.std.proofs.Common.{All, length-append, slice_index_or, ◌≡◌, ℕ, ◌+◌, ◌<◌, Bool, true, false, List, [], ◌∷◌, ◌++◌, length, take, drop, get_or, Option, Some, None, IsSome, refl, sym, ap, subst, ◌∙◌, arith, drop-cons, take-suc, add-one}
+use Rattle.std.proofs.Common.{All, length-append, ◌≡◌, ℕ, ◌+◌, ◌<◌, Bool, true, false, List, [], ◌∷◌, ◌++◌, length, take, drop, get_or, Option, Some, None, IsSome, refl, sym, ap, subst, ◌∙◌, arith, drop-cons, take-suc, add-one}
 use Rattle.std.proofs.lemmas.List.{take-append-drop, get_or_append_left}
 use Rattle.std.specs.Option.{option_and_then}
 use Rattle.schedules.specs.Schedules.{after}
@@ -16,11 +16,7 @@ rest-runs {S} next path depth s x runs =
 
 -- the first choice of a schedule that can be taken can be taken
 first-goes : {S : Type 0} (next : S → ℕ → Option S) (s : S) (choice : ℕ) (rest : List ℕ) → IsSome (after next (choice ∷ rest) s) → IsSome (next s choice)
-first-goes {S} next s choice rest some =
-    let goes : (o : Option S) → IsSome (option_and_then (after next rest) o) → IsSome o =
-    λ (o : Option S). elim o as (λ o. IsSome (option_and_then (after next rest) o) → IsSome o) [ None ↦ (λ h. h) | Some t ↦ (λ h. refl) ]
-    in
-    goes (next s choice) some
+first-goes {S} next s choice rest some = grind arith
 
 -- the next choice of a path that can be taken can be taken
 pub path-goes : {S : Type 0} (next : S → ℕ → Option S) (path : List ℕ) (depth : ℕ) (s x t : S) (went : Bool) → depth < length path →
@@ -44,8 +40,4 @@ path-further {S} next path depth s x t lt runs step =
 
 -- what holds of all items holds of the first ones
 pub all-front : {X : Type 0} (P : X → Type 0) (front xs rest : List X) → xs ≡ front ++ rest → All P xs → All P front
-all-front {X} P front xs rest parts all =
-    λ k d lt.
-    let count : length xs ≡ length front + length rest = ap (λ (ys : List X). length ys) parts ∙ length-append front rest in
-    let here = all k d (omega (arith, lt, count)) in
-    subst P (ap (λ (ys : List X). slice_index_or ys k d) parts ∙ get_or_append_left front rest d k lt) here
+all-front {X} P front xs rest parts all = grind (arith, length-append, get_or_append_left)

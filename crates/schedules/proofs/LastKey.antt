@@ -1,7 +1,6 @@
 -- The keys of the nodes to which the choices of a path lead.
-use Rattle.std.proofs.Common.{◌≡◌, ℕ, Bool, true, false, List, [], ◌∷◌, ◌++◌, Option, Some, None, IsSome, Vec, if◌then◌else◌, refl, subst, sym, ◌∙◌}
-use Rattle.std.specs.Option.{option_and_then}
-use Rattle.std.specs.declared.alloc.Global.{Global}
+use Rattle.std.proofs.lemmas.Bool.Decides.{nat_tests}
+use Rattle.std.proofs.Common.{◌≡◌, ℕ, Bool, List, [], ◌∷◌, ◌++◌, Option, Some, None, Vec, if◌then◌else◌, subst, arith, Global}
 use Rattle.schedules.specs.Schedules.{after}
 use Rattle.schedules.specs.Likeness.{HasKey}
 use Rattle.schedules.proofs.Along.{AreAlong, along-last, taken}
@@ -28,22 +27,8 @@ keys-last {S} next IsKey path front choice keys start now parts runs_on are =
     let runs : after next (front ++ choice ∷ []) start ≡ Some now = (let P : List ℕ → Type 0 = λ xs. after next xs start ≡ Some now in subst P parts runs_on) in
     let known : AreKeys next IsKey (front ++ choice ∷ []) keys start = (let P : List ℕ → Type 0 = λ xs. AreKeys next IsKey xs keys start in subst P parts are) in
     let split = along-last next (IsKeyOf next IsKey) front choice keys start now runs known in
-    let last_step : option_and_then (after next (choice ∷ [])) (after next front start) ≡ Some now = sym (after-append next front (choice ∷ []) start) ∙ runs in
-    let goes : (o : Option S) → after next front start ≡ o → IsSome o → HasKey IsKey now split.kept =
-    λ (o : Option S). elim o as (λ o. after next front start ≡ o → IsSome o → HasKey IsKey now split.kept) [
-      | None ↦ (λ e h. cc)
-      | Some node ↦ (λ e h. split.here node e now (taken next node now choice (rw e at last_step)))
-    ]
-    in
-    record {
-      others = split.others;
-      last = split.kept;
-      are = split.are;
-      front_are = split.front_are;
-      key = goes (after next front start) refl (front_runs next front (choice ∷ []) start now runs);
-    }
+    grind (arith, nat_tests, after-append, taken, front_runs)
 
 -- a key that is perhaps left out
 pub has-kept : {S : Type 0} (IsKey : S → List ℕ → Type 0) (s : S) (key kept : Option (Vec ℕ Global)) (b : Bool) → kept ≡ (if b then key else None) → HasKey IsKey s key → HasKey IsKey s kept
-has-kept IsKey s key kept true is has = rw is has
-has-kept IsKey s key kept false is has = rw is tt
+has-kept IsKey s key kept b is has = grind arith

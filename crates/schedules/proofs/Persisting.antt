@@ -1,5 +1,6 @@
 -- What a persistent choice leads to no goal of, nothing does.
-use Rattle.std.proofs.Common.{◌≡◌, ℕ, ◌==◌, ◌++◌, Bool, true, false, List, [], ◌∷◌, Option, Some, None, IsSome, refl, sym, subst, ap, ◌∙◌, eqb-true}
+use Rattle.std.proofs.lemmas.Bool.Decides.{nat_tests}
+use Rattle.std.proofs.Common.{◌≡◌, ℕ, ◌==◌, ◌++◌, Bool, true, false, List, [], ◌∷◌, Option, Some, None, IsSome, refl, ap, ◌∙◌, eqb-true, arith}
 use Rattle.std.specs.Option.{option_and_then}
 use Rattle.schedules.specs.Schedules.{IsReached, after, HasNoGoal}
 use Rattle.schedules.specs.Likeness.{AreBothAlike}
@@ -29,17 +30,11 @@ reached-push next start s t choice reached step = (reached.0 ++ choice ∷ [], a
 no_goal-from : {S : Type 0} (next : S → ℕ → Option S) (is_goal : S → Bool) (IsAlike : S → S → Type 0) (IsPersistent : S → ℕ → Type 0) (start : S) →
     Persist next is_goal IsAlike IsPersistent start → (schedule : List ℕ) (s y : S) (choice : ℕ) → IsReached next start s → IsPersistent s choice →
     next s choice ≡ Some y → HasNoGoal next is_goal y → (to : S) → after next schedule s ≡ Some to → is_goal to ≡ false
-no_goal-from next is_goal IsAlike IsPersistent start laws [] s y choice reached persistent step none to runs =
-    let same : s ≡ to = cc in
-    rw (← same) (laws.no_goal s choice reached persistent)
+no_goal-from next is_goal IsAlike IsPersistent start laws [] s y choice reached persistent step none to runs = grind arith
 no_goal-from {S} next is_goal IsAlike IsPersistent start laws (other ∷ schedule) s y choice reached persistent step none to runs =
     let goes : (b : Bool) → (choice == other) ≡ b → (o : Option S) → next s other ≡ o → option_and_then (after next schedule) o ≡ Some to → is_goal to ≡ false =
     λ (b : Bool). elim b as (λ b. (choice == other) ≡ b → (o : Option S) → next s other ≡ o → option_and_then (after next schedule) o ≡ Some to → is_goal to ≡ false) [
-      | true ↦ (λ e o is h.
-          let one : choice ≡ other = eqb-true choice other e in
-          let there : next s other ≡ Some y = (let P : ℕ → Type 0 = λ n. next s n ≡ Some y in subst P one step) in
-          let here : o ≡ Some y = sym is ∙ there in
-          none schedule to (rw here at h))
+      | true ↦ grind (arith, nat_tests, eqb-true)
       | false ↦ (λ e o. elim o as (λ o. next s other ≡ o → option_and_then (after next schedule) o ≡ Some to → is_goal to ≡ false) [
         | None ↦ (λ is h. cc)
         | Some z ↦ (λ is h.

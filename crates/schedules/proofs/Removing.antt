@@ -1,5 +1,6 @@
 -- Marks that are removed from the end.
-use Rattle.std.proofs.Common.{arith, ◌≡◌, ◌-◌, ◌∙◌, ℕ, suc, true, false, List, [], ◌∷◌, ◌++◌, length, Option, Some, None, ap, refl, append_assoc, slice_get}
+use Rattle.std.proofs.lemmas.Grind.{common_steps}
+use Rattle.std.proofs.Common.{arith, ◌≡◌, ◌-◌, ◌∙◌, ℕ, suc, true, false, List, [], ◌∷◌, ◌++◌, length, Option, Some, None, ap, refl, slice_get}
 use Rattle.std.specs.Option.{is_some, option_to_list}
 use Rattle.std.specs.List.{All}
 use Rattle.std.proofs.lemmas.List.Elements.{All-cons}
@@ -10,7 +11,7 @@ get-pushed : {X : Type 0} (xs : List X) (x : X) → slice_get (xs ++ x ∷ []) (
 get-pushed [] x = refl
 get-pushed (y ∷ xs) x = get-pushed xs x
 
-length-pushed : {X : Type 0} (xs : List X) (x : X) → length (xs ++ x ∷ []) ≡ suc (length xs)
+pub length-pushed : {X : Type 0} (xs : List X) (x : X) → length (xs ++ x ∷ []) ≡ suc (length xs)
 length-pushed [] x = refl
 length-pushed (y ∷ xs) x = ap suc (length-pushed xs x)
 
@@ -24,14 +25,10 @@ pub removed : {T : Type 0} (path : List ℕ) (old marks front others : List (Mar
     is_some popped ≡ true → old ≡ marks ++ others → All (λ mark. IsOn path mark → ⊥) others → marks ≡ front ++ option_to_list popped →
     ((mark : Mark T) → last_of marks ≡ Some mark → IsOn path mark → ⊥) →
     (x : List (Mark T)) × (old ≡ front ++ x) × All (λ mark. IsOn path mark → ⊥) x
-removed path old marks front others None some whole off parts none = absurd (cc)
-removed path old marks front others (Some mark) some whole off parts none =
-    let off_last = none mark (ap last_of parts ∙ last-pushed front mark) in
-    (mark ∷ others, whole ∙ ap (λ t. t ++ others) parts ∙ append_assoc front (mark ∷ []) others, All-cons (λ mark. IsOn path mark → ⊥) mark others off_last off)
+removed path old marks front others popped some whole off parts none = grind (arith, common_steps, last-pushed, All-cons)
 
-is-none : {A : Type 0} (o : Option A) → is_some o ≡ false → o ≡ None
-is-none None not = refl
-is-none (Some x) not = absurd (cc)
+pub is-none : {A : Type 0} (o : Option A) → is_some o ≡ false → o ≡ None
+is-none o not = grind arith
 
 pub none-is : {A : Type 0} (o : Option A) (P : Type 0) → is_some o ≡ false → (o ≡ None → P) → P
 none-is o P not then = then (is-none o not)

@@ -1,5 +1,7 @@
 -- How many of its steps a search has made.
-use Rattle.std.proofs.Common.{◌≡◌, ℕ, ◌+◌, ◌*◌, ◌^◌, ◌<◌, ◌≤◌, zero, suc, inl, inr, List, [], ◌∷◌, ◌++◌, length, Option, Some, None, unwrap_or, refl, subst, sym, ap, ◌∙◌, arith, length-append, add-one}
+use Rattle.std.proofs.lemmas.Bool.Decides.{nat_tests}
+use Rattle.std.proofs.lemmas.Grind.{common_steps}
+use Rattle.std.proofs.Common.{◌≡◌, ℕ, ◌+◌, ◌*◌, ◌^◌, ◌<◌, ◌≤◌, zero, suc, inl, inr, List, [], ◌∷◌, ◌++◌, length, Option, Some, None, unwrap_or, refl, ap, ◌∙◌, arith, length-append, add-one}
 use Rattle.std.proofs.lemmas.Bool.{cases_lt}
 use Rattle.std.proofs.Math.Nat.{mul-le-mul_right, pow-succ', pow-zero}
 use Rattle.std.specs.Option.{option_map, option_and_then}
@@ -36,16 +38,8 @@ pub spent-entered : {S : Type 0} (next : S → ℕ → Option S) (choices : S �
     after next path s ≡ Some now → next now choice ≡ Some t → length path < n →
     spent next choices back n depth (path ++ choice ∷ []) 0 s ≡ spent next choices back n depth path choice s + 1
 spent-entered next choices back zero depth path choice s now t runs step deep = let k : ⊥ = omega (arith, deep) in absurd k
-spent-entered {S} next choices back (suc zero) depth [] choice s now t runs step deep =
-    let same : s ≡ now = cc in
-    let e : next s choice ≡ Some t = rw same step in
-    let f = ap (λ (o : Option S). unwrap_or (option_map (spent next choices back 0 (depth + 1) [] 0) o) 0) e in
-    omega (arith, f)
-spent-entered {S} next choices back (suc (suc n)) depth [] choice s now t runs step deep =
-    let same : s ≡ now = cc in
-    let e : next s choice ≡ Some t = rw same step in
-    let f = ap (λ (o : Option S). unwrap_or (option_map (spent next choices back (suc n) (depth + 1) [] 0) o) 0) e in
-    omega (arith, f)
+spent-entered {S} next choices back (suc zero) depth [] choice s now t runs step deep = grind arith
+spent-entered {S} next choices back (suc (suc n)) depth [] choice s now t runs step deep = grind arith
 spent-entered {S} next choices back (suc n) depth (p ∷ path) choice s now t runs step deep =
     let low : length path < n = omega (arith, deep) in
     let goes : (o : Option S) → next s p ≡ o → option_and_then (after next path) o ≡ Some now →
@@ -54,10 +48,7 @@ spent-entered {S} next choices back (suc n) depth (p ∷ path) choice s now t ru
     spent next choices back (suc n) depth (p ∷ (path ++ choice ∷ [])) 0 s ≡ spent next choices back (suc n) depth (p ∷ path) choice s + 1) [
       | None ↦ (λ e h. let k : ⊥ = cc in absurd k)
       | Some u ↦ (λ e h.
-          let ih = spent-entered next choices back n (depth + 1) path choice u now t h step low in
-          let f = ap (λ (o : Option S). unwrap_or (option_map (spent next choices back n (depth + 1) (path ++ choice ∷ []) 0) o) 0) e in
-          let g = ap (λ (o : Option S). unwrap_or (option_map (spent next choices back n (depth + 1) path choice) o) 0) e in
-          omega (arith, ih, f, g))
+          grind (arith, nat_tests, spent-entered next choices back n (depth + 1) path choice u now t h step low))
     ]
     in
     goes (next s p) refl runs
@@ -80,10 +71,7 @@ pub spent-skipped : {S : Type 0} (next : S → ℕ → Option S) (choices : S �
     after next path s ≡ Some now → length path < n →
     spent next choices back n depth path choice s + 1 ≤ spent next choices back n depth path (choice + 1) s
 spent-skipped next choices back zero depth path choice s now runs deep = let k : ⊥ = omega (arith, deep) in absurd k
-spent-skipped next choices back (suc n) depth [] choice s now runs deep =
-    let h : sum_below (cost next choices back n (depth + 1) s) choice + 1 ≤ sum_below (cost next choices back n (depth + 1) s) (choice + 1) =
-    (let e = sum-next (cost next choices back n (depth + 1) s) choice in omega (arith, e)) in
-    h
+spent-skipped next choices back (suc n) depth [] choice s now runs deep = grind (arith, sum-next)
 spent-skipped {S} next choices back (suc n) depth (p ∷ path) choice s now runs deep =
     let low : length path < n = omega (arith, deep) in
     let goes : (o : Option S) → option_and_then (after next path) o ≡ Some now →
@@ -101,19 +89,7 @@ spent-skipped {S} next choices back (suc n) depth (p ∷ path) choice s now runs
 pub spent-left : {S : Type 0} (next : S → ℕ → Option S) (choices : S → ℕ) (back : ℕ → ℕ) (n depth : ℕ) (front : List ℕ) (last choice : ℕ) (s now : S) →
     after next (front ++ last ∷ []) s ≡ Some now → choice ≤ choices now → length front + 1 < n →
     spent next choices back n depth (front ++ last ∷ []) choice s + back (depth + length front + 1) ≤ spent next choices back n depth front (last + 1) s
-spent-left next choices back zero depth front last choice s now runs few deep = let k : ⊥ = omega (arith, deep) in absurd k
-spent-left next choices back (suc zero) depth front last choice s now runs few deep = let k : ⊥ = omega (arith, deep) in absurd k
-spent-left {S} next choices back (suc (suc n)) depth [] last choice s now runs few deep =
-    let step : next s last ≡ Some now = taken next s now last runs in
-    let f = ap (λ (o : Option S). unwrap_or (option_map (spent next choices back (suc n) (depth + 1) [] choice) o) 0) step in
-    let g = ap (λ (o : Option S). unwrap_or (option_map (work next choices back (suc n) (depth + 1)) o) 0) step in
-    let h = sum-le (cost next choices back n (depth + 1 + 1) now) choice (choices now) few in
-    let e : depth + 0 + 1 ≡ depth + 1 = omega arith in
-    let b = ap back e in
-    let i = sum-next (cost next choices back (suc n) (depth + 1) s) last in
-    let goal : sum_below (cost next choices back (suc n) (depth + 1) s) last + 1 + unwrap_or (option_map (spent next choices back (suc n) (depth + 1) [] choice) (next s last)) 0 + back (depth + 0 + 1)
-    ≤ sum_below (cost next choices back (suc n) (depth + 1) s) (last + 1) = omega (arith, f, g, h, b, i) in
-    goal
+spent-left {S} next choices back (suc (suc n)) depth [] last choice s now runs few deep = grind (arith, taken, sum-le, sum-next)
 spent-left {S} next choices back (suc (suc n)) depth (p ∷ front) last choice s now runs few deep =
     let low : length front + 1 < suc n = omega (arith, deep) in
     let goes : (o : Option S) → option_and_then (after next (front ++ last ∷ [])) o ≡ Some now →
@@ -130,6 +106,7 @@ spent-left {S} next choices back (suc (suc n)) depth (p ∷ front) last choice s
     let e : depth + length (p ∷ front) + 1 ≡ depth + 1 + length front + 1 = omega arith in
     let b = ap back e in
     omega (arith, h, b)
+spent-left next choices back _ depth front last choice s now runs few deep = let k : ⊥ = omega (arith, deep) in absurd k
 
 -- no more were made than it takes to try all
 pub spent-within : {S : Type 0} (next : S → ℕ → Option S) (choices : S → ℕ) (back : ℕ → ℕ) →
@@ -137,11 +114,7 @@ pub spent-within : {S : Type 0} (next : S → ℕ → Option S) (choices : S →
     after next path s ≡ Some now → choice ≤ choices now →
     spent next choices back n depth path choice s ≤ work next choices back n depth s
 spent-within next choices back others zero depth path choice s now runs few = omega arith
-spent-within {S} next choices back others (suc n) depth [] choice s now runs few =
-    let same : now ≡ s = cc in
-    let less : choice ≤ choices s = rw (← same) few in
-    let h = sum-le (cost next choices back n (depth + 1) s) choice (choices s) less in
-    omega (arith, h)
+spent-within {S} next choices back others (suc n) depth [] choice s now runs few = grind (arith, sum-le)
 spent-within {S} next choices back others (suc n) depth (p ∷ path) choice s now runs few =
     let goes : (o : Option S) → next s p ≡ o → option_and_then (after next path) o ≡ Some now → spent next choices back (suc n) depth (p ∷ path) choice s ≤ work next choices back (suc n) depth s =
     λ (o : Option S). elim o as (λ o. next s p ≡ o → option_and_then (after next path) o ≡ Some now → spent next choices back (suc n) depth (p ∷ path) choice s ≤ work next choices back (suc n) depth s) [
@@ -180,37 +153,14 @@ pub spends-entered : {S : Type 0} (next : S → ℕ → Option S) (choices : S �
     after next path start ≡ Some now → next now choice ≡ Some t → steps < budget →
     HasSpent next choices back budget steps more path start now (Some choice) →
     HasSpent next choices back budget (steps + 1) more (path ++ choice ∷ []) start t first
-spends-entered next choices back budget steps more path choice start now t first runs step within has =
-    let e = spent-entered next choices back budget 0 path choice start now t runs step (omega (arith, has.deep, within)) in
-    let le = spent-le next choices back budget 0 path has.at choice start (has.early choice refl) in
-    let made = has.made in
-    let deep = has.deep in
-    let count = length-append path (choice ∷ []) in
-    record {
-      deep = omega (arith, deep, count);
-      at = 0;
-      early = λ c e. omega arith;
-      few = omega arith;
-      made = omega (arith, e, le, made);
-    }
+spends-entered next choices back budget steps more path choice start now t first runs step within has = grind (arith, spent-entered, spent-le, length-append)
 
 -- a choice is passed over
 pub spends-skipped : {S : Type 0} (next : S → ℕ → Option S) (choices : S → ℕ) (back : ℕ → ℕ) (budget steps more : ℕ) (path : List ℕ) (choice : ℕ) (start now : S) →
     after next path start ≡ Some now → choice < choices now → steps < budget →
     HasSpent next choices back budget steps more path start now (Some choice) →
     HasSpent next choices back budget (steps + 1) more path start now (Some (choice + 1))
-spends-skipped next choices back budget steps more path choice start now runs below within has =
-    let skipped = spent-skipped next choices back budget 0 path choice start now runs (omega (arith, has.deep, within)) in
-    let le = spent-le next choices back budget 0 path has.at choice start (has.early choice refl) in
-    let made = has.made in
-    let deep = has.deep in
-    record {
-      deep = omega (arith, deep);
-      at = choice + 1;
-      early = λ c e. let same : choice + 1 ≡ c = cc in omega (arith, same);
-      few = omega (arith, below);
-      made = omega (arith, skipped, le, made);
-    }
+spends-skipped next choices back budget steps more path choice start now runs below within has = grind (arith, spent-skipped, spent-le)
 
 -- a choice is taken back, after which this many others are run again
 pub spends-left : {S : Type 0} (next : S → ℕ → Option S) (choices : S → ℕ) (back : ℕ → ℕ) → ((x : S) (choice : ℕ) → choices x ≤ choice → next x choice ≡ None) →
@@ -219,38 +169,13 @@ pub spends-left : {S : Type 0} (next : S → ℕ → Option S) (choices : S → 
     again + 1 ≤ back (length front + 1) → total ≤ more + again → ((c : ℕ) → other ≡ Some c → last + 1 ≤ c) →
     HasSpent next choices back budget steps more path start node choice →
     HasSpent next choices back budget (steps + 1) total front start now other
-spends-left {S} next choices back others budget steps more again total path front last start node now choice other parts runs_on at within cheap sum later has =
-    let runs : after next (front ++ last ∷ []) start ≡ Some node = (let P : List ℕ → Type 0 = λ xs. after next xs start ≡ Some node in subst P parts runs_on) in
-    let count : length path ≡ length front + 1 = ap (λ (xs : List ℕ). length xs) parts ∙ length-append front (last ∷ []) in
-    let deep = has.deep in
-    let left = spent-left next choices back budget 0 front last has.at start node runs has.few (omega (arith, count, deep, within)) in
-    let same = ap (λ (xs : List ℕ). spent next choices back budget 0 xs has.at start) parts in
-    let made = has.made in
-    let e : 0 + length front + 1 ≡ length front + 1 = omega arith in
-    let b = ap back e in
-    let last_step : option_and_then (after next (last ∷ [])) (after next front start) ≡ Some node = sym (after-append next front (last ∷ []) start) ∙ runs in
-    let step : next now last ≡ Some node = taken next now node last (rw at at last_step) in
-    let below : last < choices now = elim (cases_lt last (choices now)) [
-      | inl h ↦ h
-      | inr h ↦ let no : next now last ≡ None = others now last h in let k : ⊥ = cc in absurd k
-    ]
-    in
-    record {
-      deep = omega (arith, deep, count);
-      at = last + 1;
-      early = later;
-      few = omega (arith, below);
-      made = omega (arith, left, same, made, cheap, sum, b);
-    }
+spends-left {S} next choices back others budget steps more again total path front last start node now choice other parts runs_on at within cheap sum later has = grind (arith, length-append, spent-left, after-append, taken, cases_lt)
 
 -- it has made no more than it takes to try all
 pub spends-within : {S : Type 0} (next : S → ℕ → Option S) (choices : S → ℕ) (back : ℕ → ℕ) → ((x : S) (choice : ℕ) → choices x ≤ choice → next x choice ≡ None) →
     (budget steps more : ℕ) (path : List ℕ) (start now : S) (choice : Option ℕ) →
     after next path start ≡ Some now → HasSpent next choices back budget steps more path start now choice → budget ≤ steps + more → TakesAll next choices back budget start
-spends-within next choices back others budget steps more path start now choice runs has all =
-    let within = spent-within next choices back others budget 0 path has.at start now runs has.few in
-    let made = has.made in
-    omega (arith, within, made, all)
+spends-within next choices back others budget steps more path start now choice runs has all = grind (arith, spent-within)
 
 -- two machines, of which one makes the steps of the other, take as much work
 pub work-mapped : {S T : Type 0} (f : S → T) (next : S → ℕ → Option S) (follow : T → ℕ → Option T) (choices : S → ℕ) (counts : T → ℕ) (back : ℕ → ℕ) →
@@ -276,11 +201,7 @@ abbrev limit : ℕ → ℕ → ℕ → ℕ
 limit b c k = (b + 1) * (c + 1) ^ k
 
 limit-grows : (b c k : ℕ) → limit b c (k + 1) ≡ c * limit b c k + limit b c k
-limit-grows b c k =
-    let P : ℕ → Type 0 = λ x. (c + 1) ^ x ≡ (c + 1) * (c + 1) ^ k in
-    let same : suc k ≡ k + 1 = omega arith in
-    let f : (c + 1) ^ (k + 1) ≡ (c + 1) * (c + 1) ^ k = subst P same (pow-succ' (c + 1) k) in
-    grind (arith, f)
+limit-grows b c k = grind (arith, common_steps, pow-succ')
 
 limit-least : (b c k : ℕ) → b < limit b c k
 limit-least b c zero = let e = pow-zero (c + 1) in grind (arith, e)
@@ -324,7 +245,4 @@ work-bound {S} next choices back b c most cheap d (suc n) depth from deep short 
     let each : (choice : ℕ) → rest (next from choice) ≤ limit b c d = λ choice. below d refl choice (next from choice) refl in
     let here : choices from ≤ c = few from ([], refl) in
     let sum = sum-bound (λ choice. rest (next from choice)) (limit b c d) c each (choices from) here in
-    let product = mul-le-mul_right (limit b c d) here in
-    let goes = cheap depth (omega (arith, deep)) in
-    let grows = limit-grows b c d in
-    omega (arith, sum, product, goes, least, grows)
+    grind (arith, nat_tests, mul-le-mul_right, limit-grows)

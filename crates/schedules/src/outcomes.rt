@@ -1,5 +1,5 @@
 //! The outcomes of all schedules of a machine.
-ghost use Rattle.std.specs.Prelude.{◌≡◌, ◌≤◌, ◌+◌, ◌*◌, ◌++◌, ◌∷◌, [], ℕ, All, IfOk, List, None, OnOk, Some, false, if◌then◌else◌, is_some, true};
+ghost use Rattle.std.specs.Prelude.{◌≡◌, ◌≤◌, ◌+◌, ◌*◌, ◌++◌, ◌∷◌, [], All, IfOk, List, None, OnOk, Some, false, if◌then◌else◌, is_some, true};
 ghost use Rattle.schedules.specs.Choices.{IsFirstFrom};
 ghost use Rattle.schedules.specs.Persistence.{IsFirst, IsFollowing};
 ghost use Rattle.schedules.specs.Schedules.{after};

@@ -1,4 +1,5 @@
 -- A send answers a waiting receive, and a receive a waiting send.
+use Rattle.std.proofs.lemmas.Bool.Decides.{nat_tests}
 use Rattle.std.proofs.Common.{arith, ◌≡◌, ℕ, ◌==◌, Bool, true, false, not, [], ◌∷◌, ◌++◌, length, Some, None, if◌then◌else◌, refl, sym, ◌∙◌, subst, eqb-true, eq-eqb}
 use Rattle.std.proofs.lemmas.Bool.{and_parts, eqb-false}
 use Rattle.mq_model.specs.Record.{Record, Past, record_at}
@@ -10,7 +11,6 @@ use Rattle.mq_model.specs.declared.owners.WaitKind.{WaitKind}
 use Rattle.mq_model.specs.declared.owners.WaitKind.TheVariants.{Send, Receive}
 use Rattle.mq_model.specs.declared.entries.Call.{Call}
 use Rattle.mq_model.specs.declared.entries.Reply.{Reply}
-use Rattle.mq_model.specs.declared.entries.Reply.TheVariants.{Handed}
 use Rattle.mq_model.proofs.Cases.{Says}
 use Rattle.mq_model.proofs.LegalReplies.{legal_says, got_says}
 use Rattle.mq_model.proofs.Places.{split, is_in-filter}
@@ -30,9 +30,6 @@ abbrev is_of : WaitKind → Call → Bool
 is_of Send call = is_send call
 is_of Receive call = is_receive call
 
-blocks-of : (s : WaitKind) (call : Call) (reply : Reply) → blocks s call reply ≡ true → is_of s call ≡ true
-blocks-of s call reply h = grind arith
-
 newest-blocks : (past : Past) (x : Record) (s : WaitKind) (q : ℕ) → is_in (blocked (x ∷ past) s q) (length past) ≡ true → blocks s x.entry.call x.entry.reply ≡ true
 newest-blocks past x s q h = grind (arith, and_parts, newest-send, newest-receive)
 
@@ -41,11 +38,7 @@ blocked-of : (past : Past) (s : WaitKind) (q w : ℕ) (r : Record) → is_in (bl
 blocked-of [] s q w r h at = absurd (cc)
 blocked-of (x ∷ past) s q w r h at = split (w == length past)
     (λ here.
-    let place : w ≡ length past = eqb-true _ _ here in
-    let one : Some x ≡ Some r = rw here at at in
-    let same : x ≡ r = cc in
-    let newest : is_in (blocked (x ∷ past) s q) (length past) ≡ true = subst (λ (k : ℕ). is_in (blocked (x ∷ past) s q) k ≡ true) place h in
-    subst (λ (y : Record). is_of s y.entry.call ≡ true) same (blocks-of s x.entry.call x.entry.reply (newest-blocks past x s q newest)))
+    grind (arith, nat_tests, eqb-true, newest-blocks))
     (λ other.
     let ne : w ≡ length past → ⊥ = eqb-false _ _ other in
     let old_at : record_at past w ≡ Some r = rw other at at in
@@ -63,13 +56,9 @@ no-receive call h = grind arith
 pub no-send : (call : Call) → is_receive call ≡ true → is_send call ≡ false
 no-send call h = grind arith
 
--- a call that hands a message over is a send
-handed-sends : (past : Past) (p : ℕ) (call : Call) (k : ℕ) → Says past p call (Handed k) → is_send call ≡ true
-handed-sends past p call k says = grind arith
-
 -- an entry that names a wait is a send if and only if the call that waits is a receive
 named-kind : (past : Past) (p : ℕ) (call : Call) (reply : Reply) (w : ℕ) (r : Record) → Says past p call reply → names_wait reply (Some w) ≡ true → record_at past w ≡ Some r → is_send call ≡ is_receive r.entry.call
-named-kind past p call reply w r says named at = grind (arith, eqb-true, hands-least, handed-sends, waiting-receive, admits-least, got_says, no-send, no-receive, waiting-send)
+named-kind past p call reply w r says named at = grind (arith, eqb-true, hands-least, waiting-receive, admits-least, got_says, no-send, no-receive, waiting-send)
 
 -- the entry that answers a wait
 pub record Answers (past : Past) (by : ℕ) (waiting : Call) : Type 0 where

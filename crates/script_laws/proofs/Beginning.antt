@@ -1,6 +1,5 @@
 -- How the processes of a script begin.
-use Rattle.std.proofs.Common.{◌≡◌, ℕ, zero, suc, ◌+◌, ◌<◌, ◌≤◌, List, [], ◌∷◌, ◌++◌, length, map, None, replicate, refl, ap, ◌∙◌, arith, Vec}
-use Rattle.std.specs.declared.alloc.Global.{Global}
+use Rattle.std.proofs.Common.{◌≡◌, ℕ, zero, suc, ◌+◌, ◌<◌, ◌≤◌, List, [], ◌∷◌, ◌++◌, length, map, None, replicate, refl, ap, arith, Vec, Global}
 use Rattle.fast_mutex.specs.Items.{LockId, tickets_with}
 use Rattle.mq.specs.Calls.{bounds_in}
 use Rattle.mq_model.specs.Record.{Past}
@@ -46,8 +45,7 @@ begin-sit past phases lock p (suc n) (program ∷ programs) unbounded free are =
 begin-sit past phases lock p n programs unbounded free are = cc
 
 pub all-begin : (past : Past) (phases : List (List WrittenCall)) (lock : LockId) (n : ℕ) (programs : List (Vec Planned Global)) → bounds_in lock.fixed ≡ None → NoneWaits past n → map shown programs ≡ programs_of phases n → AllSit 0 phases 1 programs (replicate n fresh) (tickets_with lock past 1 n)
-all-begin past phases lock n programs unbounded free are =
-    begin-sit past phases lock 1 n programs unbounded (λ q low high. free q low (omega (arith, high))) (are ∙ in-order phases n)
+all-begin past phases lock n programs unbounded free are = grind (arith, begin-sit, in-order)
 
 -- with the journal before
 pub all-left-with : (past : Past) (lock : LockId) (p n : ℕ) → AllLeft past (tickets_with lock past p n)

@@ -8,8 +8,8 @@ use Rattle.mq.proofs.Closings.{from-closed, lowest-held}
 use Rattle.mq_model.specs.Descriptors.{descriptor_numbers, held, lowest_held, numbers_from}
 use Rattle.mq_model.specs.Record.{Past}
 use Rattle.mq_model.specs.declared.bounds.Bounds.{Bounds}
-use Rattle.script_orders.proofs.Legality.{none-of}
 use Rattle.script_orders.specs.Scenes.{close_first}
+use Rattle.schedules.proofs.Removing.{is-none}
 
 -- numbers below the first one that passes do not pass
 find-below : (t : ℕ → Bool) (low n d e : ℕ) → find t (numbers_from low n) ≡ Some d → low ≤ e → e < d → t e ≡ false
@@ -27,11 +27,11 @@ HoldsNone past p n = (e : ℕ) → e < n → held past p e ≡ None
 
 none-below : (past : Past) (p d : ℕ) → lowest_held past p ≡ Some d → HoldsNone past p d
 unfolding descriptor_numbers
-none-below past p d is e lt = none-of (held past p e) (find-below (λ d. is_some (held past p d)) 0 16 d e is (omega arith) lt)
+none-below past p d is e lt = is-none (held past p e) (find-below (λ d. is_some (held past p d)) 0 16 d e is (omega arith) lt)
 
 none-held : (past : Past) (p : ℕ) → lowest_held past p ≡ None → HoldsNone past p 16
 unfolding descriptor_numbers
-none-held past p is e lt = none-of (held past p e) (find-none (λ d. is_some (held past p d)) 0 16 e is (omega arith) (omega (arith, lt)))
+none-held past p is e lt = is-none (held past p e) (find-none (λ d. is_some (held past p d)) 0 16 e is (omega arith) (omega (arith, lt)))
 
 -- the descriptor that was closed last is below this one
 abbrev IsBelow : List ℕ → ℕ → Type 0

@@ -1,7 +1,7 @@
 -- Where the next move of a process is in the journal.
-use Rattle.std.proofs.Common.{arith, ◌≡◌, inl, inr, ℕ, ◌==◌, List, [], ◌∷◌, ◌++◌, refl, ap, sym, ◌∙◌, subst, append_assoc, Vec}
+use Rattle.std.proofs.lemmas.Grind.{common_steps}
+use Rattle.std.proofs.Common.{arith, ◌≡◌, inl, inr, ℕ, ◌==◌, List, [], ◌∷◌, ◌++◌, refl, ap, sym, ◌∙◌, subst, append_assoc, Vec, Global}
 use Rattle.std.specs.List.{All}
-use Rattle.std.specs.declared.alloc.Global.{Global}
 use Rattle.std.proofs.lemmas.List.{append_cancel_right}
 use Rattle.std.proofs.lemmas.List.Elements.{filter-append}
 use Rattle.fast_mutex.specs.Items.{items_of}
@@ -49,11 +49,7 @@ found-behind p q differ a own c mine others by_p by_q some h =
 
 -- p adds its records first: q's course continues from there
 pub course-goes-on : (p q phase : ℕ) (program : Vec Planned Global) (to : Past) (end : Progress) (moves : List Move) (from : Past) (progress : Progress) (a own : Past) → (q ≡ p → ⊥) → All (λ r. author r ≡ p) own → to ≡ (a ++ own) ++ from → ((move : Move) (rest : List Move) → moves ≡ move ∷ rest → move.own ≡ [] → ⊥) → Course q phase program to end moves from progress → Course q phase program to end moves (own ++ from) progress
-course-goes-on p q phase program to end [] from progress a own differ by_p at none course =
-    let behind : course.1.behind ≡ a ++ own = append_cancel_right course.1.behind (a ++ own) from (sym course.1.is ∙ at) in
-    let no_own : items_of author q (a ++ own) ≡ [] = ap (λ (l : Past). items_of author q l) (sym behind) ∙ course.1.mine in
-    let parts = both-empty (items_of author q a) (items_of author q own) (sym (filter-append (λ r. author r == q) a own) ∙ no_own) in
-    (course.0, record { behind = a; is = at ∙ append_assoc a own from; mine = parts.0 })
+course-goes-on p q phase program to end [] from progress a own differ by_p at none course = grind (arith, common_steps, append_cancel_right, both-empty, filter-append)
 course-goes-on p q phase program to end (move ∷ moves) from progress a own differ by_p at none course =
     let others = course.0.others in
     let first = first-move q phase program to end move moves from progress course in

@@ -1,7 +1,6 @@
 -- The calls that a process made in a phase of a run are a course.
-use Rattle.std.proofs.Common.{◌≡◌, ◌≢◌, ℕ, ◌+◌, List, [], ◌∷◌, ◌++◌, length, map, refl, sym, subst, append_assoc, append-nil, arith, Vec}
+use Rattle.std.proofs.Common.{◌≡◌, ◌≢◌, ℕ, ◌+◌, List, [], ◌∷◌, ◌++◌, length, map, refl, sym, subst, append_assoc, append-nil, arith, Vec, Global}
 use Rattle.std.specs.List.{All}
-use Rattle.std.specs.declared.alloc.Global.{Global}
 use Rattle.std.proofs.lemmas.List.Elements.{All-head, All-tail}
 use Rattle.fast_mutex.specs.Items.{Ticket, Grows}
 use Rattle.mq.specs.Calls.{author}

@@ -1,24 +1,22 @@
 -- The journal that a process left is an earlier state of each that it leaves later.
-use Rattle.std.proofs.Common.{◌⊎◌, ◌≡◌, inl, inr, ℕ, List, [], ◌∷◌, ◌++◌, length, Option, Result, refl, ap, sym, ◌∙◌, subst, append_assoc, length-append, arith}
+use Rattle.std.proofs.lemmas.Grind.{common_steps}
+use Rattle.std.proofs.Common.{◌⊎◌, ◌≡◌, ℕ, List, [], ◌∷◌, ◌++◌, length, Option, Result, refl, ap, sym, ◌∙◌, subst, append_assoc, length-append, arith}
 use Rattle.std.specs.List.{All, AllZip}
 use Rattle.std.proofs.lemmas.List.Elements.{All-head, All-tail}
 use Rattle.fast_mutex.specs.Items.{Grows, Ticket}
 use Rattle.mq.specs.Calls.{Calls, author}
-use Rattle.mq_model.specs.Name.{has_name_form, is_short}
 use Rattle.mq_model.specs.Record.{Past, Record}
 use Rattle.mq_model.specs.declared.entries.Call.{Call}
 use Rattle.mq_model.specs.declared.entries.Deadline.{Deadline}
 use Rattle.mq_model.specs.declared.entries.Reply.{Reply}
 use Rattle.mq_model.specs.declared.faults.Fault.{Fault}
-use Rattle.script_runner.specs.Buffer.{buffer_given}
-use Rattle.script_runner.specs.Runs.{FindsLength, MakesNamed, Performs, RunsCalls, RunsPhase, RunsPhases, calls_of}
+use Rattle.script_runner.specs.Runs.{FindsLength, MakesNamed, Performs, RunsCalls, RunsPhase, RunsPhases}
 use Rattle.script_text.specs.Script.{WrittenCall}
 use Rattle.script_text.specs.declared.command.Command.{Command}
 use Rattle.script_text.specs.declared.command.Command.TheVariants as command
 use Rattle.script_text.specs.declared.reply.Completion.{Completion}
 use Rattle.script_text.specs.declared.reply.Outcome.{Outcome}
 use Rattle.text_io.specs.Words.{Word}
-use Rattle.mq_model.proofs.Places.{split}
 use Rattle.script_laws.proofs.Joins.{two-ends}
 
 -- the journal is an earlier state of the other
@@ -39,13 +37,10 @@ by-same : (old new : Ticket Record) → new ≡ old → IsEnd old.left new.left
 by-same old new e = record { more = []; is = ap (λ (t : Ticket Record). t.left) e }
 
 named-grows : {A : Type 0} (says : Reply → Option (Result A Fault)) (shows : A → Outcome) (call : Call) (name : List ℕ) (old new : Ticket Record) (came : Outcome) → MakesNamed says shows call name old new came → IsEnd old.left new.left
-named-grows says shows call name old new came named = split (has_name_form name)
-    (λ form. split (is_short name) (λ short. by-calls old new _ (named.made (rw (form, short) refl)).called.calls) (λ long. by-same old new (named.too_long form long).0))
-    (λ other. by-same old new (named.invalid other).0)
+named-grows says shows call name old new came named = grind (arith, by-calls, by-same)
 
 either : {A B C : Type 0} → A ⊎ B → (A → C) → (B → C) → C
-either (inl a) first second = first a
-either (inr b) first second = second b
+either h first second = grind arith
 
 pub performs-grows : (moment : Deadline) (c : Command Word) (before after : List ℕ) (old new : Ticket Record) (came : Outcome) → Performs moment c before after old new came → IsEnd old.left new.left
 performs-grows moment (command.Open name flags attr) before after old new came h = named-grows _ _ _ name old new came h
@@ -58,10 +53,7 @@ performs-grows moment c before after old new came h = by-calls old new _ h.calle
 
 pub calls-grow : (calls : List WrittenCall) (completions : List Completion) (old new : Ticket Record) → RunsCalls calls completions old new → IsEnd old.left new.left
 calls-grow [] [] old new ran = by-same old new ran
-calls-grow (call ∷ calls) (completion ∷ completions) old new ran =
-    end-then old.left ran.0.left new.left
-    (performs-grows call.moment call.command (buffer_given call.command) completion.buffer.items old ran.0 completion.outcome ran.1)
-    (calls-grow calls completions ran.0 new ran.2)
+calls-grow (call ∷ calls) (completion ∷ completions) old new ran = grind (arith, end-then, performs-grows, calls-grow calls completions ran.0 new ran.2)
 calls-grow calls completions old new ran = absurd ran
 
 -- the journal that each process left is an earlier state of the journal
@@ -75,8 +67,7 @@ AllGrown before after = AllZip (λ old new. IsEnd old.left new.left) before afte
 
 ends-before : (journal : Past) (before after : List (Ticket Record)) → AllGrown before after → AreEnds journal after → AreEnds journal before
 ends-before journal [] [] grown ends = tt
-ends-before journal (old ∷ before) (new ∷ after) grown ends =
-    (end-then old.left new.left journal grown.0 ends.0, ends-before journal before after grown.1 ends.1)
+ends-before journal (old ∷ before) (new ∷ after) grown ends = grind (arith, end-then, ends-before journal before after grown.1 ends.1)
 ends-before journal before after grown ends = absurd grown
 
 found-grow : (n : ℕ) (ended between : List (Ticket Record)) → AllZip (FindsLength n) ended between → AllGrown ended between
@@ -86,20 +77,17 @@ found-grow n ended between found = absurd found
 
 pub phase-grows : (calls : List WrittenCall) (before after : List (Ticket Record)) (text : List ℕ) → RunsPhase calls before after text → AllGrown before after
 phase-grows calls [] [] text ran = tt
-phase-grows calls (old ∷ before) (new ∷ after) text ran =
-    (calls-grow (calls_of old.number calls) ran.0 old new ran.2, phase-grows calls before after ran.1 ran.4)
+phase-grows calls (old ∷ before) (new ∷ after) text ran = grind (arith, calls-grow, phase-grows calls before after ran.1 ran.4)
 phase-grows calls before after text ran = absurd ran
 
 -- before a phase, after which all processes acquired the lock once more
 pub phase-ends : (journal : Past) (n : ℕ) (before ended between : List (Ticket Record)) → AllGrown before ended → AllZip (FindsLength n) ended between → AreEnds journal between → AreEnds journal before
-phase-ends journal n before ended between grown found ends =
-    ends-before journal before ended grown (ends-before journal ended between (found-grow n ended between found) ends)
+phase-ends journal n before ended between grown found ends = grind (arith, ends-before, found-grow)
 
 -- the same at the beginning of several phases
 pub phases-end : (journal : Past) (phases : List (List WrittenCall)) (before after : List (Ticket Record)) (text : List ℕ) → RunsPhases phases before after text → AreEnds journal after → AreEnds journal before
 phases-end journal [] before after text ran ends = subst (λ (ts : List (Ticket Record)). AreEnds journal ts) ran.0 ends
-phases-end journal (calls ∷ phases) before after text ran ends =
-    phase-ends journal ran.2 before ran.0 ran.1 (phase-grows calls before ran.0 ran.3 ran.5) ran.6 (phases-end journal phases ran.1 after ran.4 ran.7 ends)
+phases-end journal (calls ∷ phases) before after text ran ends = grind (arith, phase-ends, phase-grows, phases-end journal phases ran.1 after ran.4 ran.7 ends)
 
 pub all-grow : (journal : Past) (tickets : List (Ticket Record)) → All (λ process. Grows author process.number process.left journal []) tickets → AreEnds journal tickets
 all-grow journal [] all = tt
@@ -116,8 +104,7 @@ AllLeft past [] = Unit {0}
 AllLeft past (t ∷ tickets) = (t.left ≡ past) × AllLeft past tickets
 
 none-more : (w a : Past) → length (w ++ a) ≡ length a → w ++ a ≡ a
-none-more [] a e = refl
-none-more (x ∷ w) a e = let k : ⊥ = omega (arith, e, length-append w a) in absurd k
+none-more w a e = grind (arith, common_steps, length-append)
 
 -- two earlier states of the same length are equal
 end-by-length : (journal a b : Past) → IsEnd a journal → IsEnd b journal → length a ≡ length b → a ≡ b

@@ -24,8 +24,7 @@ Rests None p phase past to r = Through p phase past to r
 Rests (Some line) p phase past to r = Halts p phase line past to r
 
 pub rests-course : (b : Option ℕ) (p phase : ℕ) (past to : Past) (r : Runner) → Rests b p phase past to r → Course p phase r.program to r.end r.moves past r.seat
-rests-course None p phase past to r rests = rests.course
-rests-course (Some line) p phase past to r rests = rests.course
+rests-course b p phase past to r rests = grind arith
 
 -- no turn ------------------------------------------------------------------------------------------------------------------
 

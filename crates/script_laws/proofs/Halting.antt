@@ -1,7 +1,7 @@
 -- A process that waits for ever: the moves of its calls, and then the move that starts the wait.
-use Rattle.std.proofs.Common.{◌≡◌, ℕ, ◌+◌, List, [], ◌∷◌, ◌++◌, length, map, replicate, true, refl, ap, sym, ◌∙◌, subst, append_assoc, arith, length-append, Vec}
+use Rattle.std.proofs.lemmas.Grind.{common_steps}
+use Rattle.std.proofs.Common.{◌≡◌, ℕ, ◌+◌, List, [], ◌∷◌, ◌++◌, length, map, true, refl, ap, sym, ◌∙◌, subst, append_assoc, arith, length-append, Vec, Global}
 use Rattle.std.specs.List.{All}
-use Rattle.std.specs.declared.alloc.Global.{Global}
 use Rattle.std.proofs.lemmas.List.{length-map, length-replicate, map-append}
 use Rattle.fast_mutex.specs.Items.{Grows, Ticket}
 use Rattle.mq.specs.Blocked.{is_blocked}
@@ -10,10 +10,9 @@ use Rattle.mq.proofs.Growing.{grows-on}
 use Rattle.mq_model.specs.Legality.{Legal}
 use Rattle.mq_model.specs.Record.{Past, Record}
 use Rattle.mq_model.specs.declared.entries.Call.{Call}
-use Rattle.mq_model.specs.declared.entries.Call.TheVariants.{MqReceive, MqSend, MqTimedReceive, MqTimedSend}
 use Rattle.mq_model.specs.declared.entries.Deadline.{Deadline}
 use Rattle.mq_model.specs.declared.entries.Reply.TheVariants.{Waits}
-use Rattle.script_orders.specs.Plans.{Plan, given_by, plan, program_of, step_by}
+use Rattle.script_orders.specs.Plans.{given_by, plan, program_of, step_by}
 use Rattle.script_orders.specs.Progress.{Progress}
 use Rattle.script_orders.specs.Stage.{line_of}
 use Rattle.script_orders.specs.declared.plan.Planned.{Planned}
@@ -65,26 +64,13 @@ pub record WaitsBy (moment : Deadline) (c : Command Word) (old new : Ticket Reco
   pub waits : WaitsFor old new call (given_by c)
 
 pub waits-by : (moment : Deadline) (c : Command Word) (old new : Ticket Record) → Blocks moment c (buffer_given c) old new → WaitsBy moment c old new
-waits-by moment (command.Send d prio message) old new blocks = record { call = MqSend d prio (length message); asks = refl; waits = blocks }
-waits-by moment (command.Receive d room) old new blocks =
-    let same : room ≡ length (replicate room 0) = sym (length-replicate room 0) in
-    record { call = MqReceive d (length (replicate room 0)); asks = ap (λ (n : ℕ). steps.Call (MqReceive d n)) same; waits = blocks }
-waits-by moment (command.TimedSend d prio until message) old new blocks = record { call = MqTimedSend d prio (length message) until moment; asks = refl; waits = blocks }
-waits-by moment (command.TimedReceive d room until) old new blocks =
-    let same : room ≡ length (replicate room 0) = sym (length-replicate room 0) in
-    record { call = MqTimedReceive d (length (replicate room 0)) until moment; asks = ap (λ (n : ℕ). steps.Call (MqTimedReceive d n until moment)) same; waits = blocks }
-waits-by moment c old new blocks = absurd blocks
+waits-by moment c old new blocks = grind (arith, length-replicate)
 
 -- one process --------------------------------------------------------------------------------------------------------------
 
 -- the lines of some calls, and those of the calls after them
 first-lines : (phase : ℕ) (program : Vec Planned Global) (begun : ℕ) (made later : List WrittenCall) → AreLines program begun (map (plan phase) (made ++ later)) → AreLines program begun (map (plan phase) made)
-first-lines phase program begun made later lines = record {
-  before = lines.before;
-  rest = map (plan phase) later ++ lines.rest;
-  are = lines.are ∙ ap (λ (l : List Plan). lines.before ++ l) (ap (λ (l : List Plan). l ++ lines.rest) (map-append (plan phase) made later) ∙ append_assoc (map (plan phase) made) (map (plan phase) later) lines.rest);
-  count = lines.count;
-}
+first-lines phase program begun made later lines = grind (arith, common_steps, map-append)
 
 last-lines : (phase : ℕ) (program : Vec Planned Global) (begun : ℕ) (made later : List WrittenCall) → AreLines program begun (map (plan phase) (made ++ later)) → AreLines program (begun + length made) (map (plan phase) later)
 unfolding first-lines

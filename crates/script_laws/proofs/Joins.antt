@@ -1,4 +1,5 @@
 -- Lists that are appended to each other.
+use Rattle.std.proofs.lemmas.Grind.{common_steps}
 use Rattle.std.proofs.Common.{arith, ◌≡◌, ◌⊎◌, inl, inr, ℕ, List, [], ◌∷◌, ◌++◌, refl, ap, sym, eq-eqb}
 use Rattle.std.specs.List.{All}
 use Rattle.std.proofs.lemmas.List.Elements.{All-head, All-tail, filter-append}
@@ -9,11 +10,7 @@ pub two-ends : {A : Type 0} (a b x y : List A) → a ++ x ≡ b ++ y →
     ((w : List A) × (x ≡ w ++ y) × (b ≡ a ++ w)) ⊎ ((w : List A) × (y ≡ w ++ x) × (a ≡ b ++ w))
 two-ends [] b x y h = inl (b, h, refl)
 two-ends (c ∷ a) [] x y h = inr (c ∷ a, sym h, refl)
-two-ends (c ∷ a) (d ∷ b) x y h =
-    elim (two-ends a b x y cc) [
-      | inl e ↦ inl (e.0, e.1, let s = e.2 in cc)
-      | inr e ↦ inr (e.0, e.1, let s = e.2 in cc)
-    ]
+two-ends (c ∷ a) (d ∷ b) x y h = grind (arith, two-ends a b x y cc)
 
 -- a list is empty or has a last element
 pub by-last : {A : Type 0} (xs : List A) → (xs ≡ []) ⊎ ((ys : List A) × (r : A) × (xs ≡ ys ++ r ∷ []))
@@ -25,8 +22,7 @@ by-last {A} (x ∷ xs) =
     ]
 
 pub has-last : {A : Type 0} (ys : List A) (r : A) → ys ++ r ∷ [] ≡ [] → ⊥
-has-last [] r h = cc
-has-last (y ∷ ys) r h = cc
+has-last ys r h = grind (arith, common_steps)
 
 pub same-last : {A : Type 0} (a b : List A) (x y : A) → a ++ x ∷ [] ≡ b ++ y ∷ [] → x ≡ y
 same-last [] [] x y h = cc

@@ -1,7 +1,6 @@
 -- The next line of a process, and the turn that starts it.
-use Rattle.std.proofs.Common.{◌≡◌, ℕ, suc, ◌+◌, List, [], ◌∷◌, ◌++◌, length, length-append, append_assoc, map, Option, Some, None, slice_get, refl, ap, sym, ◌∙◌, arith, eq-eqb, Vec}
+use Rattle.std.proofs.Common.{◌≡◌, ℕ, suc, ◌+◌, List, [], ◌∷◌, ◌++◌, length, length-append, append_assoc, map, Option, Some, None, slice_get, refl, ap, sym, ◌∙◌, arith, eq-eqb, Vec, Global}
 use Rattle.std.specs.Option.{option_map, unwrap_or}
-use Rattle.std.specs.declared.alloc.Global.{Global}
 use Rattle.std.proofs.lemmas.Option.{slice_get-map}
 use Rattle.mq.specs.Calls.{recorded}
 use Rattle.mq_model.specs.Legality.{IsLegalNext}

@@ -1,8 +1,7 @@
 -- What a process did is a sequence of moves: a call in one critical section, one that failed before
 -- it reached the queues, and an exit.
-use Rattle.std.proofs.Common.{◌≡◌, ℕ, ◌+◌, Bool, true, false, List, [], ◌∷◌, ◌++◌, Some, None, if◌then◌else◌, refl, ap, sym, ◌∙◌, subst, eq-eqb, Vec}
+use Rattle.std.proofs.Common.{◌≡◌, ℕ, ◌+◌, Bool, true, false, List, [], ◌∷◌, ◌++◌, Some, None, if◌then◌else◌, refl, ap, sym, ◌∙◌, subst, eq-eqb, Vec, Global}
 use Rattle.std.specs.List.{All}
-use Rattle.std.specs.declared.alloc.Global.{Global}
 use Rattle.std.proofs.lemmas.List.Elements.{All-nil, All-cons}
 use Rattle.fast_mutex.specs.Items.{LockId, Ticket, Grows}
 use Rattle.mq.specs.Calls.{AreInTurn, Calls, Found, IsFree, author, bounds_in, bounds_of, closes, made, recorded}

@@ -1,7 +1,5 @@
 -- What a process did for a line of a script is a sequence of moves.
-use Rattle.std.proofs.Common.{arith, ◌≡◌, ◌≢◌, ℕ, true, false, List, [], length, replicate, Option, Some, None, Result, Ok, Err, inl, inr, refl, ap, sym, ◌∙◌, subst, Vec}
-use Rattle.std.specs.Prelude.{◌⊎◌}
-use Rattle.std.specs.declared.alloc.Global.{Global}
+use Rattle.std.proofs.Common.{arith, ◌≡◌, ◌≢◌, ℕ, true, false, List, [], length, replicate, Option, Some, None, Result, Ok, Err, inl, inr, refl, ap, sym, ◌∙◌, subst, Vec, ◌⊎◌, Global}
 use Rattle.std.proofs.lemmas.List.{length-replicate}
 use Rattle.fast_mutex.specs.Items.{Ticket}
 use Rattle.mq.specs.Calls.{Calls, Exits, Expired, Found, OneCall, ReceiveCall, SendCall, TimedReceive, TimedSend, WaitedReceive, WaitedSend, WholeReceive, bounds_in, bounds_of, made}

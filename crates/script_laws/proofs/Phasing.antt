@@ -1,7 +1,6 @@
 -- What a run prints for its phases is what one interleaving of its calls gives.
-use Rattle.std.proofs.Common.{◌≡◌, ℕ, zero, suc, refl, ◌+◌, ◌≤◌, List, [], ◌∷◌, ◌++◌, length, Option, None, Some, replicate, ap, sym, ◌∙◌, subst, arith, append-nil, Vec}
+use Rattle.std.proofs.Common.{◌≡◌, ℕ, refl, ◌+◌, ◌≤◌, List, [], ◌∷◌, ◌++◌, length, Option, None, Some, replicate, ap, sym, ◌∙◌, subst, arith, append-nil, Vec, Global}
 use Rattle.std.specs.List.{All}
-use Rattle.std.specs.declared.alloc.Global.{Global}
 use Rattle.std.proofs.lemmas.List.{length-map}
 use Rattle.fast_mutex.specs.Items.{LockId, Ticket, tickets_from, tickets_with}
 use Rattle.mq.specs.Calls.{bounds_in}
@@ -68,8 +67,7 @@ pub phases-observed : (GoesOn : Stage → ℕ → Type 0) (journal : Past) (prog
     All (IsOf (length programs)) journal → AreEnds journal tickets → ((from : Stage) (phase : ℕ) → Reached from journal programs frame phase later tickets → GoesOn from phase) →
     (phases : List (List WrittenCall)) (phase : ℕ) (from : Stage) (before : List (Ticket Record)) (text : List ℕ) (ran : RunsPhases phases before tickets text) → AreAmplePhases phases before tickets text ran →
     Reached from journal programs frame phase (phases ++ later) before → AreObservedBefore GoesOn from phase (phase_replies phases before tickets text ran)
-phases-observed GoesOn journal programs frame later tickets of ends then [] phase from before text ran ample reached =
-    then from phase (subst (λ (ts : List (Ticket Record)). Reached from journal programs frame phase later ts) (sym ran.0) reached)
+phases-observed GoesOn journal programs frame later tickets of ends then [] phase from before text ran ample reached = grind arith
 phases-observed GoesOn journal programs frame later tickets of ends then (calls ∷ phases) phase from before text ran ample reached =
     let between : List (Ticket Record) = ran.1 in
     let rest : List (List WrittenCall) = phases ++ later in
@@ -133,14 +131,11 @@ run-observed script text journal ran from ample begins =
     (rw (append-nil script.phases) (new-reached script ran.system journal from ran.unbounded begins))
 
 first-end : (journal past : Past) (lock : LockId) (n : ℕ) → 1 ≤ n → AreEnds journal (tickets_with lock past 1 n) → IsEnd past journal
-first-end journal past lock zero some ends = absurd (omega (arith, some))
-first-end journal past lock (suc n) some ends = ends.0
+first-end journal past lock n some ends = grind arith
 
 -- a run that continues from a journal ends with a journal that extends it
 pub after-end : (past : Past) (script : Whole) (text : List ℕ) (journal : Past) → 1 ≤ script.processes → RunsAfter past script text journal → IsEnd past journal
-after-end past script text journal some ran =
-    let runs = ran.runs in let tickets : List (Ticket Record) = tickets_with ran.system past 1 script.processes in
-    first-end journal past ran.system script.processes some (phases-end journal script.phases tickets runs.processes text runs.ran (all-grow journal runs.processes runs.grows))
+after-end past script text journal some ran = grind (arith, first-end, phases-end, all-grow)
 
 -- the same for a run that continues from a journal
 pub run-after-observed : (past : Past) (script : Whole) (text : List ℕ) (journal : Past) (ran : RunsAfter past script text journal) (from : Stage) → IsEnd past journal → IsAmpleAfter ran → BeginsAfter past script from → AreObserved from 0 (replies_after ran)
@@ -164,9 +159,7 @@ pub record FoundBefore (GoesOn : Stage → ℕ → Type 0) (first : Stage) (foun
 
 pub observed-found : (GoesOn : Stage → ℕ → Type 0) (first from : Stage) (schedule : List ℕ) (found : List Witnessed) (phase : ℕ) (texts : List (List ℕ)) →
     AreAll next_stage stands_still observed first found → after next_stage schedule first ≡ Some from → AreObservedBefore GoesOn from phase texts → FoundBefore GoesOn first found phase texts
-observed-found GoesOn first from schedule found phase [] all leads are =
-    let here : phase ≡ phase + 0 = omega arith in
-    record { phases = tt; schedule = schedule; to = from; leads = leads; goes_on = subst (λ (k : ℕ). GoesOn from k) here are }
+observed-found GoesOn first from schedule found phase [] all leads are = grind arith
 observed-found GoesOn first from schedule found phase (text ∷ texts) all leads are =
     let runs : after next_stage (schedule ++ are.0) first ≡ Some are.1 = then-after schedule are.0 first from are.1 leads are.2.runs in
     let rest = observed-found GoesOn first are.1 (schedule ++ are.0) found (phase + 1) texts all runs are.4 in

@@ -1,9 +1,8 @@
 -- The processes of a run at the beginning of a phase, in the machine, and the courses that their
 -- calls in the phase are.
-use Rattle.std.proofs.Common.{◌≡◌, ℕ, zero, suc, ◌+◌, ◌<◌, ◌≤◌, List, [], ◌∷◌, ◌++◌, length, map, Option, Some, None, slice_get, refl, ap, sym, ◌∙◌, subst, arith, append_assoc, length-append, Vec}
+use Rattle.std.proofs.Common.{◌≡◌, ℕ, zero, suc, ◌+◌, ◌<◌, ◌≤◌, List, [], ◌∷◌, ◌++◌, length, map, Option, Some, None, slice_get, refl, ap, sym, ◌∙◌, subst, arith, append_assoc, length-append, Vec, Global}
 use Rattle.std.specs.List.{All, AllZip}
 use Rattle.std.specs.Option.{option_map}
-use Rattle.std.specs.declared.alloc.Global.{Global}
 use Rattle.std.proofs.lemmas.List.{length-map}
 use Rattle.std.proofs.lemmas.Option.{slice_get-map}
 use Rattle.fast_mutex.specs.Items.{Grows, Ticket}
@@ -130,10 +129,7 @@ pub record AllRun (phase : ℕ) (phases : List (List WrittenCall)) (p : ℕ) (pa
   pub sit : AllSit (phase + 1) phases p programs (seats_cleared (ends_in runners)) processes
 
 more-through : (p phase : ℕ) (past to : Past) (first : Runner) (runners : List Runner) → Through p phase past to first → ((i : ℕ) (r : Runner) → slice_get runners i ≡ Some r → Through (i + suc p) phase past to r) → (i : ℕ) (r : Runner) → slice_get (first ∷ runners) i ≡ Some r → Through (i + p) phase past to r
-more-through p phase past to first runners one rest zero r has =
-    let same : first ≡ r = cc in
-    let here : p ≡ zero + p = omega arith in
-    subst (λ (k : ℕ). Through k phase past to r) here (subst (λ (x : Runner). Through p phase past to x) same one)
+more-through p phase past to first runners one rest zero r has = grind (arith, Runner)
 more-through p phase past to first runners one rest (suc i) r has =
     let here : i + suc p ≡ suc i + p = omega arith in
     subst (λ (k : ℕ). Through k phase past to r) here (rest i r has)
@@ -141,8 +137,7 @@ more-through p phase past to first runners one rest (suc i) r has =
 pub all-run : (phase : ℕ) (calls : List WrittenCall) (phases : List (List WrittenCall)) (n p : ℕ) (past to : Past) (programs : List (Vec Planned Global)) (seats : List Progress) (before ended between : List (Ticket Record)) (text : List ℕ) (ran : RunsPhase calls before ended text) →
     IsAmplePhase calls before ended text ran → AllSit phase (calls ∷ phases) p programs seats before → AllZip (FindsLength n) ended between → AllLeft past before → AllLeft to between →
     AllRun phase phases p past to programs seats between text
-all-run phase calls phases n p past to programs seats [] [] [] text ran ample sit found before after =
-    record { runners = []; programs_are = sym sit.0; seats_are = sym sit.1; replies_are = sym ran; through = λ i r has. cc; sit = (sit.0, refl) }
+all-run phase calls phases n p past to programs seats [] [] [] text ran ample sit found before after = grind arith
 all-run phase calls phases n p past to programs seats [] (new ∷ ended) between text ran ample sit found before after = absurd ran
 all-run phase calls phases n p past to programs seats (old ∷ olds) [] between text ran ample sit found before after = absurd ran
 all-run phase calls phases n p past to programs seats (old ∷ olds) (new ∷ ended) (t ∷ between) text ran ample sit found before after =

@@ -1,7 +1,6 @@
 -- A run that deadlocks: some interleaving of its calls deadlocks in the same way.
-use Rattle.std.proofs.Common.{◌≡◌, ℕ, zero, suc, ◌+◌, true, List, [], ◌∷◌, ◌++◌, length, map, Option, Some, None, slice_get, refl, ap, sym, ◌∙◌, subst, arith, Vec}
+use Rattle.std.proofs.Common.{◌≡◌, ℕ, zero, suc, ◌+◌, true, List, [], ◌∷◌, ◌++◌, length, map, Option, Some, None, slice_get, refl, ap, sym, ◌∙◌, subst, arith, Vec, Global}
 use Rattle.std.specs.List.{All, AllZip, list_all}
-use Rattle.std.specs.declared.alloc.Global.{Global}
 use Rattle.std.proofs.lemmas.List.Elements.{All-head}
 use Rattle.std.proofs.lemmas.List.Folds.{list_all-append}
 use Rattle.fast_mutex.specs.Items.{Ticket, tickets_from}
@@ -24,7 +23,7 @@ use Rattle.script_text.specs.declared.reply.Completion.{Completion}
 use Rattle.script_laws.specs.RunLaws.{AreFound}
 use Rattle.script_laws.specs.StandLaws.{AreAmpleEnds, ComesToStand, IsAmpleEnd, IsAmpleStop, Stands, replies_before, stand_outcome}
 use Rattle.script_laws.proofs.Course.{Move}
-use Rattle.script_laws.proofs.Growth.{AllGrown, AllLeft, AreEnds, IsEnd, by-calls, all-grow, calls-grow, end-then, meeting, phase-ends}
+use Rattle.script_laws.proofs.Growth.{AllGrown, AllLeft, AreEnds, by-calls, all-grow, calls-grow, end-then, meeting, phase-ends}
 use Rattle.script_laws.proofs.Halting.{one-halts, waits-by}
 use Rattle.script_laws.proofs.Halted.{Rests, halted-course, halted-still, halted-outcome}
 use Rattle.script_laws.proofs.Phasing.{Reached, all-of, frame_of, new-reached, phase-runs, phases-observed, observed-found, then-after}
@@ -34,19 +33,12 @@ use Rattle.script_laws.proofs.Weaving.{IsOf, ended}
 
 -- what the processes left --------------------------------------------------------------------------------------------------
 
-one-grows : (b : Option ℕ) (calls : List WrittenCall) (completions : List Completion) (old new : Ticket Record) → EndsIn b calls completions old new → IsEnd old.left new.left
-one-grows None calls completions old new ends = calls-grow calls completions old new ends
-one-grows (Some line) calls completions old new ends =
-    let wait = waits-by ends.call.moment ends.call.command ends.mid new ends.blocks in
-    end-then old.left ends.mid.left new.left (calls-grow ends.made ends.completions old ends.mid ends.ran) (by-calls ends.mid new _ wait.waits.calls)
-
 abbrev processes_of : List (Worked (Ticket Record)) → List (Ticket Record)
 processes_of worked = map (λ (w : Worked (Ticket Record)). w.process) worked
 
 all-grown : (calls : List WrittenCall) (before : List (Ticket Record)) (worked : List (Worked (Ticket Record))) → AllZip (EndsPhase calls) before worked → AllGrown before (processes_of worked)
 all-grown calls [] [] each = tt
-all-grown calls (old ∷ before) (w ∷ worked) each =
-    (one-grows w.blocked (calls_of old.number calls) w.completions.items old w.process each.0.ends, all-grown calls before worked each.1)
+all-grown calls (old ∷ before) (w ∷ worked) each = grind (arith, all-grown calls before worked each.1, calls-grow, waits-by, end-then, by-calls)
 all-grown calls before worked each = absurd each
 
 -- where each process is ----------------------------------------------------------------------------------------------------
@@ -78,12 +70,7 @@ record AllRest (phase p : ℕ) (past to : Past) (programs : List (Vec Planned Gl
 more-rest : (p phase : ℕ) (past to : Past) (first : Runner) (runners : List Runner) (one : Worked (Ticket Record)) (worked : List (Worked (Ticket Record))) → Rests one.blocked p phase past to first →
     ((i : ℕ) (r : Runner) (w : Worked (Ticket Record)) → slice_get runners i ≡ Some r → slice_get worked i ≡ Some w → Rests w.blocked (i + suc p) phase past to r) →
     (i : ℕ) (r : Runner) (w : Worked (Ticket Record)) → slice_get (first ∷ runners) i ≡ Some r → slice_get (one ∷ worked) i ≡ Some w → Rests w.blocked (i + p) phase past to r
-more-rest p phase past to first runners one worked rests rest zero r w has is =
-    let same : first ≡ r = cc in
-    let that : one ≡ w = cc in
-    let here : p ≡ zero + p = omega arith in
-    subst (λ (k : ℕ). Rests w.blocked k phase past to r) here
-    (subst (λ (x : Runner). Rests w.blocked p phase past to x) same (subst (λ (x : Worked (Ticket Record)). Rests x.blocked p phase past to first) that rests))
+more-rest p phase past to first runners one worked rests rest zero r w has is = grind (arith, Rests, Runner)
 more-rest p phase past to first runners one worked rests rest (suc i) r w has is =
     let here : i + suc p ≡ suc i + p = omega arith in
     subst (λ (k : ℕ). Rests w.blocked k phase past to r) here (rest i r w has is)
@@ -91,8 +78,7 @@ more-rest p phase past to first runners one worked rests rest (suc i) r w has is
 all-rest : (phase : ℕ) (calls : List WrittenCall) (phases : List (List WrittenCall)) (n p : ℕ) (past to : Past) (programs : List (Vec Planned Global)) (seats : List Progress) (before : List (Ticket Record)) (worked : List (Worked (Ticket Record))) (after : List (Ticket Record)) (each : AllZip (EndsPhase calls) before worked) →
     AreAmpleEnds calls before worked each → AllSit phase (calls ∷ phases) p programs seats before → AllZip (FindsLength n) (processes_of worked) after → AllLeft past before → AllLeft to after →
     list_all (is_blocked to) (blocked_processes worked) ≡ true → AllRest phase p past to programs seats worked
-all-rest phase calls phases n p past to programs seats [] [] [] each ample sit met left now blocked =
-    record { runners = []; programs_are = sym sit.0; seats_are = sym sit.1; count = refl; rest = λ i r w has is. cc }
+all-rest phase calls phases n p past to programs seats [] [] [] each ample sit met left now blocked = grind arith
 all-rest phase calls phases n p past to programs seats [] (w ∷ worked) after each ample sit met left now blocked = absurd each
 all-rest phase calls phases n p past to programs seats (old ∷ before) [] after each ample sit met left now blocked = absurd each
 all-rest phase calls phases n p past to programs seats (old ∷ before) (w ∷ worked) (t ∷ after) each ample sit met left now blocked =

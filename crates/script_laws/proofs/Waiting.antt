@@ -1,6 +1,6 @@
 -- A call that waited is two moves: the wait and its collect.
-use Rattle.std.proofs.Common.{◌≡◌, ℕ, ◌+◌, Bool, true, List, [], ◌∷◌, ◌++◌, length, append_assoc, Some, None, if◌then◌else◌, refl, ap, ◌∙◌, subst, arith, eq-eqb, Vec}
-use Rattle.std.specs.declared.alloc.Global.{Global}
+use Rattle.std.proofs.lemmas.Bool.Decides.{nat_tests}
+use Rattle.std.proofs.Common.{◌≡◌, ℕ, ◌+◌, Bool, true, List, [], ◌∷◌, ◌++◌, length, append_assoc, Some, None, if◌then◌else◌, refl, ap, ◌∙◌, subst, arith, eq-eqb, Vec, Global}
 use Rattle.fast_mutex.specs.Items.{LockId, Ticket, Grows}
 use Rattle.mq.specs.Calls.{Waited, author, bounds_in, recorded}
 use Rattle.mq.proofs.Others.{wait-grown}
@@ -76,15 +76,7 @@ collect-goes phase program p by waited wait progress found legal next waits at =
 pub wait-goes : (phase : ℕ) (program : Vec Planned Global) (p : ℕ) (from found : Past) (progress : Progress) (call : Call) (given : List ℕ)
     → open_wait from p ≡ None → Grows author p from found [] → IsNext phase program progress.begun (steps.Call call) given → IsLegalNext found (recorded p call given Waits)
     → Goes p phase program (record { found = found; own = recorded p call given Waits ∷ []; next = further progress [] }) from progress
-wait-goes phase program p from found progress call given free others next legal =
-    let r : Record = recorded p call given Waits in
-    let goes = call-goes found p call given Waits progress legal in
-    record {
-      others = others;
-      mine = mine-one p call given Waits;
-      eager = λ none. let bad : r ∷ [] ≡ [] = none in absurd (cc);
-      turn = turn-by-line found phase p progress program (steps.Call call) given (record { past = r ∷ found; text = progress.text ++ [] }) (wait-grown others ∙ free) next goes;
-    }
+wait-goes phase program p from found progress call given free others next legal = grind (arith, call-goes, mine-one, turn-by-line, wait-grown)
 
 -- a wait and its collect are two moves, if this is printed for the collect
 pub waited-moves : (phase : ℕ) (program : Vec Planned Global) (from : Past) (progress : Progress) (old new : Ticket Record) (call : Call) (given line : List ℕ) (by : ℕ)
@@ -108,12 +100,7 @@ waited-moves phase program from progress old new call given line by at next wait
     let c = collect-goes phase program p by wait (length b.found) first found legal.0 legal.1 waits wait_at in
     let text : (progress.text ++ []) ++ said_of_collect (end ∷ found) p by ≡ progress.text ++ line = rw (prints (end ∷ found) s.later c.1) (append_assoc progress.text [] line) in
     let count : progress.begun + 1 + 0 ≡ progress.begun + 1 = omega arith in
-    let to_end : Goes p phase program (record { found = found; own = end ∷ []; next = further progress line }) (wait ∷ b.found) first = record {
-      others = s.others;
-      mine = mine-one p Collect [] (Collected by);
-      eager = λ none. let bad : end ∷ [] ≡ [] = none in absurd (cc);
-      turn = rw (count, text) at c.0;
-    }
+    let to_end : Goes p phase program (record { found = found; own = end ∷ []; next = further progress line }) (wait ∷ b.found) first = grind (arith, nat_tests, mine-one)
     in
     record {
       at = end ∷ found;

@@ -50,8 +50,7 @@ abbrev AreLater : List Runner → Type 0
 AreLater runners = (i : ℕ) (r : Runner) → slice_get runners i ≡ Some r → StartsLater r.moves
 
 later-more : (r : Runner) (runners : List Runner) → StartsLater r.moves → AreLater runners → AreLater (r ∷ runners)
-later-more r runners one rest zero s has = let same : r ≡ s = cc in rw (← same) one
-later-more r runners one rest (suc i) s has = rest i s has
+later-more r runners one rest h s has = grind arith
 
 find-eager : (runners : List Runner) → Eager runners ⊎ AreLater runners
 find-eager [] = inr (λ i r has. cc)

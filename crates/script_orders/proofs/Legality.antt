@@ -1,28 +1,19 @@
 -- The journal after each schedule of a play is legal.
-use Rattle.std.proofs.Common.{◌≡◌, ℕ, zero, suc, ◌+◌, ◌≤◌, ◌<◌, ◌==◌, Bool, true, false, ◌&&◌, List, [], ◌∷◌, ◌++◌, length, Option, Some, None, is_some, slice_get, refl, ap, sym, subst, arith, if◌then◌else◌, Vec, nat_le, nat_lt, not}
+use Rattle.std.proofs.Common.{◌≡◌, ℕ, zero, suc, ◌+◌, ◌≤◌, ◌<◌, ◌==◌, Bool, true, false, ◌&&◌, List, [], ◌∷◌, ◌++◌, length, Option, Some, None, is_some, slice_get, refl, ap, subst, arith, if◌then◌else◌, Vec, nat_lt, not, Global, eq-eqb}
 use Rattle.std.specs.Option.{option_and_then, option_map}
-use Rattle.std.specs.declared.alloc.Global.{Global}
-use Rattle.std.specs.Cmp.Derive.{both_true}
-use Rattle.std.proofs.lemmas.Bool.{eq-eqb}
-use Rattle.std.proofs.lemmas.Bool.Decides.{nat_tests}
 use Rattle.std.proofs.lemmas.Option.{slice_get_within}
-use Rattle.mq_model.specs.Limits.{most_processes}
 use Rattle.mq_model.specs.Record.{Past, Process}
-use Rattle.mq_model.specs.Waits.{is_wait, open_wait}
-use Rattle.mq_model.specs.Descriptors.{held}
-use Rattle.mq_model.specs.ErrorOrder.{close_reply}
-use Rattle.mq_model.specs.Legality.{Legal, may_call, reply_to}
+use Rattle.mq_model.specs.Waits.{open_wait}
+use Rattle.mq_model.specs.Legality.{Legal}
 use Rattle.mq_model.specs.declared.entries.Call.{Call}
 use Rattle.mq_model.specs.declared.entries.Call.TheVariants.{MqClose, Collect}
-use Rattle.mq_model.specs.declared.entries.Description.{Description}
 use Rattle.script_text.specs.Replies.{reply_line}
 use Rattle.script_text.specs.declared.reply.Outcome.TheVariants as outcomes
-use Rattle.mq_state.specs.Trails.{with_call, can_call, record_of_call}
-use Rattle.mq_state.proofs.Trails.{can-of, legal-of}
+use Rattle.mq_state.specs.Trails.{can_call}
+use Rattle.mq_state.proofs.Trails.{legal-of}
 use Rattle.schedules.specs.Schedules.{after}
 use Rattle.script_orders.specs.Progress.{Progress}
-use Rattle.script_orders.specs.Said.{said}
-use Rattle.script_orders.specs.Scenes.{Scene, after_call, after_step, close_first, close_held, is_held}
+use Rattle.script_orders.specs.Scenes.{Scene, after_call, after_step, close_first, close_held}
 use Rattle.script_orders.specs.Turns.{Turned, after_line, after_turn, scene_of, turned}
 use Rattle.script_orders.specs.Stage.{Stage, after_phase, first_stage, in_next_phase, next_stage, stands_still, turn_of, waits, with_turn}
 use Rattle.script_orders.specs.StageLaws.{next-first}
@@ -30,27 +21,12 @@ use Rattle.script_orders.specs.Orders.{AreLegal}
 use Rattle.script_orders.specs.declared.plan.Planned.{Planned}
 use Rattle.script_orders.specs.declared.plan.Step.{Step}
 use Rattle.script_orders.specs.declared.plan.Step.TheVariants as steps
+use Rattle.schedules.proofs.Removing.{is-none}
 
 -- a call ----------------------------------------------------------------------------------------------------------------
 
-call-legal : (past new : Past) (p : Process) (call : Call) (given : List ℕ) → Legal past → with_call past p call given ≡ Some new → Legal new
-call-legal past new p call given legal step =
-    let parts = can-of past new p call given step in
-    let longer : Legal (record_of_call past p call given ∷ past) = (legal, legal-of past p call given parts.0) in
-    let P : Past → Type 0 = λ x. Legal x in
-    subst P (sym parts.1) longer
-
-scene-legal : (text : Past → List ℕ) (o : Option Past) (new : Scene) → ((past : Past) → o ≡ Some past → Legal past) → option_map (λ (past : Past). let next : Scene = record { past = past; text = text past } in next) o ≡ Some new → Legal new.past
-scene-legal text None new legal h = cc
-scene-legal text (Some past) new legal h =
-    let next : Scene = record { past = past; text = text past } in
-    let e : next ≡ new = cc in
-    let P : Scene → Type 0 = λ s. Legal s.past in
-    subst P e (legal past refl)
-
 call-scene-legal : (scene new : Scene) (p : Process) (call : Call) (given : List ℕ) → Legal scene.past → after_call scene p call given ≡ Some new → Legal new.past
-call-scene-legal scene new p call given legal h =
-    scene-legal (λ past. scene.text ++ said past p (reply_to scene.past p call given)) (with_call scene.past p call given) new (λ past step. call-legal scene.past past p call given legal step) h
+call-scene-legal scene new p call given legal h = grind arith
 
 -- an exit ---------------------------------------------------------------------------------------------------------------
 
@@ -58,29 +34,12 @@ pub record Free (past : Past) (p : Process) : Type 0 where
   pub legal : Legal past
   pub free : open_wait past p ≡ None
 
-no-wait : (o : Option Description) → is_wait (close_reply o) ≡ false
-no-wait None = refl
-no-wait (Some d) = refl
-
 -- a process that does not wait may close
 pub close-can : (past : Past) (p d : ℕ) → (1 ≤ p) × (p ≤ 32) → Free past p → can_call past p (MqClose d) [] ≡ true
-close-can past p d bounds f =
-    let process : (nat_le 1 p && nat_le p most_processes) ≡ true = grind (arith, nat_tests) in
-    let turn : may_call past p (MqClose d) ≡ true = rw f.free refl in
-    both_true (both_true process turn) refl
+close-can past p d bounds f = grind arith
 
 close-free : (past : Past) (p d : ℕ) → (1 ≤ p) × (p ≤ 32) → Free past p → Free (close_held past p d) p
-close-free past p d bounds f =
-    let can = close-can past p d bounds f in
-    let own : (p == p) ≡ true = eq-eqb p p refl in
-    let none : open_wait (record_of_call past p (MqClose d) [] ∷ past) p ≡ None = rw (own, no-wait (held past p d)) refl in
-    let goes : (b : Bool) → Free (if b then record_of_call past p (MqClose d) [] ∷ past else past) p =
-    λ (b : Bool). elim b as (λ b. Free (if b then record_of_call past p (MqClose d) [] ∷ past else past) p) [
-      | true ↦ record { legal = (f.legal, legal-of past p (MqClose d) [] can); free = none }
-      | false ↦ f
-    ]
-    in
-    goes (is_held past p d)
+close-free past p d bounds f = grind (arith, close-can, eq-eqb, legal-of)
 
 pub all-free : (past : Past) (p n : ℕ) → (1 ≤ p) × (p ≤ 32) → Free past p → Free (close_first past p n) p
 all-free past p zero bounds f = f
@@ -90,11 +49,7 @@ all-free past p (suc n) bounds f = close-free (close_first past p n) p n bounds 
 
 step-legal : (scene new : Scene) (p : Process) (given : List ℕ) (step : Step) → (1 ≤ p) × (p ≤ 32) → Free scene.past p → after_step scene p given step ≡ Some new → Legal new.past
 step-legal scene new p given (steps.Call call) bounds f h = call-scene-legal scene new p call given f.legal h
-step-legal scene new p given (steps.Refusal fault) bounds f h =
-    let next : Scene = record { past = scene.past; text = scene.text ++ reply_line p (outcomes.Refused fault) [] } in
-    let e : next ≡ new = cc in
-    let P : Scene → Type 0 = λ s. Legal s.past in
-    subst P e f.legal
+step-legal scene new p given (steps.Refusal fault) bounds f h = grind arith
 step-legal scene new p given steps.Exit bounds f h =
     let next : Scene = record { past = close_first scene.past p 16; text = scene.text ++ reply_line p outcomes.Done [] } in
     let e : next ≡ new = cc in
@@ -102,11 +57,7 @@ step-legal scene new p given steps.Exit bounds f h =
     subst P e (all-free scene.past p 16 bounds f).legal
 
 turned-legal : (lines : ℕ) (progress : Progress) (o : Option Scene) (new : Turned) → ((s : Scene) → o ≡ Some s → Legal s.past) → option_map (turned lines progress) o ≡ Some new → Legal new.past
-turned-legal lines progress None new legal h = cc
-turned-legal lines progress (Some s) new legal h =
-    let e : turned lines progress s ≡ new = cc in
-    let P : Turned → Type 0 = λ t. Legal t.past in
-    subst P e (legal s refl)
+turned-legal lines progress o new legal h = grind arith
 
 line-legal : (past : Past) (phase : ℕ) (p : Process) (progress : Progress) (new : Scene) (o : Option Planned) → (1 ≤ p) × (p ≤ 32) → Free past p → option_and_then (after_line past phase p progress) o ≡ Some new → Legal new.past
 line-legal past phase p progress new None bounds f h = cc
@@ -119,10 +70,6 @@ line-legal past phase p progress new (Some next) bounds f h =
     in
     goes (next.phase == phase) h
 
-pub none-of : {A : Type 0} (o : Option A) → is_some o ≡ false → o ≡ None
-none-of None h = refl
-none-of (Some x) h = cc
-
 turn-legal : (past : Past) (phase : ℕ) (p : Process) (progress : Progress) (program : Vec Planned Global) (new : Turned) → (1 ≤ p) × (p ≤ 32) → Legal past → after_turn past phase p progress program ≡ Some new → Legal new.past
 turn-legal past phase p progress program new bounds legal h =
     let collects : Option Turned = option_map (turned 0 progress) (after_call (scene_of past progress) p Collect []) in
@@ -131,7 +78,7 @@ turn-legal past phase p progress program new bounds legal h =
     λ (b : Bool). elim b as (λ b. is_some (open_wait past p) ≡ b → (if b then collects else begins) ≡ Some new → Legal new.past) [
       | true ↦ (λ e h. turned-legal 0 progress (after_call (scene_of past progress) p Collect []) new (λ s step. call-scene-legal (scene_of past progress) s p Collect [] legal step) h)
       | false ↦ (λ e h.
-          let f : Free past p = record { legal = legal; free = none-of (open_wait past p) e } in
+          let f : Free past p = record { legal = legal; free = is-none (open_wait past p) e } in
           turned-legal 1 progress (option_and_then (after_line past phase p progress) (slice_get program.items progress.begun)) new
           (λ s step. line-legal past phase p progress s (slice_get program.items progress.begun) bounds f step) h)
     ]
@@ -141,11 +88,7 @@ turn-legal past phase p progress program new bounds legal h =
 -- a step of the play ----------------------------------------------------------------------------------------------------
 
 with-turn-legal : (x y : Stage) (choice : ℕ) (o : Option Turned) → ((t : Turned) → o ≡ Some t → Legal t.past) → option_map (with_turn x choice) o ≡ Some y → Legal y.past
-with-turn-legal x y choice None legal h = cc
-with-turn-legal x y choice (Some t) legal h =
-    let e : with_turn x choice t ≡ y = cc in
-    let P : Stage → Type 0 = λ s. Legal s.past in
-    subst P e (legal t refl)
+with-turn-legal x y choice o legal h = grind arith
 
 seat-legal : (x : Stage) (choice : ℕ) (program : Vec Planned Global) (t : Turned) (o : Option Progress) → choice < 32 → Legal x.past → option_and_then (λ (seat : Progress). after_turn x.past x.phase (choice + 1) seat program) o ≡ Some t → Legal t.past
 seat-legal x choice program t None below legal h = cc
@@ -159,11 +102,7 @@ turn-of-legal x choice t (Some program) has few legal h =
     seat-legal x choice program t (slice_get x.seats choice) (omega (arith, inside, few)) legal h
 
 phase-legal : (x y : Stage) (b : Bool) → Legal x.past → (if b then Some (in_next_phase x) else None) ≡ Some y → Legal y.past
-phase-legal x y true legal h =
-    let e : in_next_phase x ≡ y = cc in
-    let P : Stage → Type 0 = λ s. Legal s.past in
-    subst P e legal
-phase-legal x y false legal h = cc
+phase-legal x y b legal h = grind arith
 
 next-legal : (x y : Stage) (choice : ℕ) → length x.programs ≤ 32 → Legal x.past → next_stage x choice ≡ Some y → Legal y.past
 next-legal x y choice few legal step =
@@ -176,10 +115,7 @@ next-legal x y choice few legal step =
     goes (choice == length x.programs) step
 
 run-legal : (schedule : List ℕ) (x y : Stage) → length x.programs ≤ 32 → Legal x.past → after next_stage schedule x ≡ Some y → Legal y.past
-run-legal [] x y few legal h =
-    let e : x ≡ y = cc in
-    let P : Stage → Type 0 = λ s. Legal s.past in
-    subst P e legal
+run-legal [] x y few legal h = grind arith
 run-legal (choice ∷ schedule) x y few legal h =
     let goes : (o : Option Stage) → next_stage x choice ≡ o → option_and_then (after next_stage schedule) o ≡ Some y → Legal y.past =
     λ (o : Option Stage). elim o as (λ o. next_stage x choice ≡ o → option_and_then (after next_stage schedule) o ≡ Some y → Legal y.past) [

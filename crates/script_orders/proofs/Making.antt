@@ -1,39 +1,33 @@
 -- A process that neither waits nor can take a step has made all its lines up to the phase.
-use Rattle.std.proofs.Common.{◌≡◌, ℕ, zero, suc, ◌+◌, ◌≤◌, ◌<◌, ◌==◌, ◌⊎◌, inl, inr, Bool, true, false, ◌&&◌, List, [], ◌∷◌, ◌++◌, length, map, Option, Some, None, is_some, slice_get, slice_set, refl, ap, sym, ◌∙◌, subst, arith, add-one, if◌then◌else◌, Vec, nat_le, nat_lt, not}
-use Rattle.std.specs.Prelude.{filter, ◌||◌}
+use Rattle.std.proofs.Common.{◌≡◌, ℕ, zero, suc, ◌+◌, ◌≤◌, ◌<◌, ◌==◌, ◌⊎◌, inl, inr, Bool, true, false, List, [], ◌∷◌, ◌++◌, length, map, Option, Some, None, is_some, slice_get, slice_set, refl, ap, sym, ◌∙◌, subst, arith, add-one, if◌then◌else◌, Vec, rules, ◌||◌, Global}
 use Rattle.std.specs.Option.{option_and_then, option_map}
-use Rattle.std.specs.declared.alloc.Global.{Global}
-use Rattle.std.specs.Cmp.Derive.{both_true}
 use Rattle.std.proofs.lemmas.Bool.{and_parts, eq-eqb, eqb-true}
 use Rattle.std.proofs.lemmas.Bool.Decides.{nat_tests}
 use Rattle.std.proofs.lemmas.List.{length-map}
 use Rattle.std.proofs.lemmas.Option.{slice_get_within, slice_get-map}
 use Rattle.text_io.specs.Words.{Word}
-use Rattle.mq_model.specs.Limits.{most_processes}
-use Rattle.mq_model.specs.Name.{has_name_form, is_name}
 use Rattle.mq_model.specs.Record.{Past, Process}
 use Rattle.mq_model.specs.Waits.{open_wait}
-use Rattle.mq_model.specs.Legality.{is_payload, is_refused, may_call, payload_of, reply_to}
 use Rattle.mq_model.specs.declared.entries.Deadline.{Deadline}
 use Rattle.mq_model.specs.declared.entries.Call.{Call}
-use Rattle.mq_model.specs.declared.entries.Call.TheVariants.{MqOpen, MqClose, MqUnlink, MqSend, MqReceive, MqTimedSend, MqTimedReceive, MqGetattr, MqSetattr, MqNotify, NextNotice, Collect}
-use Rattle.mq_model.specs.declared.faults.Fault.TheVariants.{Invalid, NameTooLong}
+use Rattle.mq_model.specs.declared.entries.Call.TheVariants.{Collect}
 use Rattle.script_text.specs.Script.{Whole, WrittenCall}
 use Rattle.script_text.specs.declared.command.Command.{Command}
 use Rattle.script_text.specs.declared.command.Command.TheVariants as command
-use Rattle.mq_state.specs.Trails.{with_call, can_call, record_of_call}
+use Rattle.mq_state.specs.Trails.{can_call}
 use Rattle.schedules.specs.Schedules.{after}
-use Rattle.script_orders.specs.Plans.{Plan, given_by, named_step, plan, plan_of, program_of, programs_of, step_by}
+use Rattle.script_orders.specs.Plans.{Plan, given_by, plan, plan_of, program_of, programs_of, step_by}
 use Rattle.script_orders.specs.Progress.{Progress}
 use Rattle.script_orders.specs.Scenes.{Scene, after_call, after_step}
 use Rattle.script_orders.specs.Turns.{Turned, after_line, after_turn, scene_of, turned}
-use Rattle.script_orders.specs.Stage.{Stage, after_phase, in_next_phase, next_stage, none_can_turn, one_waits, stands_still, turn_of, waits, with_turn}
+use Rattle.script_orders.specs.Stage.{Stage, in_next_phase, next_stage, one_waits, stands_still, turn_of, waits, with_turn}
 use Rattle.script_orders.specs.Orders.{BeginsAfter, HasMade}
 use Rattle.script_orders.specs.declared.plan.Planned.{Planned}
 use Rattle.script_orders.specs.declared.plan.Step.{Step}
 use Rattle.script_orders.specs.declared.plan.Step.TheVariants as steps
 use Rattle.script_orders.proofs.Counting.{none_can_turn-false}
 use Rattle.script_orders.proofs.Turning.{turn_of-is}
+use Rattle.schedules.proofs.Removing.{length-pushed}
 
 -- the lines of a script can be made ---------------------------------------------------------------------------------------
 
@@ -43,40 +37,11 @@ IsMakeable (steps.Call call) given = (past : Past) (p : Process) → (1 ≤ p) �
 IsMakeable (steps.Refusal fault) given = Unit {0}
 IsMakeable steps.Exit given = Unit {0}
 
-can-call-of : (past : Past) (p : Process) (call : Call) (given : List ℕ) → (1 ≤ p) × (p ≤ 32) → may_call past p call ≡ true → is_payload call (reply_to past p call given) (payload_of call (reply_to past p call given) given) ≡ true → can_call past p call given ≡ true
-can-call-of past p call given bounds turn payload =
-    let process : (nat_le 1 p && nat_le p most_processes) ≡ true = grind (arith, nat_tests) in
-    both_true (both_true process turn) payload
-
-named : (name : List ℕ) (call : Call) → ((past : Past) (p : Process) → (1 ≤ p) × (p ≤ 32) → open_wait past p ≡ None → is_name name ≡ true → can_call past p call name ≡ true) → IsMakeable (named_step name call) name
-named name call makes =
-    let goes : (b : Bool) → is_name name ≡ b → IsMakeable (if b then steps.Call call else steps.Refusal (if has_name_form name then NameTooLong else Invalid)) name =
-    λ (b : Bool). elim b as (λ b. is_name name ≡ b → IsMakeable (if b then steps.Call call else steps.Refusal (if has_name_form name then NameTooLong else Invalid)) name) [
-      | true ↦ (λ e. λ past p bounds free. makes past p bounds free e)
-      | false ↦ (λ e. tt)
-    ]
-    in
-    goes (is_name name) refl
-
 sent : (b : Bool) (message : List ℕ) → (length (if b then [] else message) == (if b then 0 else length message)) ≡ true
-sent true message = refl
-sent false message = eq-eqb (length message) (length message) refl
+sent b message = grind (arith, eq-eqb)
 
 step-makeable : (now : Deadline) (c : Command Word) → IsMakeable (step_by now c) (given_by c)
-step-makeable now (command.Open name flags attr) = named name (MqOpen flags attr) (λ past p bounds free is. can-call-of past p (MqOpen flags attr) name bounds (rw free refl) is)
-step-makeable now (command.Close d) = λ past p bounds free. can-call-of past p (MqClose d) [] bounds (rw free refl) refl
-step-makeable now (command.Unlink name) = named name MqUnlink (λ past p bounds free is. can-call-of past p MqUnlink name bounds (rw free refl) is)
-step-makeable now (command.Send d prio message) = λ past p bounds free.
-    can-call-of past p (MqSend d prio (length message)) message bounds (rw free refl) (sent (is_refused (reply_to past p (MqSend d prio (length message)) message)) message)
-step-makeable now (command.Receive d room) = λ past p bounds free. can-call-of past p (MqReceive d room) [] bounds (rw free refl) refl
-step-makeable now (command.TimedSend d prio until message) = λ past p bounds free.
-    can-call-of past p (MqTimedSend d prio (length message) until now) message bounds (rw free refl) (sent (is_refused (reply_to past p (MqTimedSend d prio (length message) until now) message)) message)
-step-makeable now (command.TimedReceive d room until) = λ past p bounds free. can-call-of past p (MqTimedReceive d room until now) [] bounds (rw free refl) refl
-step-makeable now (command.Getattr d) = λ past p bounds free. can-call-of past p (MqGetattr d) [] bounds (rw free refl) refl
-step-makeable now (command.Setattr d nonblock) = λ past p bounds free. can-call-of past p (MqSetattr d nonblock) [] bounds (rw free refl) refl
-step-makeable now (command.Notify d value) = λ past p bounds free. can-call-of past p (MqNotify d value) [] bounds (rw free refl) refl
-step-makeable now command.Notice = λ past p bounds free. can-call-of past p NextNotice [] bounds (rw free refl) refl
-step-makeable now command.Exit = tt
+step-makeable now c = grind (arith, sent)
 
 -- lines whose phases do not fall, from a phase on, and that can be made
 abbrev Good : ℕ → List Plan → Type 0
@@ -93,8 +58,7 @@ list-good k m (c ∷ calls) rest le g = (omega arith, step-makeable c.moment c.c
 
 program-good : (k : ℕ) (phases : List (List WrittenCall)) (p : ℕ) → Good k (program_of k phases p)
 program-good k [] p = tt
-program-good k (calls ∷ phases) p =
-    list-good k (k + 1) (filter (λ call. call.process == p) calls) (program_of (k + 1) phases p) (omega arith) (program-good (k + 1) phases p)
+program-good k (calls ∷ phases) p = grind (arith, list-good, program-good (k + 1) phases p)
 
 append-last : {A : Type 0} (xs : List A) (y : A) (i : ℕ) (x : A) → slice_get (xs ++ y ∷ []) i ≡ Some x → (slice_get xs i ≡ Some x) ⊎ (y ≡ x)
 append-last [] y zero x h = inr cc
@@ -110,20 +74,13 @@ programs-good phases (suc n) i x h =
       | inr e ↦ subst (λ (y : List Plan). Good 0 y) e (program-good 0 phases (n + 1))
     ]
 
-length-last : {A : Type 0} (xs : List A) (y : A) → length (xs ++ y ∷ []) ≡ suc (length xs)
-length-last [] y = refl
-length-last (x ∷ xs) y = ap (λ (n : ℕ). suc n) (length-last xs y)
-
-programs-count : (phases : List (List WrittenCall)) (n : ℕ) → length (programs_of phases n) ≡ n
+pub programs-count : (phases : List (List WrittenCall)) (n : ℕ) → length (programs_of phases n) ≡ n
 programs-count phases zero = refl
-programs-count phases (suc n) = length-last (programs_of phases n) (program_of 0 phases (n + 1)) ∙ ap (λ (n : ℕ). suc n) (programs-count phases n)
+programs-count phases (suc n) = length-pushed (programs_of phases n) (program_of 0 phases (n + 1)) ∙ ap (λ (n : ℕ). suc n) (programs-count phases n)
 
 good-at : (k : ℕ) (xs : List Plan) (i : ℕ) (x : Plan) → Good k xs → slice_get xs i ≡ Some x → (k ≤ x.phase) × IsMakeable x.step x.given
 good-at k [] i x g h = cc
-good-at k (y ∷ xs) zero x g h =
-    let e : y ≡ x = cc in
-    let P : Plan → Type 0 = λ z. (k ≤ z.phase) × IsMakeable z.step z.given in
-    subst P e (g.0, g.1)
+good-at k (y ∷ xs) zero x g h = grind arith
 good-at k (y ∷ xs) (suc i) x g h = let rest = good-at y.phase xs i x g.2 h in (omega (arith, g.0, rest.0), rest.1)
 
 good-next : (k : ℕ) (xs : List Plan) (i : ℕ) (x y : Plan) → Good k xs → slice_get xs i ≡ Some x → slice_get xs (suc i) ≡ Some y → x.phase ≤ y.phase
@@ -137,17 +94,6 @@ good-next k (z ∷ xs) (suc i) x y g h next = good-next z.phase xs i x y g.2 h n
 -- processes that can take a step
 -- -------------------------------------------------------------------
 
-some-map : {A B : Type 0} (f : A → B) (o : Option A) → is_some o ≡ true → is_some (option_map f o) ≡ true
-some-map f None h = cc
-some-map f (Some x) h = refl
-
-step-goes : (scene : Scene) (p : Process) (given : List ℕ) (step : Step) → (1 ≤ p) × (p ≤ 32) → open_wait scene.past p ≡ None → IsMakeable step given → is_some (after_step scene p given step) ≡ true
-step-goes scene p given (steps.Call call) bounds free makes =
-    let can : can_call scene.past p call given ≡ true = makes scene.past p bounds free in
-    some-map _ (with_call scene.past p call given) (ap (λ (b : Bool). is_some (if b then Some (record_of_call scene.past p call given ∷ scene.past) else None)) can)
-step-goes scene p given (steps.Refusal fault) bounds free makes = refl
-step-goes scene p given steps.Exit bounds free makes = refl
-
 abbrev GoodProgram : Vec Planned Global → Type 0
 GoodProgram program = Good 0 (map plan_of program.items)
 
@@ -160,17 +106,7 @@ line-goes past phase p progress program planned bounds good free has is =
     let collects : Option Turned = option_map (turned 0 progress) (after_call (scene_of past progress) p Collect []) in
     let begins : Option Turned = option_map (turned 1 progress) (option_and_then (after_line past phase p progress) (slice_get program.items progress.begun)) in
     let makes = (good-at 0 (map plan_of program.items) progress.begun (plan_of planned) good (planned-at program progress.begun planned has)).1 in
-    let goes : is_some (after_step (scene_of past progress) p planned.given.items planned.step) ≡ true = step-goes (scene_of past progress) p planned.given.items planned.step bounds free makes in
-    let same : (planned.phase == phase) ≡ true = eq-eqb planned.phase phase is in
-    let line : after_line past phase p progress planned ≡ after_step (scene_of past progress) p planned.given.items planned.step =
-    ap (λ (b : Bool). if b then after_step (scene_of past progress) p planned.given.items planned.step else None) same
-    in
-    let one : after_turn past phase p progress program ≡ begins = ap (λ (o : Option ℕ). if is_some o then collects else begins) free in
-    let two : begins ≡ option_map (turned 1 progress) (after_line past phase p progress planned) = ap (λ (o : Option Planned). option_map (turned 1 progress) (option_and_then (after_line past phase p progress) o)) has in
-    let three : is_some (option_map (turned 1 progress) (after_line past phase p progress planned)) ≡ true =
-    some-map (turned 1 progress) (after_line past phase p progress planned) (ap (λ (o : Option Scene). is_some o) line ∙ goes)
-    in
-    ap (λ (o : Option Turned). is_some o) (one ∙ two) ∙ three
+    grind (arith, nat_tests, eq-eqb)
 
 -- how far each process has come -------------------------------------------------------------------------------------------
 
@@ -184,8 +120,7 @@ record Holds (s : Stage) : Type 0 where
   ready : (i : ℕ) (program : Vec Planned Global) (seat : Progress) → slice_get s.programs i ≡ Some program → slice_get s.seats i ≡ Some seat → ReadyAt s.phase program seat
 
 turned-begun : (lines : ℕ) (progress : Progress) (o : Option Scene) (t : Turned) → option_map (turned lines progress) o ≡ Some t → t.progress.begun ≡ progress.begun + lines
-turned-begun lines progress None t h = cc
-turned-begun lines progress (Some scene) t h = let e : turned lines progress scene ≡ t = cc in ap (λ (x : Turned). x.progress.begun) (sym e)
+turned-begun lines progress o t h = grind arith
 
 record BegunLine (phase : ℕ) (o : Option Planned) : Type 0 where
   planned : Planned
@@ -209,10 +144,7 @@ turn-ready past phase p progress program t good ready h =
     let begins : Option Turned = option_map (turned 1 progress) (option_and_then (after_line past phase p progress) (slice_get program.items progress.begun)) in
     let goes : (b : Bool) → (if b then collects else begins) ≡ Some t → ReadyAt phase program t.progress =
     λ (b : Bool). elim b as (λ b. (if b then collects else begins) ≡ Some t → ReadyAt phase program t.progress) [
-      | true ↦ (λ h. λ planned has.
-          let count : t.progress.begun ≡ progress.begun + 0 = turned-begun 0 progress (after_call (scene_of past progress) p Collect []) t h in
-          let same : progress.begun ≡ t.progress.begun = omega (arith, count) in
-          ready planned (ap (λ (n : ℕ). slice_get program.items n) same ∙ has))
+      | true ↦ grind (arith, nat_tests, turned-begun)
       | false ↦ (λ h. λ planned has.
           let count : t.progress.begun ≡ progress.begun + 1 = turned-begun 1 progress (option_and_then (after_line past phase p progress) (slice_get program.items progress.begun)) t h in
           let line = begun-line past phase p progress (slice_get program.items progress.begun) t h in
@@ -230,11 +162,7 @@ set-cases [] c i t s h = inr cc
 set-cases (x ∷ xs) zero zero t s h = inl (refl, cc)
 set-cases (x ∷ xs) zero (suc i) t s h = inr h
 set-cases (x ∷ xs) (suc c) zero t s h = inr h
-set-cases (x ∷ xs) (suc c) (suc i) t s h =
-    elim (set-cases xs c i t s h) [
-      | inl e ↦ inl (ap (λ (n : ℕ). suc n) e.0, e.1)
-      | inr e ↦ inr e
-    ]
+set-cases (x ∷ xs) (suc c) (suc i) t s h = grind (arith, set-cases xs c i t s h)
 
 -- the process at an index took a step
 pub record Went (s : Stage) (choice : ℕ) (t : Turned) : Type 0 where
@@ -249,29 +177,10 @@ went-seat s choice t program None has sits h = cc
 went-seat s choice t program (Some seat) has sits h = record { program = program; seat = seat; has = has; sits = sits; goes = h }
 
 pub went-of : (s : Stage) (choice : ℕ) (t : Turned) (o : Option (Vec Planned Global)) → slice_get s.programs choice ≡ o → option_and_then (λ (program : Vec Planned Global). option_and_then (λ (seat : Progress). after_turn s.past s.phase (choice + 1) seat program) (slice_get s.seats choice)) o ≡ Some t → Went s choice t
-went-of s choice t None has h = cc
-went-of s choice t (Some program) has h = went-seat s choice t program (slice_get s.seats choice) has refl h
-
-some-is : {A : Type 0} (x y : A) → Some x ≡ Some y → x ≡ y
-some-is x y h = cc
+went-of s choice t o has h = grind (arith, went-seat)
 
 turn-holds : (x : Stage) (choice : ℕ) (t : Turned) → Holds x → Went x choice t → Holds (with_turn x choice t)
-turn-holds x choice t holds went = record {
-  few = holds.few;
-  good = holds.good;
-  ready = λ i program seat has sits.
-      elim (set-cases x.seats choice i t.progress seat sits) [
-        | inl e ↦
-            let here : slice_get x.programs choice ≡ Some program = ap (λ (n : ℕ). slice_get x.programs n) (sym e.0) ∙ has in
-            let same : went.program ≡ program = some-is went.program program (sym went.has ∙ here) in
-            let before = holds.ready choice went.program went.seat went.has went.sits in
-            let later : ReadyAt x.phase went.program t.progress = turn-ready x.past x.phase (choice + 1) went.seat went.program t (holds.good choice went.program went.has) before went.goes in
-            let P : Progress → Type 0 = λ s. ReadyAt x.phase program s in
-            let Q : Vec Planned Global → Type 0 = λ v. ReadyAt x.phase v t.progress in
-            subst P (sym e.1) (subst Q same later)
-        | inr e ↦ holds.ready i program seat has e
-      ];
-}
+turn-holds x choice t holds went = grind (arith, set-cases, turn-ready)
 
 -- the next phase
 one-waits-none : (past : Past) (n i : ℕ) → i < n → one_waits past n ≡ false → open_wait past (i + 1) ≡ None
@@ -287,62 +196,12 @@ one-waits-none past (suc n) i below h =
     in
     goes (i == n) refl
 
-none-turns : (s : Stage) (n i : ℕ) → i < n → none_can_turn s n ≡ true → is_some (turn_of s i) ≡ false
-none-turns s n i below h =
-    let goes : (b : Bool) → is_some (turn_of s i) ≡ b → is_some (turn_of s i) ≡ false = λ (b : Bool). elim b as (λ b. is_some (turn_of s i) ≡ b → is_some (turn_of s i) ≡ false) [
-      | true ↦ (λ e. let no : none_can_turn s n ≡ false = none_can_turn-false s n i below e in let k : true ≡ false = sym h ∙ no in cc)
-      | false ↦ (λ e. e)
-    ]
-    in
-    goes (is_some (turn_of s i)) refl
-
 -- the next line of a process that neither waits nor can take a step is in a later phase
 later-line : (s : Stage) (i : ℕ) (program : Vec Planned Global) (seat : Progress) (planned : Planned) → Holds s → slice_get s.programs i ≡ Some program → slice_get s.seats i ≡ Some seat → slice_get program.items seat.begun ≡ Some planned → is_some (turn_of s i) ≡ false → open_wait s.past (i + 1) ≡ None → s.phase < planned.phase
-later-line s i program seat planned holds has sits next stands free =
-    let inside : i < length s.programs = slice_get_within s.programs i program has in
-    let least : s.phase ≤ planned.phase = holds.ready i program seat has sits planned next in
-    let goes : (b : Bool) → (planned.phase == s.phase) ≡ b → s.phase < planned.phase = λ (b : Bool). elim b as (λ b. (planned.phase == s.phase) ≡ b → s.phase < planned.phase) [
-      | true ↦ (λ e.
-          let same : planned.phase ≡ s.phase = eqb-true planned.phase s.phase e in
-          let goes = line-goes s.past s.phase (i + 1) seat program planned (omega arith, omega (arith, inside, holds.few)) (holds.good i program has) free next same in
-          let turns : is_some (turn_of s i) ≡ true = ap (λ (o : Option Turned). is_some o) (turn_of-is s i program seat has sits) ∙ goes in
-          let k : true ≡ false = sym turns ∙ stands in
-          cc)
-      | false ↦ (λ e. grind (arith, nat_tests))
-    ]
-    in
-    goes (planned.phase == s.phase) refl
-
-cleared : (o : Option Progress) (seat : Progress) → option_map (λ (seat : Progress). let next : Progress = record { begun = seat.begun; text = [] } in next) o ≡ Some seat → (before : Progress) × (o ≡ Some before) × (before.begun ≡ seat.begun)
-cleared None seat h = cc
-cleared (Some before) seat h =
-    let next : Progress = record { begun = before.begun; text = [] } in
-    let e : next ≡ seat = cc in
-    (before, refl, ap (λ (s : Progress). s.begun) e)
+later-line s i program seat planned holds has sits next stands free = grind (arith, slice_get_within, eqb-true, line-goes, turn_of-is)
 
 phase-holds : (x : Stage) → Holds x → stands_still x ≡ true → waits x ≡ false → Holds (in_next_phase x)
-phase-holds x holds stands free = record {
-  few = holds.few;
-  good = holds.good;
-  ready = λ i program seat has sits. λ planned next.
-      let c = cleared (slice_get x.seats i) seat (sym (slice_get-map (λ (seat : Progress). let next : Progress = record { begun = seat.begun; text = [] } in next) x.seats i) ∙ sits) in
-      let inside : i < length x.programs = slice_get_within x.programs i program has in
-      let same : slice_get program.items c.0.begun ≡ Some planned = ap (λ (n : ℕ). slice_get program.items n) c.2 ∙ next in
-      let later = later-line x i program c.0 planned holds has c.1 same (none-turns x (length x.programs) i inside stands) (one-waits-none x.past (length x.programs) i inside free) in
-      omega (arith, later);
-}
-
-not-true : (b : Bool) → not b ≡ true → b ≡ false
-not-true true h = cc
-not-true false h = refl
-
-after-phase-holds : (x y : Stage) (b : Bool) → (nat_lt (x.phase + 1) x.phases && (stands_still x && not (waits x))) ≡ b → Holds x → (if b then Some (in_next_phase x) else None) ≡ Some y → Holds y
-after-phase-holds x y true e holds h =
-    let both = and_parts (nat_lt (x.phase + 1) x.phases) (stands_still x && not (waits x)) e in
-    let parts = and_parts (stands_still x) (not (waits x)) both.1 in
-    let same : in_next_phase x ≡ y = cc in
-    subst (λ (s : Stage). Holds s) same (phase-holds x holds parts.0 (not-true (waits x) parts.1))
-after-phase-holds x y false e holds h = cc
+phase-holds x holds stands free = grind (arith, slice_get-map, slice_get_within, later-line, one-waits-none, none_can_turn-false)
 
 with-turn-holds : (x y : Stage) (choice : ℕ) (o : Option Turned) → turn_of x choice ≡ o → Holds x → option_map (with_turn x choice) o ≡ Some y → Holds y
 with-turn-holds x y choice None e holds h = cc
@@ -351,14 +210,7 @@ with-turn-holds x y choice (Some t) e holds h =
     subst (λ (s : Stage). Holds s) same (turn-holds x choice t holds (went-of x choice t (slice_get x.programs choice) refl e))
 
 next-holds : (x y : Stage) (choice : ℕ) → Holds x → next_stage x choice ≡ Some y → Holds y
-next-holds x y choice holds step =
-    let goes : (b : Bool) → (if b then after_phase x else option_map (with_turn x choice) (turn_of x choice)) ≡ Some y → Holds y =
-    λ (b : Bool). elim b as (λ b. (if b then after_phase x else option_map (with_turn x choice) (turn_of x choice)) ≡ Some y → Holds y) [
-      | true ↦ (λ h. after-phase-holds x y (nat_lt (x.phase + 1) x.phases && (stands_still x && not (waits x))) refl holds h)
-      | false ↦ (λ h. with-turn-holds x y choice (turn_of x choice) refl holds h)
-    ]
-    in
-    goes (choice == length x.programs) step
+next-holds x y choice holds step = grind (arith, with-turn-holds, and_parts, phase-holds)
 
 run-holds : (schedule : List ℕ) (x y : Stage) → Holds x → after next_stage schedule x ≡ Some y → Holds y
 run-holds [] x y holds h = let e : x ≡ y = cc in subst (λ (s : Stage). Holds s) e holds
@@ -392,7 +244,4 @@ none-is : {A : Type 0} (o : Option A) → o ≡ None → is_some o ≡ false
 none-is o h = ap (λ o. is_some o) h
 
 pub has-made : {past : Past} (script : Whole) (from s : Stage) (schedule : List ℕ) (i : ℕ) → script.processes ≤ 32 → BeginsAfter past script from → after next_stage schedule from ≡ Some s → turn_of s i ≡ None → open_wait s.past (i + 1) ≡ None → HasMade s i
-has-made script from s schedule i few begins run stands free =
-    λ program seat planned has sits next.
-    let holds = run-holds schedule from s (begins-holds script from few begins) run in
-    later-line s i program seat planned holds has sits next (none-is (turn_of s i) stands) free
+has-made script from s schedule i few begins run stands free = search (rules, run-holds, begins-holds, later-line, none-is)

@@ -1,9 +1,8 @@
 -- A call of a process and the steps of another: they commute if the call commutes with each call
 -- that the other makes.
-use Rattle.std.proofs.Common.{◌≡◌, ℕ, zero, suc, ◌+◌, ◌≤◌, ◌<◌, ◌==◌, Bool, true, false, not, List, [], ◌∷◌, ◌++◌, length, slice_get, Option, Some, None, is_some, if◌then◌else◌, Vec, refl, sym, ◌∙◌, ap, subst, arith}
+use Rattle.std.proofs.lemmas.Bool.Decides.{nat_tests}
+use Rattle.std.proofs.Common.{◌≡◌, ℕ, zero, suc, ◌+◌, ◌≤◌, ◌<◌, ◌==◌, Bool, true, false, not, List, [], ◌∷◌, ◌++◌, length, slice_get, Option, Some, None, is_some, if◌then◌else◌, Vec, refl, sym, ◌∙◌, ap, subst, arith, Global}
 use Rattle.std.specs.Option.{option_and_then, option_map}
-use Rattle.std.specs.declared.alloc.Global.{Global}
-use Rattle.mq_model.proofs.Places.{split}
 use Rattle.mq_model.specs.Legality.{IsLegalNext, Legal, reply_to}
 use Rattle.mq_model.specs.Record.{Past, Process}
 use Rattle.mq_model.specs.Waits.{open_wait}
@@ -30,9 +29,10 @@ use Rattle.script_orders.specs.declared.plan.Step.{Step}
 use Rattle.script_orders.specs.declared.plan.Step.TheVariants as steps
 use Rattle.script_text.specs.Replies.{reply_line}
 use Rattle.script_text.specs.declared.reply.Outcome.TheVariants as outcomes
-use Rattle.script_orders.proofs.Legality.{Free, all-free, close-can, none-of}
+use Rattle.script_orders.proofs.Legality.{Free, all-free, close-can}
 use Rattle.script_orders.proofs.Likewise.{may-of}
 use Rattle.script_orders.proofs.Printing.{call-said, collect_by, said-alike, said-collect, shape-same}
+use Rattle.schedules.proofs.Removing.{is-none}
 
 -- a call that others may pass -----------------------------------------------------------------------------------------------
 
@@ -68,9 +68,7 @@ pub record Moved (a : Request) (Holds : Past → Type 0) (past new ahead : Past)
 unaffected-said : (past : Past) (a : Request) (q : Process) (call : Call) (given : List ℕ) → Unaffected past a (record { process = q; call = call; given = given }) →
     said (after_calls past (record { process = q; call = call; given = given } ∷ (a ∷ []))) q (reply_to (after_calls past (a ∷ [])) q call given)
     ≡ said (after_calls past (record { process = q; call = call; given = given } ∷ [])) q (reply_to past q call given)
-unaffected-said past a q Collect given u =
-    let b : Request = record { process = q; call = Collect; given = given } in
-    said-collect (after_calls past (b ∷ (a ∷ []))) q _ ∙ ap (collect_by q) u.collected ∙ sym (said-collect (after_calls past (b ∷ [])) q _)
+unaffected-said past a q Collect given u = grind (arith, nat_tests, said-collect, collect_by)
 unaffected-said past a q call given u =
     let b : Request = record { process = q; call = call; given = given } in
     let mid : Past = after_calls past (a ∷ []) in
@@ -108,9 +106,7 @@ pub record TurnPassed (a : Request) (Holds : Past → Type 0) (past : Past) (fro
   pub moved : Moved a Holds past t.past there.past
 
 can-from : (scene new : Scene) (p : Process) (call : Call) (given : List ℕ) → after_call scene p call given ≡ Some new → can_call scene.past p call given ≡ true
-can-from scene new p call given step = split (can_call scene.past p call given)
-    (λ t. t)
-    (λ f. let bad : None ≡ Some new = rw f at step in absurd (cc))
+can-from scene new p call given step = grind arith
 
 module _ (a : Request) (Holds : Past → Type 0) (Passes : Past → Process → Call → Type 0) (g : IsPassable a Holds Passes) where
   call-passes : (q : Process) (call : Call) (given : List ℕ) (past ahead : Past) → (a.process == q) ≡ false → Passes past q call → can_call past q call given ≡ true → IsReady a Holds past ahead → CallPassed a Holds q call given past ahead
@@ -246,7 +242,7 @@ module _ (a : Request) (Holds : Past → Type 0) (Passes : Past → Process → 
             turned-passes past 0 progress (after_call (scene_of past progress) q Collect []) (after_call (scene_of ahead progress) q Collect []) t
             (λ scene step. call-scene q Collect [] past ahead progress.text scene ne (λ can. collects_pass e) c step) h)
         | false ↦ (λ e h.
-            let none : open_wait past q ≡ None = none-of (open_wait past q) e in
+            let none : open_wait past q ≡ None = is-none (open_wait past q) e in
             let free : Free past q = record { legal = c.legal; free = none } in
             turned-passes past 1 progress (option_and_then (after_line past phase q progress) (slice_get program.items progress.begun)) (option_and_then (after_line ahead phase q progress) (slice_get program.items progress.begun)) t
             (λ scene step. line-passes q phase past ahead progress (slice_get program.items progress.begun) scene ne bounds free (lines_pass none) c step) h)

@@ -1,16 +1,15 @@
 -- A process that may collect can do so before the steps of the others.
-use Rattle.std.proofs.Common.{◌≡◌, ℕ, zero, suc, ◌+◌, ◌≤◌, ◌<◌, ◌==◌, Bool, true, false, ◌&&◌, not, List, [], ◌∷◌, ◌++◌, length, slice_get, slice_set, Option, Some, None, is_some, is_none, IsSome, if◌then◌else◌, Vec, nat_lt, refl, sym, ◌∙◌, ap, subst, arith, ne_eqb}
+use Rattle.std.proofs.lemmas.Bool.Decides.{nat_tests}
+use Rattle.std.proofs.Common.{◌≡◌, ℕ, zero, suc, ◌+◌, ◌≤◌, ◌<◌, ◌==◌, Bool, true, false, ◌&&◌, not, List, [], ◌∷◌, ◌++◌, length, slice_get, slice_set, Option, Some, None, is_some, IsSome, if◌then◌else◌, Vec, nat_lt, refl, sym, ◌∙◌, ap, subst, arith, ne_eqb, rules, Global}
 use Rattle.std.specs.Option.{option_and_then, option_map}
-use Rattle.std.specs.declared.alloc.Global.{Global}
 use Rattle.std.proofs.lemmas.Bool.{eqb-false}
 use Rattle.std.proofs.lemmas.Option.{slice_get_within}
 use Rattle.mq_model.proofs.Places.{split}
-use Rattle.mq_model.specs.Deadlines.{is_over}
 use Rattle.mq_model.specs.Legality.{Legal, reply_to}
 use Rattle.mq_model.specs.Record.{Past, Process}
 use Rattle.mq_model.specs.Waits.{answered_by, is_wait, names_wait, open_wait, wait_deadline}
 use Rattle.mq_model.specs.declared.entries.Call.{Call}
-use Rattle.mq_model.specs.declared.entries.Call.TheVariants.{Collect, Withdraw}
+use Rattle.mq_model.specs.declared.entries.Call.TheVariants.{Collect}
 use Rattle.mq_model.specs.declared.entries.Reply.{Reply}
 use Rattle.mq_state.specs.Trails.{can_call, record_of_call}
 use Rattle.mq_state.proofs.Trails.{legal-of}
@@ -19,7 +18,7 @@ use Rattle.mq_equivalence.proofs.Relation.{equivalent-self}
 use Rattle.mq_commutation.specs.Commuting.{collect_of, is_withdrawal}
 use Rattle.mq_commutation.proofs.Collects.{collect-commutes}
 use Rattle.schedules.specs.Likeness.{AreBothAlike}
-use Rattle.script_orders.specs.Likeness.{AreStagesAlike, receives}
+use Rattle.script_orders.specs.Likeness.{AreStagesAlike}
 use Rattle.script_orders.specs.Persistence.{MayCollect}
 use Rattle.script_orders.specs.Progress.{Progress}
 use Rattle.script_orders.specs.Said.{said}
@@ -32,10 +31,7 @@ use Rattle.script_orders.proofs.Likewise.{may-of, weaken}
 use Rattle.script_orders.proofs.Making.{Went, went-of}
 use Rattle.script_orders.proofs.Passing.{IsPassable, IsReady, PassesStep, can_make, made, printed, turn-passes}
 use Rattle.script_orders.proofs.Turning.{turn_of-is}
-
-and-false : (b : Bool) → (b && false) ≡ false
-and-false true = refl
-and-false false = refl
+use Rattle.mq_equivalence.proofs.Going.{and-false}
 
 -- the steps of two processes --------------------------------------------------------------------------------------------------
 
@@ -71,14 +67,10 @@ pub record BothOrders (x y z : Stage) (index other : ℕ) (a : Request) (lines :
   pub alike : AreBothAlike AreStagesAlike (next_stage y other) (next_stage z index)
 
 some-of : {A : Type 0} (o : Option A) → is_some o ≡ true → (x : A) × (o ≡ Some x)
-some-of None h = absurd (cc)
-some-of (Some x) h = (x, refl)
+some-of o h = grind arith
 
 step-of : (s : Stage) (index : ℕ) (program : Vec Planned Global) (t : Turned) → slice_get s.programs index ≡ Some program → turn_of s index ≡ Some t → next_stage s index ≡ Some (with_turn s index t)
-step-of s index program t has turns =
-    let inside : index < length s.programs = slice_get_within s.programs index program has in
-    let ne : (index == length s.programs) ≡ false = ne_eqb index (length s.programs) (λ e. omega (arith, e, inside)) in
-    ap (λ (b : Bool). if b then after_phase s else option_map (with_turn s index) (turn_of s index)) ne ∙ ap (λ (o : Option Turned). option_map (with_turn s index) o) turns
+step-of s index program t has turns = grind (arith, slice_get_within)
 
 record StepOf (s z : Stage) (choice : ℕ) : Type 0 where
   t : Turned
@@ -104,18 +96,14 @@ turn-next s z choice moves step = split (choice == length s.programs)
     by (Some t) is h = record { t = t; turns = is; is = cc }
 
 pub set-other : {A : Type 0} (xs : List A) (i j : ℕ) (x : A) → (i ≡ j → ⊥) → slice_get (slice_set xs i x) j ≡ slice_get xs j
-set-other [] i j x ne = refl
 set-other (y ∷ xs) zero zero x ne = absurd (ne refl)
-set-other (y ∷ xs) zero (suc j) x ne = refl
-set-other (y ∷ xs) (suc i) zero x ne = refl
 set-other (y ∷ xs) (suc i) (suc j) x ne = set-other xs i j x (λ e. ne (ap (λ (n : ℕ). suc n) e))
+set-other _ _ _ x ne = refl
 
 set-both : {A : Type 0} (xs : List A) (i j : ℕ) (x y : A) → (i ≡ j → ⊥) → slice_set (slice_set xs j y) i x ≡ slice_set (slice_set xs i x) j y
-set-both [] i j x y ne = refl
 set-both (z ∷ xs) zero zero x y ne = absurd (ne refl)
-set-both (z ∷ xs) zero (suc j) x y ne = refl
-set-both (z ∷ xs) (suc i) zero x y ne = refl
 set-both {A} (z ∷ xs) (suc i) (suc j) x y ne = ap (λ (ys : List A). z ∷ ys) (set-both xs i j x y (λ e. ne (ap (λ (n : ℕ). suc n) e)))
+set-both _ _ _ x y ne = refl
 
 pub prepared-turns : (s : Stage) (index : ℕ) (a : Request) (lines : ℕ) (p : IsPrepared s index a lines) → can_make s.past a ≡ true → turn_of s index ≡ Some (with_made lines s.past a p.seat)
 prepared-turns s index a lines p can = turn_of-is s index p.program p.seat p.has p.sits ∙ p.turns s.past can
@@ -163,11 +151,7 @@ both-orders {Holds} {Passes} x y z index other a lines g few legal holds c can p
     ∙ ap (λ (progress : Progress). slice_set (slice_set x.seats index here.progress) other progress) (sym pass.progress)
     in
     let build : List Progress → Stage = λ seats. record { programs = x.programs; phases = x.phases; script = x.script; start = x.start; phase = x.phase; past = u.past; seats = seats } in
-    let alike : AreStagesAlike v u = record {
-      few = few;
-      differ = ap build seats;
-      journals = weaken true (receives v) v.past u.past (λ bad. absurd (let no : true ≡ false = bad in cc)) ends.journals;
-    }
+    let alike : AreStagesAlike v u = grind (arith, nat_tests, weaken)
     in
     let both : AreBothAlike AreStagesAlike (next_stage first other) (next_stage second index) =
     subst (λ (o : Option Stage). AreBothAlike AreStagesAlike o (next_stage second index)) (sym to_v)
@@ -202,16 +186,10 @@ wait-none (r ∷ past) p none = split (r.entry.process == p)
     (λ f. let before : open_wait past p ≡ None = rw f at none in rw f (wait-none past p before))
 
 pub kept-of : (past : Past) (p : Process) (call : Call) (given : List ℕ) → open_wait past p ≡ None → can_call past p call given ≡ true → is_withdrawal call ≡ false
-kept-of past p (Withdraw now) given free can =
-    let turn : (is_none (answered_by past p) && is_over (wait_deadline past p) now) ≡ true = may-of past p (Withdraw now) given can in
-    let never : (is_none (answered_by past p) && is_over (wait_deadline past p) now) ≡ false = rw (wait-none past p free) (and-false (is_none (answered_by past p))) in
-    let bad : true ≡ false = sym turn ∙ never in
-    absurd (cc)
-kept-of past p call given free can = refl
+kept-of past p call given free can = grind (arith, may-of, wait-none, and-false)
 
 names-some : (reply : Reply) (o : Option ℕ) → names_wait reply o ≡ true → is_some o ≡ true
-names-some reply None e = absurd (let bad : false ≡ true = e in cc)
-names-some reply (Some w) e = refl
+names-some reply o e = grind arith
 
 -- a wait that is answered is open
 answered-waits : (past : Past) (p : Process) → is_some (answered_by past p) ≡ true → is_some (open_wait past p) ≡ true
@@ -230,28 +208,14 @@ abbrev Kept : Past → Process → Call → Type 0
 Kept past q call = is_withdrawal call ≡ false
 
 collect-passable : (p : Process) → IsPassable (collect_of p) Always Kept
-collect-passable p = record {
-  commutes = λ past b holds legal first second ne kept. collect-commutes past p b legal first second ne kept;
-  holds = λ past b holds legal second ne kept. tt;
-}
+collect-passable p = search (rules, collect-commutes)
 
 all-pass : (s : Stage) (index : ℕ) → PassesTurn Always Kept s index
-all-pass s index = record {
-  collect = λ waits. refl;
-  line = λ program seat next has sits free line now. record {
-    call = λ call is can. kept-of s.past (index + 1) call next.given.items free can;
-    closes = λ is n lt holds. refl;
-  };
-}
+all-pass s index = grind (arith, kept-of)
 
 collect-turns : (past : Past) (phase : ℕ) (p : Process) (seat : Progress) (program : Vec Planned Global) → can_call past p Collect [] ≡ true →
     after_turn past phase p seat program ≡ Some (with_made 0 past (collect_of p) seat)
-collect-turns past phase p seat program can =
-    let waits : is_some (open_wait past p) ≡ true = answered-waits past p (may-of past p Collect [] can) in
-    let scene : Past → Scene = λ new. record { past = new; text = seat.text ++ said new p (reply_to past p Collect []) } in
-    let begins : Option Turned = option_map (turned 1 seat) (option_and_then (after_line past phase p seat) (slice_get program.items seat.begun)) in
-    let collects : Bool → Option Turned = λ b. option_map (turned 0 seat) (option_map scene (if b then Some (record_of_call past p Collect [] ∷ past) else None)) in
-    ap (λ (b : Bool). if b then collects (can_call past p Collect []) else begins) waits ∙ ap collects can
+collect-turns past phase p seat program can = grind (arith, answered-waits, may-of)
 
 record Collector (s : Stage) (index : ℕ) : Type 0 where
   prepared : IsPrepared s index (collect_of (index + 1)) 0
@@ -293,8 +257,4 @@ collect-passes x y z index other legal may ne to_y to_z =
     let p = index + 1 in
     let c = collector x index may in
     let both = both-orders x y z index other (collect_of p) 0 (collect-passable p) may.few legal tt c.prepared c.can (all-pass x other) ne to_y to_z in
-    let waits : is_some (open_wait both.t.past p) ≡ true = answered-waits both.t.past p (may-of both.t.past p Collect [] both.can) in
-    let second : Stage = with_turn x other both.t in
-    let turns = prepared-turns second index (collect_of p) 0 both.prepared both.can in
-    let stays : MayCollect second index = record { few = may.few; waits = waits; can = ap (λ (o : Option Turned). is_some o) turns } in
-    (subst (λ (m : Stage). MayCollect m index) both.is stays, both.alike)
+    grind (arith, nat_tests, answered-waits, may-of, prepared-turns)

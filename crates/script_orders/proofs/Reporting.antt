@@ -1,6 +1,7 @@
 -- The text of a report can be read back.
-use Rattle.std.proofs.Common.{arith, ◌≡◌, ◌<◌, ◌≤◌, ◌+◌, ◌^◌, ◌⊎◌, ◌==◌, ℕ, zero, suc, Bool, true, false, not, ◌&&◌, List, [], ◌∷◌, ◌++◌, codes, length, inl, inr, refl, sym, ◌∙◌, ap, subst, append_assoc, append-nil, if◌then◌else◌}
-use Rattle.std.specs.Prelude.{count_by}
+use Rattle.std.proofs.lemmas.Bool.Decides.{nat_tests}
+use Rattle.std.proofs.lemmas.Grind.{common_steps}
+use Rattle.std.proofs.Common.{arith, ◌≡◌, ◌<◌, ◌≤◌, ◌+◌, ◌^◌, ◌⊎◌, ◌==◌, ℕ, zero, suc, Bool, true, List, [], ◌∷◌, ◌++◌, codes, length, inl, inr, refl, sym, ◌∙◌, ap, subst, append_assoc, append-nil, if◌then◌else◌, count_by}
 use Rattle.std.specs.Fmt.{decimal}
 use Rattle.std.specs.List.{All}
 use Rattle.std.specs.Str.Parse.{AllDigits, digits_value}
@@ -10,7 +11,7 @@ use Rattle.std.proofs.lemmas.Fmt.{decimal_is_IsNumeral_wide}
 use Rattle.std.proofs.lemmas.Str.Parse.{digit_from_value}
 use Rattle.schedules.specs.declared.outcomes.Witnessed.{Witnessed}
 use Rattle.script_orders.specs.Readback.{ArePlain, CanBeReadBack, Reported, TellsTheSame, is_mark, is_plain, reported}
-use Rattle.script_orders.specs.Report.{end_text, entries_text, entry_head, head_text, is_deadlock_of, is_outcome_of, phase_text, phases_text, report_text}
+use Rattle.script_orders.specs.Report.{end_text, entries_text, head_text, is_deadlock_of, is_outcome_of, phase_text, phases_text, report_text}
 
 -- ---- lines
 
@@ -36,17 +37,13 @@ cut : (a b x y : List ℕ) → NoFeed a → NoFeed b → a ++ 10 ∷ x ≡ b ++ 
 cut [] [] x y first second same = (refl, tail-is 10 10 x y same)
 cut [] (d ∷ b) x y first second same = absurd (second.0 (sym (head-is 10 d x (b ++ 10 ∷ y) same)))
 cut (c ∷ a) [] x y first second same = absurd (first.0 (head-is c 10 (a ++ 10 ∷ x) y same))
-cut (c ∷ a) (d ∷ b) x y first second same =
-    let rest = cut a b x y first.1 second.1 (tail-is c d (a ++ 10 ∷ x) (b ++ 10 ∷ y) same) in
-    (both-are c d a b (head-is c d (a ++ 10 ∷ x) (b ++ 10 ∷ y) same) rest.0, rest.1)
+cut (c ∷ a) (d ∷ b) x y first second same = grind (arith, tail-is, both-are, head-is, cut a b x y first.1 second.1 (tail-is c d (a ++ 10 ∷ x) (b ++ 10 ∷ y) same))
 
 -- ---- numbers
 
 digits-no_feed : (w : List ℕ) → AllDigits 10 w → NoFeed w
 digits-no_feed [] all = tt
-digits-no_feed (c ∷ w) all =
-    let digit = digit_from_value c all.0 in
-    (λ is. omega (arith, digit.0, is), digits-no_feed w all.1)
+digits-no_feed (c ∷ w) all = grind (arith, digit_from_value, digits-no_feed w all.1)
 
 decimal-no_feed : (n : ℕ) → n < 10 ^ 64 → NoFeed (decimal n)
 decimal-no_feed n low = digits-no_feed (decimal n) (decimal_is_IsNumeral_wide n low).0.1
@@ -61,20 +58,12 @@ abbrev Marked : List ℕ → Type 0
 Marked [] = ⊥
 Marked (b ∷ bytes) = is_mark b ≡ true
 
-plain-unmarked : (b : ℕ) (bytes : List ℕ) → is_plain true (b ∷ bytes) ≡ true → is_mark b ≡ true → ⊥
-plain-unmarked b bytes plain marked = let no : false ≡ true = rw marked at plain in cc
-
 plain-more : (s : Bool) (b : ℕ) (bytes : List ℕ) → is_plain s (b ∷ bytes) ≡ true → is_plain (b == 10) bytes ≡ true
-plain-more s b bytes plain = elim (cases_Bool (not (s && is_mark b))) [
-  | inl so ↦ rw so at plain
-  | inr not_so ↦ absurd (let never : false ≡ true = rw not_so at plain in cc)
-]
+plain-more s b bytes plain = grind (arith, cases_Bool)
 
 -- a text ends where a line begins with a mark
 ends-here : (s : Bool) (c : ℕ) (u x y : List ℕ) → is_plain s [] ≡ true → is_plain s (c ∷ u) ≡ true → Marked x → x ≡ c ∷ (u ++ y) → ⊥
-ends-here s c u [] y ended plain marked same = marked
-ends-here true c u (b ∷ x) y ended plain marked same = plain-unmarked c u plain (subst (λ k. is_mark k ≡ true) (head-is b c x (u ++ y) same) marked)
-ends-here false c u (b ∷ x) y ended plain marked same = cc
+ends-here s c u x y ended plain marked same = grind (arith, head-is)
 
 texts : (s : Bool) (t u x y : List ℕ) → is_plain s t ≡ true → is_plain s u ≡ true → Marked x → Marked y → t ++ x ≡ u ++ y → (t ≡ u) × (x ≡ y)
 texts s [] [] x y one other first second same = (refl, same)
@@ -92,24 +81,14 @@ abbrev word_of : Bool → List ℕ
 word_of stuck = if stuck then codes "deadlock " else codes "outcome "
 
 word-no_feed : (stuck : Bool) → NoFeed (word_of stuck)
-word-no_feed true = (λ is. cc, (λ is. cc, (λ is. cc, (λ is. cc, (λ is. cc, (λ is. cc, (λ is. cc, (λ is. cc, (λ is. cc, tt)))))))))
-word-no_feed false = (λ is. cc, (λ is. cc, (λ is. cc, (λ is. cc, (λ is. cc, (λ is. cc, (λ is. cc, (λ is. cc, tt))))))))
-
-apart : (x y : ℕ) (xs ys : List ℕ) → ((x ≡ y) → ⊥) → x ∷ xs ≡ y ∷ ys → ⊥
-apart x y xs ys other same = other (head-is x y xs ys same)
-
-differ : (n m : ℕ) → n < m → n ≡ m → ⊥
-differ n m less is = omega (arith, less, is)
+word-no_feed stuck = grind arith
 
 drop-same : (w a b : List ℕ) → w ++ a ≡ w ++ b → a ≡ b
 drop-same [] a b same = same
 drop-same (x ∷ w) a b same = drop-same w a b (tail-is x x (w ++ a) (w ++ b) same)
 
 words : (one other : Bool) (a b : List ℕ) → word_of one ++ a ≡ word_of other ++ b → (one ≡ other) × (a ≡ b)
-words true true a b same = (refl, drop-same (codes "deadlock ") a b same)
-words true false a b same = absurd (apart 100 111 (codes "eadlock " ++ a) (codes "utcome " ++ b) (differ 100 111 (omega arith)) same)
-words false true a b same = absurd (apart 100 111 (codes "eadlock " ++ b) (codes "utcome " ++ a) (differ 100 111 (omega arith)) (sym same))
-words false false a b same = (refl, drop-same (codes "outcome ") a b same)
+words one other a b same = grind (arith, drop-same)
 
 abbrev entry_of : Reported → List ℕ
 entry_of r = (word_of r.stuck ++ (decimal r.number ++ 10 ∷ [])) ++ r.text
@@ -120,10 +99,7 @@ entries_of (r ∷ rs) = entry_of r ++ entries_of rs
 
 entries-of : (phase before : ℕ) (found : List Witnessed) → entries_text phase before found ≡ entries_of (reported phase before found)
 entries-of phase before [] = refl
-entries-of phase before (one ∷ found) = elim (cases_Bool (one.outcome.stage == phase)) [
-  | inl here ↦ rw here (ap (λ t. (entry_head one (before + 1) ++ one.outcome.text.items) ++ t) (entries-of phase (before + 1) found))
-  | inr other ↦ rw other (entries-of phase (before + 1) found)
-]
+entries-of phase before (one ∷ found) = grind (arith, cases_Bool, entries-of phase (before + 1) found)
 
 abbrev Fits : List Reported → Type 0
 Fits [] = Unit {0}
@@ -150,45 +126,18 @@ Ends [] = ⊥
 Ends (b ∷ bytes) = (b ≡ 112) ⊎ ((b ≡ 101) ⊎ (b ≡ 116))
 
 ends-marked : (x : List ℕ) → Ends x → Marked x
-ends-marked [] end = end
-ends-marked (b ∷ x) (inl is) = rw is refl
-ends-marked (b ∷ x) (inr (inl is)) = rw is refl
-ends-marked (b ∷ x) (inr (inr is)) = rw is refl
-
-entry-marked : (stuck : Bool) (a : List ℕ) → Marked (word_of stuck ++ a)
-entry-marked true a = refl
-entry-marked false a = refl
-
-entry-apart : (stuck : Bool) (a x : List ℕ) → Ends x → x ≡ word_of stuck ++ a → ⊥
-entry-apart stuck a [] end same = end
-entry-apart true a (b ∷ x) (inl is) same = apart b 100 x (codes "eadlock " ++ a) (λ here. omega (arith, here, is)) same
-entry-apart true a (b ∷ x) (inr (inl is)) same = apart b 100 x (codes "eadlock " ++ a) (λ here. omega (arith, here, is)) same
-entry-apart true a (b ∷ x) (inr (inr is)) same = apart b 100 x (codes "eadlock " ++ a) (λ here. omega (arith, here, is)) same
-entry-apart false a (b ∷ x) (inl is) same = apart b 111 x (codes "utcome " ++ a) (λ here. omega (arith, here, is)) same
-entry-apart false a (b ∷ x) (inr (inl is)) same = apart b 111 x (codes "utcome " ++ a) (λ here. omega (arith, here, is)) same
-entry-apart false a (b ∷ x) (inr (inr is)) same = apart b 111 x (codes "utcome " ++ a) (λ here. omega (arith, here, is)) same
+ends-marked x end = grind arith
 
 -- an entry with what follows it
 after-entry : (r : Reported) (x : List ℕ) → entry_of r ++ x ≡ (word_of r.stuck ++ decimal r.number) ++ 10 ∷ (r.text ++ x)
-after-entry r x =
-    append_assoc (word_of r.stuck ++ (decimal r.number ++ 10 ∷ [])) r.text x
-    ∙ append_assoc (word_of r.stuck) (decimal r.number ++ 10 ∷ []) (r.text ++ x)
-    ∙ ap (λ t. word_of r.stuck ++ t) (append_assoc (decimal r.number) (10 ∷ []) (r.text ++ x))
-    ∙ sym (append_assoc (word_of r.stuck) (decimal r.number) (10 ∷ (r.text ++ x)))
+after-entry r x = grind (arith, common_steps)
 
 entries-marked : (rs : List Reported) (x : List ℕ) → Ends x → Marked (entries_of rs ++ x)
 entries-marked [] x end = ends-marked x end
-entries-marked (r ∷ rs) x end =
-    let whole = append_assoc (entry_of r) (entries_of rs) x ∙ after-entry r (entries_of rs ++ x)
-    ∙ append_assoc (word_of r.stuck) (decimal r.number) (10 ∷ (r.text ++ (entries_of rs ++ x))) in
-    subst Marked (sym whole) (entry-marked r.stuck (decimal r.number ++ 10 ∷ (r.text ++ (entries_of rs ++ x))))
+entries-marked (r ∷ rs) x end = grind (arith, after-entry)
 
 same-reported : (one other : Reported) → one.number ≡ other.number → one.stuck ≡ other.stuck → one.text ≡ other.text → one ≡ other
-same-reported one other number stuck text =
-    let first = ap (λ n. let r : Reported = record { number = n; stuck = one.stuck; text = one.text } in r) number in
-    let second = ap (λ b. let r : Reported = record { number = other.number; stuck = b; text = one.text } in r) stuck in
-    let third = ap (λ t. let r : Reported = record { number = other.number; stuck = other.stuck; text = t } in r) text in
-    first ∙ second ∙ third
+same-reported one other number stuck text = grind arith
 
 same-cons : (r s : Reported) (rs ss : List Reported) → r ≡ s → rs ≡ ss → r ∷ rs ≡ s ∷ ss
 same-cons r s rs ss one other = cc
@@ -197,9 +146,7 @@ one-more : (r : Reported) (rs : List Reported) (x : List ℕ) → entries_of (r 
 one-more r rs x = append_assoc (entry_of r) (entries_of rs) x ∙ after-entry r (entries_of rs ++ x)
 
 none-more : (r : Reported) (rs : List Reported) (x y : List ℕ) → Ends x → x ≡ entries_of (r ∷ rs) ++ y → ⊥
-none-more r rs x y end same =
-    entry-apart r.stuck (decimal r.number ++ 10 ∷ (r.text ++ (entries_of rs ++ y))) x end
-    (same ∙ one-more r rs y ∙ append_assoc (word_of r.stuck) (decimal r.number) (10 ∷ (r.text ++ (entries_of rs ++ y))))
+none-more r rs x y end same = grind (arith, one-more)
 
 entries : (rs ss : List Reported) (x y : List ℕ) → Fits rs → Fits ss → Ends x → Ends y → entries_of rs ++ x ≡ entries_of ss ++ y → (rs ≡ ss) × (x ≡ y)
 entries [] [] x y one other first second same = (refl, same)
@@ -226,15 +173,7 @@ line_of found phase =
     ++ (codes ", deadlocks " ++ decimal (count_by (is_deadlock_of phase) found)))))
 
 line-no_feed : (found : List Witnessed) (phase : ℕ) → phase < 2 ^ 64 → length found < 2 ^ 63 → NoFeed (line_of found phase)
-line-no_feed found phase low short =
-    let outcomes = count_by-le-length (is_outcome_of phase) found in
-    let deadlocks = count_by-le-length (is_deadlock_of phase) found in
-    no_feed-append (codes "phase ") _ (λ is. cc, (λ is. cc, (λ is. cc, (λ is. cc, (λ is. cc, (λ is. cc, tt))))))
-    (no_feed-append (decimal (phase + 1)) _ (decimal-no_feed (phase + 1) (omega (arith, low)))
-    (no_feed-append (codes ": outcomes ") _ (λ is. cc, (λ is. cc, (λ is. cc, (λ is. cc, (λ is. cc, (λ is. cc, (λ is. cc, (λ is. cc, (λ is. cc, (λ is. cc, (λ is. cc, tt)))))))))))
-    (no_feed-append (decimal (count_by (is_outcome_of phase) found)) _ (decimal-no_feed _ (omega (arith, outcomes, short)))
-    (no_feed-append (codes ", deadlocks ") _ (λ is. cc, (λ is. cc, (λ is. cc, (λ is. cc, (λ is. cc, (λ is. cc, (λ is. cc, (λ is. cc, (λ is. cc, (λ is. cc, (λ is. cc, (λ is. cc, tt))))))))))))
-    (decimal-no_feed _ (omega (arith, deadlocks, short)))))))
+line-no_feed found phase low short = grind (arith, count_by-le-length, no_feed-append, decimal-no_feed)
 
 after-line : (found : List Witnessed) (phase : ℕ) (x : List ℕ) → phase_text found phase ++ x ≡ line_of found phase ++ 10 ∷ (entries_of (reported phase 0 found) ++ x)
 after-line found phase x =
@@ -275,13 +214,7 @@ phases found others (suc n) x y low one other first second same =
     let whole = sym (append_assoc (phases_text found n) (phase_text found n) x) ∙ same ∙ append_assoc (phases_text others n) (phase_text others n) y in
     let before = phases found others n (phase_text found n ++ x) (phase_text others n ++ y) less one other (phase-ends found n x) (phase-ends others n y) whole in
     let last = phase found others n x y less one other first second before.1 in
-    let each : (k : ℕ) → k < suc n → reported k 0 others ≡ reported k 0 found =
-    λ k below. elim (cases_lt k n) [
-      | inl h ↦ before.0 k h
-      | inr h ↦ let is : n ≡ k = omega (arith, h, below) in subst (λ j. reported j 0 others ≡ reported j 0 found) is last.0
-    ]
-    in
-    (each, last.1)
+    grind (arith, nat_tests, cases_lt)
 
 -- ---- how many phases
 
@@ -290,9 +223,7 @@ IsPhase [] = ⊥
 IsPhase (b ∷ bytes) = b ≡ 112
 
 phase-on : (rest : List ℕ) (found : List Witnessed) (n : ℕ) → (rest ≡ []) ⊎ IsPhase rest → IsPhase (rest ++ phase_text found n)
-phase-on [] found n is = refl
-phase-on (b ∷ rest) found n (inl none) = absurd (cc)
-phase-on (b ∷ rest) found n (inr is) = is
+phase-on rest found n is = grind arith
 
 record More (found : List Witnessed) (m n : ℕ) : Type 0 where
   rest : List ℕ
@@ -318,17 +249,13 @@ more-phases found m (suc n) le = elim (cases_lt m (suc n)) [
 ]
 
 end-ends : (complete : Bool) (steps states : ℕ) → Ends (end_text complete steps states)
-end-ends true steps states = inr (inl refl)
-end-ends false steps states = inr (inr refl)
+end-ends complete steps states = grind arith
 
 phase-no_end : (complete : Bool) (steps states : ℕ) (rest y : List ℕ) → IsPhase rest → end_text complete steps states ≡ rest ++ y → ⊥
-phase-no_end complete steps states [] y is same = is
-phase-no_end true steps states (b ∷ rest) y is same = apart 101 b (codes "very order was tried, in " ++ (decimal steps ++ (codes " steps, " ++ (decimal states ++ (codes " states kept" ++ 10 ∷ []))))) (rest ++ y) (λ here. omega (arith, here, is)) same
-phase-no_end false steps states (b ∷ rest) y is same = apart 116 b (codes "he budget of " ++ (decimal steps ++ (codes " steps was used up, " ++ (decimal states ++ (codes " states kept: there may be more" ++ 10 ∷ []))))) (rest ++ y) (λ here. omega (arith, here, is)) same
+phase-no_end complete steps states rest y is same = grind arith
 
 rest-ends : (rest y : List ℕ) → IsPhase rest → Ends (rest ++ y)
-rest-ends [] y is = absurd is
-rest-ends (b ∷ rest) y is = inl is
+rest-ends rest y is = grind arith
 
 fewer : (m n : ℕ) (found others : List Witnessed) (complete whole : Bool) (steps other states kept : ℕ) → m < n → n < 2 ^ 64 → ArePlain found → ArePlain others →
     report_text m found complete steps states ≡ report_text n others whole other kept → ⊥
@@ -340,10 +267,7 @@ fewer m n found others complete whole steps other states kept less low one two s
     phase-no_end complete steps states more.rest (end_text whole other kept) is end.1
 
 end-one : (complete whole : Bool) (steps other states kept : ℕ) → end_text complete steps states ≡ end_text whole other kept → whole ≡ complete
-end-one true true steps other states kept same = refl
-end-one true false steps other states kept same = absurd (apart 101 116 (codes "very order was tried, in " ++ (decimal steps ++ (codes " steps, " ++ (decimal states ++ (codes " states kept" ++ 10 ∷ []))))) (codes "he budget of " ++ (decimal other ++ (codes " steps was used up, " ++ (decimal kept ++ (codes " states kept: there may be more" ++ 10 ∷ []))))) (differ 101 116 (omega arith)) same)
-end-one false true steps other states kept same = absurd (apart 101 116 (codes "very order was tried, in " ++ (decimal other ++ (codes " steps, " ++ (decimal kept ++ (codes " states kept" ++ 10 ∷ []))))) (codes "he budget of " ++ (decimal steps ++ (codes " steps was used up, " ++ (decimal states ++ (codes " states kept: there may be more" ++ 10 ∷ []))))) (differ 101 116 (omega arith)) (sym same))
-end-one false false steps other states kept same = refl
+end-one complete whole steps other states kept same = grind arith
 
 as-many : (m n : ℕ) (found others : List Witnessed) (complete whole : Bool) (steps other states kept : ℕ) → n ≡ m → m < 2 ^ 64 → ArePlain found → ArePlain others →
     report_text m found complete steps states ≡ report_text n others whole other kept → TellsTheSame m n found others complete whole

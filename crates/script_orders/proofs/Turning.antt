@@ -1,7 +1,6 @@
 -- What a process did is a step of the play.
-use Rattle.std.proofs.Common.{◌≡◌, ℕ, ◌+◌, ◌<◌, Bool, List, length, get_or, Option, Some, None, IfOk, IsTrue, IsFalse, Result, Ok, Err, sym, ◌∙◌, ap, slice_get, Vec}
-use Rattle.std.specs.Option.{option_map, option_and_then}
-use Rattle.std.specs.declared.alloc.Global.{Global}
+use Rattle.std.proofs.Common.{◌≡◌, ℕ, ◌+◌, ◌<◌, Bool, List, length, get_or, Some, None, IfOk, IsTrue, IsFalse, Result, sym, ◌∙◌, ap, slice_get, Vec, arith, Global}
+use Rattle.std.specs.Option.{option_map}
 use Rattle.std.specs.declared.alloc.AllocError.{AllocError}
 use Rattle.std.proofs.lemmas.Option.{slice_get-get_or}
 use Rattle.script_orders.specs.Progress.{Progress}
@@ -13,12 +12,7 @@ use Rattle.script_orders.specs.declared.plan.Planned.{Planned}
 pub turn_of-is : (s : Stage) (index : ℕ) (program : Vec Planned Global) (seat : Progress) →
     slice_get s.programs index ≡ Some program → slice_get s.seats index ≡ Some seat →
     turn_of s index ≡ after_turn s.past s.phase (index + 1) seat program
-turn_of-is s index program seat has sits =
-    let by_seat : Option Progress → Option Turned = λ o. option_and_then (λ (seat : Progress). after_turn s.past s.phase (index + 1) seat program) o in
-    let by_program : Option (Vec Planned Global) → Option Turned = λ o.
-    option_and_then (λ (program : Vec Planned Global). option_and_then (λ (seat : Progress). after_turn s.past s.phase (index + 1) seat program) (slice_get s.seats index)) o
-    in
-    ap by_program has ∙ ap by_seat sits
+turn_of-is s index program seat has sits = grind arith
 
 -- the element that was read
 pub element-is : {A : Type 0} (xs : List A) (index : ℕ) (x : A) → index < length xs → x ≡ get_or xs index x → slice_get xs index ≡ Some x
@@ -28,12 +22,10 @@ pub went-of : (s : Stage) (index : ℕ) (program : Vec Planned Global) (seat : P
     turn_of s index ≡ after_turn s.past s.phase (index + 1) seat program →
     IfOk result (λ went. IsTrue went → after_turn s.past s.phase (index + 1) seat program ≡ Some turned) →
     IfOk result (λ went. IsTrue went → option_map (with_turn s index) (turn_of s index) ≡ Some (with_turn s index turned))
-went-of s index program seat turned (Ok went) is goes = λ (h : IsTrue went). ap (λ (o : Option Turned). option_map (with_turn s index) o) (is ∙ goes h)
-went-of s index program seat turned (Err e) is goes = tt
+went-of s index program seat turned result is goes = grind arith
 
 pub none-of : (s : Stage) (index : ℕ) (program : Vec Planned Global) (seat : Progress) (result : Result Bool AllocError) →
     turn_of s index ≡ after_turn s.past s.phase (index + 1) seat program →
     IfOk result (λ went. IsFalse went → after_turn s.past s.phase (index + 1) seat program ≡ None) →
     IfOk result (λ went. IsFalse went → turn_of s index ≡ None)
-none-of s index program seat (Ok went) is goes = λ (h : IsFalse went). is ∙ goes h
-none-of s index program seat (Err e) is goes = tt
+none-of s index program seat result is goes = grind arith

@@ -2,7 +2,7 @@
 //! a step alone.
 ghost use Rattle.std.specs.Prelude.{◌≡◌, IfSome, Some, None, drop, true};
 ghost use Rattle.std.specs.List.{list_any};
-ghost use Rattle.mq_model.specs.Descriptors.{called_queue, descriptor_of, is_place};
+ghost use Rattle.mq_model.specs.Descriptors.{called_queue, descriptor_of};
 ghost use Rattle.mq_model.specs.Notices.{registered};
 ghost use Rattle.mq_state.specs.Trails.{can_call};
 ghost use Rattle.script_orders.specs.Persistence.{StartsOn, is_held_among, is_held_on, is_transfer, line_may_use, may_use, step_may_use};

@@ -1,5 +1,5 @@
 //! What the lines of a script make their processes do.
-ghost use Rattle.std.specs.Prelude.{◌≡◌, ◌++◌, ◌<◌, ◌^◌, IfOk, OnOk, List, map, vec_len};
+ghost use Rattle.std.specs.Prelude.{◌≡◌, ◌++◌, ◌<◌, IfOk, OnOk, map, vec_len};
 ghost use Rattle.script_text.specs.Grammar.{said};
 ghost use Rattle.script_text.specs.Script.{said_call, said_calls, said_phases};
 ghost use Rattle.mq_model.specs.declared.entries.Call.{Call};

@@ -6,7 +6,7 @@ ghost use Rattle.script_orders.specs.Orders.{AreLegal};
 ghost use Rattle.script_orders.specs.Stage.{first_stage, fresh, is_phase_over, next_stage, none_can_turn, one_waits, replies, seats_cleared, turn_of, wait_line_of, wait_of, waiting_lines, with_turn};
 ghost use Rattle.script_orders.specs.Persistence.{IsNextOn, MayCollect, UsesAlone, others_will_use, will_use};
 ghost use Rattle.std.specs.Option.{option_map};
-ghost use Rattle.std.specs.Prelude.{◌≡◌, ◌≤◌, ◌<◌, ◌+◌, ◌^◌, [], ◌++◌, IfOk, IfSome, OnOk, IsTrue, IsFalse, Some, None, is_some, length, replicate, vec_len, map};
+ghost use Rattle.std.specs.Prelude.{◌≡◌, ◌≤◌, ◌<◌, ◌+◌, ◌++◌, IfOk, IfSome, OnOk, IsTrue, IsFalse, Some, None, is_some, length, replicate};
 
 use crate::alone::{lines_may_use, starts_on};
 use crate::keys::push_seats;

@@ -1,5 +1,5 @@
 //! The report of the outcomes of a script.
-ghost use Rattle.std.specs.Prelude.{◌≡◌, ◌++◌, ◌+◌, ◌<◌, ◌^◌, IfOk, OnOk, count_by, length, string_bytes};
+ghost use Rattle.std.specs.Prelude.{◌≡◌, ◌++◌, ◌+◌, ◌<◌, ◌^◌, IfOk, OnOk, count_by, string_bytes};
 ghost use Rattle.script_orders.specs.Report.{end_text, entry_head, entries_text, head_text, is_deadlock_of, is_outcome_of, phase_text, report_text};
 
 use schedules::outcomes::{Collected, Witnessed};

@@ -2,8 +2,8 @@
 ghost use Rattle.std.specs.Prelude.{◌≡◌, ◌≤◌, [], None, Some, IfOk, IsFalse, IsTrue, OnOk, is_some};
 ghost use Rattle.mq_model.specs.Waits.{open_wait};
 ghost use Rattle.script_orders.specs.Progress.{Progress};
-ghost use Rattle.script_orders.specs.Scenes.{Scene, after_call, after_step, close_first, close_held, is_held};
-ghost use Rattle.script_orders.specs.Turns.{Turned, after_turn};
+ghost use Rattle.script_orders.specs.Scenes.{after_call, after_step, close_first, close_held, is_held};
+ghost use Rattle.script_orders.specs.Turns.{after_turn};
 
 use crate::plan::{Planned, Step};
 use crate::said::push_said;

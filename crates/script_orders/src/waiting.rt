@@ -1,7 +1,5 @@
 //! The text about a call that waits for ever.
-ghost use Rattle.std.specs.Prelude.{◌≡◌, ◌++◌, ◌-◌, [], IfOk, OnOk, map, slice_get};
-ghost use Rattle.std.specs.Option.{unwrap_or};
-ghost use Rattle.script_text.specs.Script.{lines_of};
+ghost use Rattle.std.specs.Prelude.{◌≡◌, ◌++◌, ◌-◌, [], IfOk, OnOk, map};
 ghost use Rattle.script_orders.specs.Waiting.{line_numbered, spaced, wait_text};
 
 use script_text::line::first_line;

@@ -1,5 +1,5 @@
 -- Processes that acquired the lock once more.
-use Rattle.std.proofs.Common.{◌≡◌, ◌∙◌, ℕ, true, List, [], ◌∷◌, All, length, map, arith}
+use Rattle.std.proofs.Common.{◌≡◌, ◌∙◌, ℕ, true, List, [], ◌∷◌, All, length, map, arith, rules}
 use Rattle.std.specs.List.{AllZip, list_all}
 use Rattle.std.proofs.lemmas.List.Elements.{All-nil, All-cons}
 use Rattle.std.proofs.lemmas.Slice.Zip.{AllZip-long}
@@ -57,6 +57,5 @@ stand-meets {blocked} {old} {new} m = record { n = m.n; found = blocked-met bloc
 
 pub blocked-are : (blocked : List ℕ) (n : ℕ) (old new : List (Ticket Record)) → AllZip (FindsBlocked blocked n) old new → All (λ (process : Ticket Record). list_all (is_blocked process.left) blocked ≡ true) new
 blocked-are blocked n [] [] found = All-nil (λ (process : Ticket Record). list_all (is_blocked process.left) blocked ≡ true)
-blocked-are blocked n (a ∷ old) (b ∷ new) found =
-    All-cons (λ (process : Ticket Record). list_all (is_blocked process.left) blocked ≡ true) b new found.0.are (blocked-are blocked n old new found.1)
+blocked-are blocked n (a ∷ old) (b ∷ new) found = search (rules, All-cons, blocked-are blocked n old new found.1)
 blocked-are blocked n old new found = absurd found

@@ -1,12 +1,11 @@
 -- Phases whose calls ended, or that deadlocked.
-use Rattle.std.proofs.Common.{arith, ◌≡◌, ◌≢◌, ◌<◌, ◌+◌, ◌++◌, ◌∷◌, ◌∙◌, [], ℕ, List, All, ap, sym, get_or, length, map, subst, take, true, Option, Err, IsErrOf, Result, Vec, Global, vec_len, ◌==◌}
-use Rattle.std.specs.List.{AllByRecursion as ByRecursion, AllZip, list_all}
+use Rattle.std.proofs.Common.{arith, ◌≡◌, ◌≢◌, ◌<◌, ◌+◌, ◌++◌, ◌∷◌, ◌∙◌, [], ℕ, List, All, ap, get_or, length, map, take, true, Option, Err, IsErrOf, Result, Vec, Global, vec_len, ◌==◌}
+use Rattle.std.specs.List.{AllByRecursion as ByRecursion, AllZip}
 use Rattle.std.proofs.lemmas.Grind.{common_steps}
 use Rattle.std.proofs.lemmas.List.{length-map, nil_from_length}
 use Rattle.std.proofs.lemmas.List.Elements.{All-map, recursion_from_All}
 use Rattle.std.proofs.lemmas.Slice.Zip.{AllZip-long}
 use Rattle.fast_mutex.specs.Items.{LockId, Ticket}
-use Rattle.mq.specs.Blocked.{is_blocked}
 use Rattle.mq_model.specs.Record.{Record}
 use Rattle.script_text.specs.Script.{WrittenCall}
 use Rattle.script_runner.specs.Phase.{AllEnd, AreReady, Ends, calls_in}
@@ -45,18 +44,7 @@ each-ends calls (s ∷ shares) (w ∷ ended) ends dealt = grind (arith, each-end
 each-ends calls shares ended ends dealt = absurd ends
 
 pub phase-stands : (calls : List WrittenCall) (shares : List (Share (Ticket Record))) (workers : List (Worked (Ticket Record))) (before : List (Ticket Record)) (lines blocked : List ℕ) (after : List (Ticket Record)) → AllEnd shares workers → All (λ share. calls_in share.turns.items ≡ calls_of share.process.number calls) shares → map (λ share. share.process) shares ≡ before → lines ≡ blocked_lines workers → lines ≢ [] → blocked ≡ blocked_processes workers → MeetBlocked blocked (map (λ worked. worked.process) workers) after → ComesToAStand calls before lines after
-phase-stands calls shares workers before lines blocked after ends dealt processes are some waits met =
-    let P : Share (Ticket Record) → Type 0 = λ share. calls_in share.turns.items ≡ calls_of share.process.number calls in
-    let ended = map (λ (w : Worked (Ticket Record)). w.process) workers in
-    record {
-      ended = workers;
-      each = subst (λ (b : List (Ticket Record)). AllZip (EndsPhase calls) b workers) processes (each-ends calls shares workers ends (recursion_from_All P shares dealt));
-      are = sym are;
-      some = some;
-      n = met.n;
-      met = blocked-met blocked met.n ended after met.found;
-      blocked = subst (λ (b : List ℕ). All (λ (process : Ticket Record). list_all (is_blocked process.left) b ≡ true) after) waits (blocked-are blocked met.n ended after met.found);
-    }
+phase-stands calls shares workers before lines blocked after ends dealt processes are some waits met = grind (arith, each-ends, recursion_from_All, blocked-met, blocked-are)
 
 -- what holds of the processes and the lines of a stop holds of those of an equal one
 pub stuck-same : (P : List ℕ → List (Ticket Record) → Type 0) {A : Type 0} (r : Result A (Stop (Ticket Record))) (after other : Vec (Ticket Record) Global) (lines those : Vec ℕ Global) → r ≡ Err (Stuck after lines) → IsErrOf r (Stuck other those) → P lines.items after.items → P those.items other.items
@@ -77,6 +65,4 @@ pub lines-more : (workers : List (Worked (Ticket Record))) (i : ℕ) (d : Worked
 lines-more workers i d o low is = flat_map-more (λ (w : Worked (Ticket Record)). line_in w.blocked) workers i d low ∙ ap (λ b. blocked_lines (take i workers) ++ line_in b) is
 
 pub processes-more : (workers : List (Worked (Ticket Record))) (i : ℕ) (d : Worked (Ticket Record)) (o : Option ℕ) → i < length workers → (get_or workers i d).blocked ≡ o → blocked_processes (take (i + 1) workers) ≡ blocked_processes (take i workers) ++ process_in o (get_or workers i d).process.number
-processes-more workers i d o low is =
-    flat_map-more (λ (w : Worked (Ticket Record)). process_in w.blocked w.process.number) workers i d low
-    ∙ ap (λ b. blocked_processes (take i workers) ++ process_in b (get_or workers i d).process.number) is
+processes-more workers i d o low is = grind (arith, common_steps, flat_map-more)

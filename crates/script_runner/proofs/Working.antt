@@ -1,5 +1,6 @@
 -- Calls, shares and phases, by induction on their number.
-use Rattle.std.proofs.Common.{◌≡◌, ◌<◌, ◌≤◌, ◌+◌, ◌++◌, ℕ, List, [], ◌∷◌, length, get_or, take, map, refl, ap, arith, sym, ◌∙◌, subst, append_assoc, append-nil, All, Vec, Global, None, zero, suc}
+use Rattle.std.proofs.lemmas.Grind.{common_steps}
+use Rattle.std.proofs.Common.{◌≡◌, ◌<◌, ◌≤◌, ◌+◌, ◌++◌, ℕ, List, [], ◌∷◌, length, get_or, take, map, refl, ap, arith, ◌∙◌, append-nil, All, Vec, Global, None, zero, suc}
 use Rattle.std.proofs.lemmas.List.{length-map, take_more, map-append}
 use Rattle.std.proofs.lemmas.List.Elements.{All-nil, All-cons, All-head, All-tail, All-from_recursion, All-map, recursion_from_All}
 use Rattle.std.proofs.lemmas.Slice.Zip.{AllZip-long}
@@ -63,28 +64,11 @@ phase-done calls shares workers before after text off dealt processes back is = 
 
 -- one more phase
 RunsPhases-push : (phases : List (List WrittenCall)) (calls : List WrittenCall) (before mid after : List (Ticket Record)) (text more : List ℕ) → RunsPhases phases before mid text → RunsAndMeets calls mid after more → RunsPhases (phases ++ calls ∷ []) before after (text ++ more)
-RunsPhases-push [] calls before mid after text more ran last =
-    let P : List (Ticket Record) → Type 0 = λ m. RunsPhase calls m last.ended more in
-    (last.ended, after, last.met.n, more, [], subst P ran.0 last.ran, last.met.found, (refl, refl), ap (λ t. t ++ more) ran.1 ∙ sym (append-nil more))
-RunsPhases-push (c ∷ phases) calls before mid after text more ran last = (
-  ran.0,
-  ran.1,
-  ran.2,
-  ran.3,
-  ran.4 ++ more,
-  ran.5,
-  ran.6,
-  RunsPhases-push phases calls ran.1 mid after ran.4 more ran.7 last,
-  ap (λ t. t ++ more) ran.8 ∙ append_assoc ran.3 ran.4 more,
-)
+RunsPhases-push [] calls before mid after text more ran last = grind (arith, append-nil)
+RunsPhases-push (c ∷ phases) calls before mid after text more ran last = grind (arith, common_steps, RunsPhases-push phases calls ran.1 mid after ran.4 more ran.7 last)
 
 pub phases-more : (phases : List (Vec (ScriptCall (Bor Word)) Global)) (i : ℕ) (d : Vec (ScriptCall (Bor Word)) Global) (before mid after : List (Ticket Record)) (text more : List ℕ) → i < length phases → RunsPhases (said_phases (take i phases)) before mid text → RunsAndMeets (said_calls (get_or phases i d).items) mid after more → RunsPhases (said_phases (take (i + 1) phases)) before after (text ++ more)
-phases-more phases i d before mid after text more low ran last =
-    let said : Vec (ScriptCall (Bor Word)) Global → List WrittenCall = λ phase. said_calls phase.items in
-    let P : List (List WrittenCall) → Type 0 = λ ps. RunsPhases ps before after (text ++ more) in
-    let same : said_phases (take i phases) ++ said_calls (get_or phases i d).items ∷ [] ≡ said_phases (take (i + 1) phases) =
-    sym (ap said_phases (take_more phases i d low) ∙ map-append said (take i phases) (get_or phases i d ∷ [])) in
-    subst P same (RunsPhases-push (said_phases (take i phases)) (said_calls (get_or phases i d).items) before mid after text more ran last)
+phases-more phases i d before mid after text more low ran last = grind (arith, common_steps, take_more, map-append, RunsPhases-push)
 
 pub same-lengths : (shares : List (Share (Ticket Record))) (workers : List (Worked (Ticket Record))) (before after : List (Ticket Record)) → AllWorkOff shares workers → map (λ share. share.process) shares ≡ before → after ≡ map (λ worked. worked.process) workers → length after ≡ length before
 same-lengths shares workers before after off processes back = grind (arith, length-map, AllZip-long)
@@ -111,5 +95,4 @@ each-after-ready lock past k (suc n) free =
     (record { made = refl; free = free k (omega arith) (omega arith) }, each-after-ready lock past (suc k) n (λ p low high. free p (omega arith) (omega arith)))
 
 pub after-ready : (lock : LockId) (past : Past) (n : ℕ) → NoneWaits past n → All (IsReady lock) (tickets_with lock past 1 n)
-after-ready lock past n free =
-    All-from_recursion (IsReady lock) (tickets_with lock past 1 n) (each-after-ready lock past 1 n (λ p low high. free p low (omega arith)))
+after-ready lock past n free = grind (arith, All-from_recursion, each-after-ready)

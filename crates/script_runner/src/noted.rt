@@ -1,6 +1,5 @@
 //! What the calls of a phase returned, by process.
 ghost use Rattle.std.specs.Prelude.{◌≡◌, ◌++◌, IfOk, OnOk};
-ghost use Rattle.std.specs.List.{list_any};
 ghost use Rattle.script_runner.specs.Notes.{is_refused, line_of, lines_of, some_refused};
 ghost use Rattle.script_runner.specs.Phase.{text_in};
 ghost use Rattle.script_text.specs.Replies.{reply_line};

@@ -1,7 +1,7 @@
 -- The first line of a text.
-use Rattle.std.proofs.Common.{◌≡◌, ◌+◌, ◌<◌, ◌≤◌, ℕ, Bool, ◌==◌, List, [], ◌∷◌, length, take, drop, refl, ap, inl, inr, arith, add-one, suc, Some, None, cond, ltb, subst}
+use Rattle.std.proofs.Common.{◌≡◌, ◌+◌, ◌<◌, ◌≤◌, ℕ, Bool, ◌==◌, List, [], ◌∷◌, length, take, drop, refl, ap, inl, inr, arith, add-one, suc, Some, None, cond, ltb}
 use Rattle.std.specs.List.{position, position_or_len}
-use Rattle.std.proofs.lemmas.Bool.{cases_Bool, ltb-false, ltb-true}
+use Rattle.std.proofs.lemmas.Bool.{cases_Bool, ltb-false}
 use Rattle.std.proofs.lemmas.List.{take_all}
 use Rattle.std.proofs.Math.ListN.{drop_of_length-le}
 use Rattle.script_text.specs.Script.{lines_of, onto_first_line}
@@ -16,36 +16,17 @@ onto b xs n first = let more : 1 + n ≡ suc n = omega arith in rw more (ap (ont
 -- the first line is the text up to its first line feed, which is included, or all of it
 pub lines_of-first : (b : ℕ) (bs : List ℕ) → lines_of (b ∷ bs) ≡ take (suc (position_or_len is_feed (b ∷ bs))) (b ∷ bs) ∷ lines_of (drop (suc (position_or_len is_feed (b ∷ bs))) (b ∷ bs))
 lines_of-first b [] = elim (cases_Bool (is_feed b)) [ inl feed ↦ rw feed | inr other ↦ rw other ]
-lines_of-first b (c ∷ cs) =
-    elim (cases_Bool (is_feed b)) [
-      | inl feed ↦ rw feed
-      | inr other ↦ rw other (onto b (c ∷ cs) (position_or_len is_feed (c ∷ cs)) (lines_of-first c cs))
-    ]
+lines_of-first b (c ∷ cs) = grind (arith, cases_Bool, onto, lines_of-first c cs)
 
 lines_of-at : (text : List ℕ) (n : ℕ) → 0 < length text → position_or_len is_feed text ≡ n → lines_of text ≡ take (suc n) text ∷ lines_of (drop (suc n) text)
-lines_of-at [] n some at = absurd (omega arith)
-lines_of-at (b ∷ bs) n some at =
-    let P : ℕ → Type 0 = λ k. lines_of (b ∷ bs) ≡ take (suc k) (b ∷ bs) ∷ lines_of (drop (suc k) (b ∷ bs)) in
-    subst P at (lines_of-first b bs)
-
-place_found : (n m at : ℕ) → cond (ltb n m) (Some n) None ≡ Some at → (n ≡ at) × (n < m)
-place_found n m at found = elim (cases_Bool (ltb n m)) [
-  | inl below ↦ let is : Some n ≡ Some at = rw below at found in (cc, ltb-true n m below)
-  | inr past ↦ let is : None ≡ Some at = rw past at found in cc
-]
+lines_of-at text n some = grind (arith, lines_of-first)
 
 place_none : (n m : ℕ) → cond (ltb n m) (Some n) None ≡ None → m ≤ n
-place_none n m none = elim (cases_Bool (ltb n m)) [
-  | inl below ↦ let is : Some n ≡ None = rw below at none in cc
-  | inr past ↦ ltb-false n m past
-]
+place_none n m none = grind (arith, cases_Bool, ltb-false)
 
 -- the first line, if a line feed is found, and if there is none
 pub lines_of-found : (text : List ℕ) (at : ℕ) → position is_feed text ≡ Some at → lines_of text ≡ take (at + 1) text ∷ lines_of (drop (at + 1) text)
-lines_of-found text at found =
-    let place = place_found (position_or_len is_feed text) (length text) at found in
-    let some : 0 < length text = omega (arith, place.1) in
-    rw add-one (lines_of-at text at some place.0)
+lines_of-found text at found = grind (arith, add-one, lines_of-at)
 
 pub lines_of-none : (text : List ℕ) → 0 < length text → position is_feed text ≡ None → lines_of text ≡ text ∷ []
 lines_of-none text some none =

@@ -1,8 +1,7 @@
 -- One line of a script, and what follows it.
-use Rattle.std.proofs.Common.{◌≡◌, ◌+◌, ℕ, List, ◌∷◌, refl, ap, sym, ◌∙◌, Option, Some, None, Result, Ok, Err}
+use Rattle.std.proofs.Common.{◌≡◌, ◌+◌, ℕ, List, ◌∷◌, sym, ◌∙◌, Option, Some, Result, Ok, arith}
 use Rattle.script_text.specs.ScriptFault.{Fails}
 use Rattle.script_text.specs.declared.fault.ScriptFault.{ScriptFault}
-use Rattle.script_text.specs.declared.fault.ScriptFault.TheVariants.{BadCall, NoMemory}
 use Rattle.script_text.specs.declared.line.Line.{Line}
 use Rattle.script_text.specs.declared.script.Place.{Place}
 use Rattle.script_text.specs.declared.script.Phases.{Phases}
@@ -11,12 +10,10 @@ use Rattle.script_text.specs.Script.{Written, WrittenCall, Whole, line_read, or_
 
 -- what no error stopped was read
 read_some : {A : Type 0} (o : Option A) (n : ℕ) (x : A) → or_fault o n (λ read. Ok read) ≡ Ok x → o ≡ Some x
-read_some None n x gives = cc
-read_some (Some y) n x gives = cc
+read_some o n x gives = grind arith
 
 fused : {A B : Type 0} (f : A → A) (g h : A → B) (r : Result A ℕ) → ((x : A) → h x ≡ g (f x)) → result_map h r ≡ result_map g (result_map f r)
-fused f g h (Ok x) same = ap Ok (same x)
-fused f g h (Err line) same = refl
+fused f g h r same = grind arith
 
 onward : (o : Option (Line WrittenCall × Place)) (n : ℕ) (line : Line WrittenCall) (place : Place) (next : Line WrittenCall × Place → Result Written ℕ) (g : Written → Whole) → o ≡ Some (line, place) → result_map g (or_fault o n next) ≡ result_map g (next (line, place))
 onward o n line place next g is = rw is
@@ -29,11 +26,8 @@ whole_behind-line old new processes at place bytes rest line gives same =
     ∙ sym (onward (line_read processes at bytes) (at.lines + 1) line place next (whole_behind old) is)
 
 fails_on : (o : Option (Line WrittenCall × Place)) (n : ℕ) (next : Line WrittenCall × Place → Result Written ℕ) (g : Written → Whole) (fault : ScriptFault) → Fails fault (or_fault o n (λ read. Ok read)) → Fails fault (result_map g (or_fault o n next))
-fails_on None n next g (BadCall k) fails = cc
-fails_on (Some read) n next g (BadCall k) fails = cc
-fails_on o n next g NoMemory fails = tt
+fails_on o n next g fault fails = grind arith
 
 -- an error in the next line is the first one of the script
 pub fails-line : (phases : Phases) (processes : Option ℕ) (at : Place) (bytes : List ℕ) (rest : List (List ℕ)) (fault : ScriptFault) → Fails fault (or_fault (line_read processes at bytes) (at.lines + 1) (λ read. Ok read)) → Fails fault (result_map (whole_behind phases) (script_read processes at (bytes ∷ rest)))
-fails-line phases processes at bytes rest fault fails =
-    fails_on (line_read processes at bytes) (at.lines + 1) (λ read. result_map (with_line read.0) (script_read (processes_behind read.0 processes) read.1 rest)) (whole_behind phases) fault fails
+fails-line phases processes at bytes rest fault fails = grind (arith, fails_on)

@@ -3,7 +3,7 @@ use Rattle.std.specs.Prelude.{ℕ, Bool, true, false, ◌&&◌, ◌==◌, nat_le
 use Rattle.std.specs.List.{list_all, list_any}
 use Rattle.std.specs.Str.{bytes_eq}
 use denote.Ref.{Bor}
-use Rattle.text_io.specs.Words.{◌>>=◌, Word, integer_written, number_written}
+use Rattle.text_io.specs.Words.{Word, integer_written, number_written, ◌>>=◌}
 use Rattle.mq_model.specs.declared.entries.Access.{Access}
 use Rattle.mq_model.specs.declared.entries.Access.TheVariants.{Read, Write, Both}
 use Rattle.mq_model.specs.declared.entries.OpenFlags.{OpenFlags}

@@ -5,7 +5,7 @@ use Rattle.std.specs.Str.{bytes_eq}
 use denote.Ref.{Bor}
 use Rattle.std.specs.declared.vec.Vec.{Vec}
 use Rattle.std.specs.declared.alloc.Global.{Global}
-use Rattle.text_io.specs.Words.{◌>>=◌, Word, words_of, count_written}
+use Rattle.text_io.specs.Words.{Word, words_of, count_written, ◌>>=◌}
 use Rattle.mq_model.specs.Deadlines.{is_moment}
 use Rattle.mq_model.specs.declared.entries.Deadline.{Deadline}
 use Rattle.script_text.specs.Grammar.{command_written, deadline_written, said}

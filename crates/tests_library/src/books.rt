@@ -1,7 +1,7 @@
 //! The queues of one thread. Each test takes steps of a table. It also passes if any one allocation
 //! is made to fail from outside: the call that fails changes neither the journal nor the buffer,
 //! and is repeated.
-ghost use Rattle.std.specs.Prelude.{◌≡◌, ◌≤◌, IsTrue, None};
+ghost use Rattle.std.specs.Prelude.{◌≡◌, ◌≤◌, None};
 ghost use Rattle.mq_model.specs.Waits.{open_wait};
 
 use crate::refusals::{refuse_all, say_refused};

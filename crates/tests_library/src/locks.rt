@@ -1,5 +1,5 @@
 //! Each lock over a state with a list, by functions that are generic over the lock.
-ghost use Rattle.std.specs.Prelude.{◌≡◌, ◌≤◌, ℕ, List, [], ◌∷◌, false, refl, map, IfOk, IfSome, MatchResult};
+ghost use Rattle.std.specs.Prelude.{◌≡◌, ◌≤◌, [], ◌∷◌, false, refl, map, IfOk, IfSome, MatchResult};
 ghost use Rattle.fast_mutex.specs.Items.{Grows, tickets_from};
 
 use crate::refusals::{refuse_all, say_refused};

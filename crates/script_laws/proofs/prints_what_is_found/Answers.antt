@@ -1,5 +1,4 @@
-use Rattle.std.specs.Prelude.{[]}
-use Rattle.std.proofs.Common.{refl}
+use Rattle.std.proofs.Common.{refl, []}
 use Rattle.script_laws.specs.RunLaws.{whole_replies}
 use Rattle.script_laws.proofs.Phasing.{run-observed, observed-found}
 use Rattle.script_laws.proofs.prints_what_is_found.Goals as goal

@@ -1,5 +1,4 @@
-use Rattle.std.proofs.Common.{◌≡◌, ◌∙◌, ◌++◌, ℕ, ◌≤◌, ◌<◌, true, false, List, length, take, drop, ap, sym, refl, arith}
-use Rattle.std.specs.Prelude.{min, nat_le, if◌then◌else◌}
+use Rattle.std.proofs.Common.{◌≡◌, ◌∙◌, ◌++◌, ℕ, ◌≤◌, ◌<◌, true, false, List, length, take, drop, ap, sym, refl, arith, min, nat_le, if◌then◌else◌}
 use Rattle.std.proofs.lemmas.Bool.Decides.{nat_tests}
 use Rattle.std.proofs.lemmas.List.{length-take, take_min}
 use Rattle.mq_state.specs.Buffers.{with_front}

@@ -1,4 +1,4 @@
-use Rattle.std.proofs.Common.{◌≡◌, ◌∙◌, List, inl, refl, ap, length, map, Some, arith}
+use Rattle.std.proofs.Common.{◌∙◌, List, inl, refl, ap, map, Some, arith}
 use Rattle.std.proofs.lemmas.List.{length-map}
 use Rattle.fast_mutex.specs.Items.{Ticket}
 use Rattle.mq_model.specs.Record.{Record}

@@ -1,6 +1,5 @@
-use Rattle.std.proofs.Common.{◌≡◌, ◌≤◌, ◌*◌, take, Vec}
+use Rattle.std.proofs.Common.{◌≡◌, ◌≤◌, ◌*◌, take, Vec, Global}
 use Rattle.std.specs.List.{count_by, sum_by}
-use Rattle.std.specs.declared.alloc.Global.{Global}
 use Rattle.histories.specs.declared.operation.Operation.{Operation}
 use Rattle.histories.specs.Named.{calls_on}
 use Rattle.histories.specs.NotFull.{enters_by}

@@ -1,6 +1,5 @@
-use Rattle.std.proofs.Common.{◌≡◌, take, Vec}
+use Rattle.std.proofs.Common.{◌≡◌, take, Vec, Global}
 use Rattle.std.specs.List.{list_any}
-use Rattle.std.specs.declared.alloc.Global.{Global}
 use Rattle.histories.specs.declared.operation.Operation.{Operation}
 use Rattle.histories.specs.NotFull.{creates_less}
 use Rattle.histories.proofs.not_full.was_less.Given as goal

@@ -1,5 +1,4 @@
-use Rattle.std.proofs.Common.{rules, arith, ◌≡◌, ◌<◌, ◌+◌, ◌∙◌, ◌++◌, false, true, inl, Err, IfOk, [], Result, Vec, length, sym, subst, append_assoc}
-use Rattle.std.specs.declared.alloc.Global.{Global}
+use Rattle.std.proofs.Common.{rules, arith, ◌≡◌, ◌<◌, ◌+◌, ◌∙◌, ◌++◌, false, true, inl, Err, IfOk, [], Result, Vec, length, sym, subst, append_assoc, Global}
 use Rattle.journal_format.specs.Lines.{HasRead}
 use Rattle.journal_format.specs.Text.{has_feed}
 use Rattle.journal_format.specs.declared.fault.JournalFault.{JournalFault}

@@ -1,5 +1,4 @@
-use Rattle.std.proofs.Common.{◌≡◌, ◌≤◌}
-use Rattle.std.specs.Prelude.{count_by}
+use Rattle.std.proofs.Common.{◌≡◌, ◌≤◌, count_by}
 use Rattle.mq_model.specs.Record.{first}
 use Rattle.journal_tasks.specs.Verdict.{creates}
 use Rattle.journal_tasks.proofs.counts.count_queues.Given as goal

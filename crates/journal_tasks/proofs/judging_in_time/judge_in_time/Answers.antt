@@ -1,10 +1,8 @@
-use Rattle.std.proofs.Common.{◌≡◌, ◌∙◌, ℕ, Err, List, Result, Vec, ap, length, subst, sym}
+use Rattle.std.proofs.Common.{◌≡◌, ◌∙◌, ℕ, Err, List, Result, Vec, ap, length, subst, sym, Global}
 use Rattle.history_judge.specs.Processes.{AreOfProcesses}
 use Rattle.history_judge.specs.Said.{judgement_text}
-use Rattle.history_judge.specs.Verdicts.{IsJudgement}
 use Rattle.history_judge.specs.declared.line.Called.{Called}
 use Rattle.history_judge.proofs.Strangers.{of-fitting}
-use Rattle.std.specs.declared.alloc.Global.{Global}
 use Rattle.journal_format.specs.declared.fault.JournalFault.{JournalFault}
 use Rattle.journal_format.specs.declared.fault.JournalFault.TheVariants as journal
 use Rattle.history_judge.specs.WellFormed.{IsFirstFault, IsWellFormed}

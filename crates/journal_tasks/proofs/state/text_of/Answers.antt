@@ -1,5 +1,4 @@
-use Rattle.std.proofs.Common.{◌≡◌, ◌∙◌, ◌≤◌, length, ap, arith, subst, sym}
-use Rattle.std.specs.Option.{unwrap_or}
+use Rattle.std.proofs.Common.{◌≡◌, ◌∙◌, ◌≤◌, length, ap, arith, subst, sym, unwrap_or}
 use Rattle.mq_model.specs.Legality.{Legal}
 use Rattle.mq_model.specs.Record.{Past, first}
 use Rattle.journal_views.specs.State.{state}

@@ -1,6 +1,4 @@
-use Rattle.std.proofs.Common.{◌≡◌, ◌<◌, ◌∙◌, Err, Result, ap, arith, inl, inr, length, refl, subst, true}
-use Rattle.std.specs.Prelude.{nat_lt}
-use Rattle.std.proofs.lemmas.Bool.{lt-ltb}
+use Rattle.std.proofs.Common.{◌≡◌, ◌<◌, ◌∙◌, Err, Result, ap, arith, inl, inr, length, refl, subst, true, nat_lt, lt-ltb}
 use Rattle.mq_model.specs.Record.{first}
 use Rattle.mq_model.specs.declared.journals.Journal.{Journal}
 use Rattle.journal_format.specs.declared.fault.JournalFault.{JournalFault}

@@ -1,6 +1,5 @@
-use Rattle.std.proofs.Common.{◌≡◌, ◌≤◌, length}
+use Rattle.std.proofs.Common.{◌≡◌, ◌≤◌, length, slice_get}
 use Rattle.mq_model.specs.Record.{first}
-use Rattle.std.specs.Prelude.{slice_get}
 use Rattle.mq_model.specs.Notices.{values_notified}
 use Rattle.mq_checker.proofs.scan_notices.next_notice.Given as goal
 

@@ -1,5 +1,4 @@
-use Rattle.std.proofs.Common.{◌≡◌, [], sym, ap, refl, List, ℕ, Option}
-use Rattle.std.specs.Option.{unwrap_or}
+use Rattle.std.proofs.Common.{◌≡◌, [], sym, ap, refl, List, ℕ, Option, unwrap_or}
 use Rattle.mq_state.specs.Buffers.{with_front, message_at}
 use Rattle.mq_state.proofs.buffers.put_message.Goals as goal
 

@@ -1,4 +1,4 @@
-use Rattle.std.proofs.Common.{arith, sym}
+use Rattle.std.proofs.Common.{arith}
 use Rattle.mq_state.proofs.Rising.{here-alone}
 use Rattle.mq_state.proofs.queues.is_row.Goals as goal
 

@@ -1,8 +1,8 @@
 use Rattle.std.proofs.Common.{arith}
 use Rattle.std.proofs.lemmas.Grind.{common_steps}
 use Rattle.mqbench.specs.Ready.{IsReady}
-use Rattle.mqbench.proofs.New.{after-first}
 use Rattle.mqbench.proofs.members.start_members.Goals as goal
+use Rattle.mq.proofs.Seats.{after-first}
 
 pub loop-process-preserved-else-is_err : goal.loop-process-preserved-else-is_err
 loop-process-preserved-else-is_err g c =

@@ -1,7 +1,8 @@
 use Rattle.std.proofs.Common.{rules, arith, ◌≡◌, ◌++◌, ◌∷◌, []}
 use Rattle.std.proofs.lemmas.Grind.{common_steps}
-use Rattle.mqbench.proofs.New.{after-first, all-push, at-first}
+use Rattle.mqbench.proofs.New.{all-push, at-first}
 use Rattle.mqbench.proofs.storm.join_all.Goals as goal
+use Rattle.mq.proofs.Seats.{after-first}
 
 pub loop-handle-preserved : goal.loop-handle-preserved
 loop-handle-preserved g c =

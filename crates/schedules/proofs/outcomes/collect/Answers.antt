@@ -1,3 +1,4 @@
+use Rattle.std.proofs.lemmas.Bool.Decides.{nat_tests}
 use Rattle.std.proofs.lemmas.List.{nil_from_length}
 use Rattle.std.proofs.Common.{arith, ◌≡◌, ◌+◌, Some, None, IsSome, Option, inl, inr, ℕ, false, List, [], ◌∷◌, ◌++◌, ◌∙◌, ap, is_some, length, length-append, refl, subst, sym, true}
 use Rattle.schedules.specs.Schedules.{IsReached, after, HasNoGoal}
@@ -88,14 +89,7 @@ note-requires-in-Some-clause-runs g c =
     (after-push next c.loop-steps.path.items c.in-Some.choice _ c.loop-steps.machine c.step.new.self runs step)
 
 pub note-requires-in-Some-clause-witnessed : goal.note-requires-in-Some-clause-witnessed
-note-requires-in-Some-clause-witnessed g c =
-    let next = g.M.Machine.next in
-    let stands = (rw c.in-Some.is at c.loop-steps.invariant.stands) in
-    let at : c.loop-steps.machine ≡ stands.node = stands.here refl in
-    let some : IsSome (next c.loop-steps.machine c.in-Some.choice) = rw at stands.ahead.1 in
-    let step = step-goes next c.loop-steps.machine c.step.new.self c.in-Some.choice _ c.in_ok-_went-in-Some.ensures.went c.in_ok-_went-in-Some.ensures.none some in
-    let start = g.met.M.Machine.same_start c.loop-steps.machine c.step.new.self c.in-Some.choice step ∙ c.loop-steps.invariant.start in
-    rw start c.loop-steps.invariant.witnessed
+note-requires-in-Some-clause-witnessed g c = grind (arith, nat_tests, step-goes)
 
 pub returns-in_default-clause-all : goal.returns-in_default-clause-all
 returns-in_default-clause-all g c =
@@ -109,10 +103,7 @@ returns-in_default-clause-all g c =
     λ _. all-found next g.M.Machine.is_goal g.M.Observable.outcome start c.loop-steps.found.items from
 
 pub go_back-requires-clause-runs : goal.go_back-requires-clause-runs
-go_back-requires-clause-runs g c =
-    rw (c.deref-then-is_some.ensures.value, c.loop-steps.invariant.start)
-    (front_runs g.M.Machine.next c.pop.new.self.items (c.in-Some-pop._taken ∷ []) _ c.loop-steps.invariant.stands.node
-    (rw (← c.in-Some-pop.ensures.items) c.loop-steps.invariant.stands.runs))
+go_back-requires-clause-runs g c = grind (arith, nat_tests, front_runs)
 
 pub go_back-requires-clause-marks : goal.go_back-requires-clause-marks
 go_back-requires-clause-marks g c = rw c.loop-steps.invariant.start c.loop-steps.invariant.marks

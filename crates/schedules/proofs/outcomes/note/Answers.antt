@@ -1,13 +1,12 @@
+use Rattle.std.proofs.lemmas.Grind.{common_steps}
+use Rattle.std.proofs.Common.{arith}
 use Rattle.std.proofs.Common.{◌≡◌, false, inr, refl}
 use Rattle.schedules.specs.Outcomes.{is_among, observed_in}
 use Rattle.schedules.proofs.Collecting.{among-push, distinct-push}
 use Rattle.schedules.proofs.outcomes.note.Goals as goal
 
 pub returns-clause-distinct : goal.returns-clause-distinct
-returns-clause-distinct g c =
-    let here : is_among c.deref.result.now (observed_in c.in_ok-outcome.outcome) ≡ false = cc in
-    let new : is_among c.args.found.now.items (observed_in c.in_ok-outcome.outcome) ≡ false = rw (← c.deref.ensures.value) here in
-    rw c.in_ok-push.ensures.items (distinct-push c.args.found.now.items _ c.requires.distinct new)
+returns-clause-distinct g c = grind (arith, common_steps, distinct-push)
 
 pub returns-clause-noted : goal.returns-clause-noted
 returns-clause-noted g c goal = rw c.in_ok-push.ensures.items (among-push c.args.found.now.items _ _ c.in_ok-outcome.ensures)

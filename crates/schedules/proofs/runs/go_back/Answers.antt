@@ -1,3 +1,4 @@
+use Rattle.std.proofs.lemmas.Grind.{common_steps}
 use Rattle.std.proofs.Common.{◌≡◌, ◌<◌, Some, length, get_or, ◌∙◌, arith}
 use Rattle.std.proofs.lemmas.List.Elements.{All-push}
 use Rattle.schedules.specs.Marks.{IsMark}
@@ -7,11 +8,7 @@ use Rattle.schedules.proofs.runs.go_back.Goals as goal
 use Rattle.schedules.proofs.runs.go_back.Goals.{then-is_worth+in_ok-schedule+in_ok-saved+in_ok-push, else-is_worth}
 
 pub loop-depth-init : goal.loop-depth-init
-loop-depth-init g c = record {
-  runs = c.in_ok-from.ensures.runs;
-  start = c.in_ok-from.ensures.start;
-  marks = all-front (IsMark g.M.Machine.next g.M.Machine.start g.M.Machine.IsSaved (g.M.Machine.start c.args.machine.now)) c.leave_others.new.marks.items _ _ c.leave_others.ensures.1 c.requires.marks;
-}
+loop-depth-init g c = grind (arith, common_steps, all-front)
 
 pub loop-depth-preserved : goal.loop-depth-preserved
 loop-depth-preserved g c =

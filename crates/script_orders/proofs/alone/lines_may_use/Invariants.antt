@@ -1,5 +1,4 @@
-use Rattle.std.proofs.Common.{◌≡◌}
-use Rattle.std.specs.Prelude.{drop}
+use Rattle.std.proofs.Common.{◌≡◌, drop}
 use Rattle.std.specs.List.{list_any}
 use Rattle.script_orders.specs.Persistence.{line_may_use}
 use Rattle.script_orders.proofs.alone.lines_may_use.Given as goal

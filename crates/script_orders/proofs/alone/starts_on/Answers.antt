@@ -1,5 +1,4 @@
-use Rattle.std.proofs.Common.{◌≡◌, ◌==◌, true, Some, slice_get, subst, rules, ℕ}
-use Rattle.std.proofs.lemmas.Bool.{eq-eqb}
+use Rattle.std.proofs.Common.{◌≡◌, ◌==◌, true, Some, slice_get, subst, rules, ℕ, eq-eqb}
 use Rattle.script_orders.proofs.Turning.{element-is}
 use Rattle.script_orders.proofs.UsedAlone.{starts-on}
 use Rattle.script_orders.proofs.alone.starts_on.Goals as goal

@@ -1,5 +1,4 @@
-use Rattle.std.proofs.Common.{◌≡◌, ◌-◌, [], length, slice_get}
-use Rattle.std.specs.Option.{unwrap_or}
+use Rattle.std.proofs.Common.{◌≡◌, ◌-◌, [], length, slice_get, unwrap_or}
 use Rattle.script_text.specs.Script.{lines_of}
 use Rattle.script_orders.specs.Waiting.{line_numbered}
 use Rattle.script_orders.proofs.waiting.line_numbered.Given as goal

@@ -1,5 +1,5 @@
 -- A handle may cross threads: its member may, and the heap's right to free names no thread.
-use Rattle.std.proofs.Common.{arith}
+use Rattle.std.proofs.Common.{arith, Option, Some, None}
 use base.Fraction.{full_share}
 use base.Shift.{Keyless}
 use mir.Raw.{raw}
@@ -9,7 +9,6 @@ use denote.RattleType.{RattleType}
 use denote.RawPtr.{Ptr, block_ptr, null_ptr, lies_at}
 use denote.Struct.Owning.{to}
 use denote.Param.Send.{IsSend, Quiet, part_keyless}
-use Rattle.std.specs.Prelude.{Option, Some, None}
 use Rattle.std.specs.Global.{Global}
 use Rattle.std.proofs.Crossing as heap
 use Rattle.c_handles.specs.Owning.{seal_owns}

@@ -3,7 +3,7 @@ use Rattle.std.proofs.lemmas.Bool.{eqb-false}
 use Rattle.std.proofs.Common.{arith}
 use Rattle.mq.proofs.Closings.{from-closed, from-end, closing-more, lowest-is, lowest-is_not}
 use Rattle.mq.proofs.guard.exits.close_all.Goals as goal
-use Rattle.mq.proofs.guard.exits.close_all.Goals.{then-eq+in_ok-close_lowest, else-eq}
+use Rattle.mq.proofs.guard.exits.close_all.Goals.{then-eq+in_ok-close_lowest}
 
 pub close_lowest-requires-clause-lowest : goal.close_lowest-requires-clause-lowest
 close_lowest-requires-clause-lowest c = lowest-is c.descriptors.books.records c.args.p c.descriptors.d c.lowest_open.result c.lowest_open.ensures c.if-eq.ensures

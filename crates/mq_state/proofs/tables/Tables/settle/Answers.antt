@@ -1,8 +1,4 @@
-use Rattle.std.proofs.Common.{◌≡◌, ◌+◌, inl, true, false, length, Ok, Err, arith, refl, sym, ◌∙◌}
-use Rattle.mq_model.specs.Record.{payload_bytes}
-use Rattle.mq_model.specs.Bounds.{exceeds, open_waits}
-use Rattle.mq_model.specs.declared.faults.Fault.TheVariants.{JournalFull}
-use Rattle.mq_state.specs.Kept.{IsRoomRefused}
+use Rattle.std.proofs.Common.{◌≡◌, inl, true, false, length, Ok, arith, refl, sym, ◌∙◌}
 use Rattle.mq_state.proofs.Fitting.{reply-fits}
 use Rattle.mq_state.proofs.Reachable.{reply-readable}
 use Rattle.mq_state.proofs.Bounded.{called, full-by}

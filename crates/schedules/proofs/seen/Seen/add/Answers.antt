@@ -1,5 +1,5 @@
-use Rattle.std.proofs.Common.{◌≡◌, ◌||◌, ℕ, ◌+◌, ◌≤◌, List, Bool, false, true, not, sym, ◌∷◌, ◌∙◌, refl, length, Vec, arith, ap}
-use Rattle.std.specs.declared.alloc.Global.{Global}
+use Rattle.std.proofs.lemmas.Grind.{common_steps}
+use Rattle.std.proofs.Common.{◌≡◌, ◌||◌, ℕ, ◌+◌, ◌≤◌, List, Bool, false, true, not, sym, ◌∷◌, ◌∙◌, refl, length, arith, ap}
 use Rattle.std.specs.Bool.{MatchBool}
 use Rattle.std.specs.Str.{bytes_eq}
 use Rattle.std.specs.List.{list_any, sum_by}
@@ -27,10 +27,7 @@ grows f old new key true puts = let e : sum_by f new ≡ f key + sum_by f old = 
 grows f old new key false same = let e = ap (λ xs. sum_by f xs) same in omega (arith, e)
 
 pub returns-then-branch-clause-bounded : goal.returns-then-branch-clause-bounded
-returns-then-branch-clause-bounded c before =
-    let f : Vec ℕ Global → ℕ = λ k. length k.items in
-    let more = grows f c.args.self.now.keys.keys c.insert.new.self.keys c.args.key c.in_ok-insert.field-0 c.in_ok-insert.ensures.keys in
-    omega (arith, more, before, c.len-numbers.ensures, c.if-numbers-self.false)
+returns-then-branch-clause-bounded c before = grind (arith, common_steps, grows)
 
 -- a key that was not there was put in, so that it passes too
 puts : {K : Type 0} (test : K → Bool) (old new : List K) (key : K) (added : Bool) → added ≡ true → MatchBool added (IsPermutation (key ∷ old) new) (new ≡ old) → list_any test new ≡ (test key || list_any test old)

@@ -1,8 +1,9 @@
 use Rattle.std.proofs.Common.{rules, arith, ◌≡◌, ◌++◌, ◌∷◌, []}
 use Rattle.std.proofs.lemmas.Grind.{common_steps}
 use Rattle.mqbench.specs.Ready.{IsReady}
-use Rattle.mqbench.proofs.New.{after-first, all-push}
+use Rattle.mqbench.proofs.New.{all-push}
 use Rattle.mqbench.proofs.storm.fn.start_all.scope.Goals as goal
+use Rattle.mq.proofs.Seats.{after-first}
 
 pub loop-process-preserved : goal.loop-process-preserved
 loop-process-preserved g c =
