@@ -1,6 +1,6 @@
 /* More calls wait than the library has processes for: the first 31 are served in the order in which
  * they began, and each of the others once. Each of the others can fail, time out, be interrupted,
- * be cancelled, and lose its descriptor. */
+ * be cancelled, and lose its descriptor. What has served waits on other queues serves the next. */
 #define _GNU_SOURCE
 #include <errno.h>
 #include <fcntl.h>
@@ -17,7 +17,7 @@
 #include "reported.h"
 #include "stored.h"
 
-enum { IN_ORDER = 31, CROWD = 40, ROUNDS = 5 };
+enum { IN_ORDER = 31, CROWD = 40, ROUNDS = 5, ALONE = 30, FEW = 20 };
 
 static mqd_t queue;
 static int given[CROWD];
@@ -102,6 +102,51 @@ static void sends(void)
     }
     join(threads, CROWD);
     WANT(is_in_order());
+}
+
+/* ---- waits on other queues ---- */
+
+static mqd_t queues[ALONE];
+
+static void *receive_alone(void *of)
+{
+    char buf[8];
+    WANT(mq_receive(queues[(long)of], buf, sizeof buf, 0) == 1);
+    return 0;
+}
+
+/* Each thread waits alone on a queue and gets its message from the sender. All that served them
+ * then serve waits on a queue that was opened meanwhile. */
+static void on_another_queue(void)
+{
+    const mqd_t before = queue;
+    pthread_t threads[ALONE];
+    char name[32];
+    queues[0] = queue;
+    for (int i = 1; i < ALONE; ++i) {
+        snprintf(name, sizeof name, "/yak-alone-%d", i);
+        queues[i] = fresh(name, 1);
+    }
+    start(threads, ALONE, receive_alone);
+    queue = fresh("/yak-next", 4);
+    for (int i = 0; i < ALONE; ++i)
+        WANT(mq_send(queues[i], "", 1, 0) == 0);
+    join(threads, ALONE);
+    memset(given, -1, sizeof given);
+    start(threads, FEW, receive_one);
+    for (int i = 0; i < FEW; ++i) {
+        char byte = (char)i;
+        WANT(mq_send(queue, &byte, 1, 0) == 0);
+    }
+    join(threads, FEW);
+    for (int i = 0; i < FEW; ++i)
+        WANT(given[i] == i);
+    WANT(mq_close(queue) == 0 && mq_unlink("/yak-next") == 0);
+    for (int i = 1; i < ALONE; ++i) {
+        snprintf(name, sizeof name, "/yak-alone-%d", i);
+        WANT(mq_close(queues[i]) == 0 && mq_unlink(name) == 0);
+    }
+    queue = before;
 }
 
 /* ---- one call while 31 others wait ---- */
@@ -200,6 +245,7 @@ int main(void)
         receives();
         sends();
     }
+    on_another_queue();
     beside();
     WANT(is_checked());
     WANT(mq_close(queue) == 0 && mq_unlink("/yak-many") == 0);
