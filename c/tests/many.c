@@ -73,16 +73,22 @@ static bool is_in_order(void)
     return true;
 }
 
-static void receives(void)
+/* Lets so many threads wait for a message each, and sends the messages 0, 1, .. */
+static void serve(int count)
 {
     pthread_t threads[CROWD];
     memset(given, -1, sizeof given);
-    start(threads, CROWD, receive_one);
-    for (int i = 0; i < CROWD; ++i) {
+    start(threads, count, receive_one);
+    for (int i = 0; i < count; ++i) {
         char byte = (char)i;
         WANT(mq_send(queue, &byte, 1, 0) == 0);
     }
-    join(threads, CROWD);
+    join(threads, count);
+}
+
+static void receives(void)
+{
+    serve(CROWD);
     WANT(is_in_order());
 }
 
@@ -132,13 +138,7 @@ static void on_another_queue(void)
     for (int i = 0; i < ALONE; ++i)
         WANT(mq_send(queues[i], "", 1, 0) == 0);
     join(threads, ALONE);
-    memset(given, -1, sizeof given);
-    start(threads, FEW, receive_one);
-    for (int i = 0; i < FEW; ++i) {
-        char byte = (char)i;
-        WANT(mq_send(queue, &byte, 1, 0) == 0);
-    }
-    join(threads, FEW);
+    serve(FEW);
     for (int i = 0; i < FEW; ++i)
         WANT(given[i] == i);
     WANT(mq_close(queue) == 0 && mq_unlink("/yak-next") == 0);
