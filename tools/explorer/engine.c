@@ -44,11 +44,11 @@ void engine_start(engine *it, const options *options)
     it->told = 0;
     free(path);
     if (options->bounds == 0)
-        fprintf(it->to, "explore bounds none");
+        fprintf(it->to, "explore none");
     else
-        fprintf(it->to, "explore bounds %lu", options->bounds - 1);
-    fprintf(it->to, " budget %lu time %s check %lu\n", options->budget,
-            options->is_last ? "last" : "any", options->check);
+        fprintf(it->to, "explore %lu", options->bounds - 1);
+    fprintf(it->to, " %lu %s %lu\n", options->budget, options->is_last ? "last" : "any",
+            options->check);
     fflush(it->to);
 }
 

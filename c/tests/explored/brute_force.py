@@ -29,8 +29,8 @@ def read_trace():
 
 
 def main():
-    words = sys.stdin.readline().split()
-    budget = int(words[words.index("budget") + 1])
+    _, _, runs, _, _ = sys.stdin.readline().split()
+    budget = int(runs)
     chosen, left = [], []  # of each step what was chosen, and what is still to be tried in its place
     while budget != 0:
         budget -= 1

@@ -9,7 +9,7 @@ use std::alloc::{AllocError, Global};
 use text_io::words::{count_of, number, small_number, words};
 
 /// What a line of a trace says.
-#[derive(Debug, Drop)]
+#[derive(Drop)]
 pub enum Record {
     /// The threads that are parked before the next step.
     At(Vec<Parked>),
@@ -114,13 +114,10 @@ fn gave(error: &[u8], value: &[u8]) -> Option<Record> {
     Some(Record::Gave(error, value))
 }
 
-fn room(object: &[u8], most: &[u8], held: Option<&[u8]>) -> Option<Record> {
+fn room(object: &[u8], most: &[u8], held: &[u8]) -> Option<Record> {
     let object = small_number(object)?;
     let most = small_number(most)?;
-    let held = match held {
-        Some(word) => small_number(word)?,
-        None => 0,
-    };
+    let held = small_number(held)?;
     Some(Record::Room(object, most, held))
 }
 
@@ -154,8 +151,8 @@ pub fn record_of(alloc: Global, line: &[u8]) -> Result<Option<Record>, AllocErro
         [b"chose", thread, variant] => Ok(chose(thread, variant)),
         [b"also", kind, object] => Ok(also(kind, object)),
         [b"gave", error, value] => Ok(gave(error, value)),
-        [b"room", object, most] => Ok(room(object, most, None)),
-        [b"room", object, most, held] => Ok(room(object, most, Some(held))),
+        [b"room", object, most] => Ok(room(object, most, b"0")),
+        [b"room", object, most, held] => Ok(room(object, most, held)),
         [b"left", threads @ ..] => Ok(all_parked(alloc, threads)?.map(Record::Left)),
         [b"end", how, fails] => Ok(end(how, fails)),
         _ => Ok(None),

@@ -15,7 +15,7 @@ const LIMITS: Limits = Limits {
 fn bounds_of(word: &[u8]) -> Option<Option<u32>> {
     match word {
         b"none" => Some(None),
-        _ => Some(Some(small_number(word)?)),
+        _ => small_number(word).map(Some),
     }
 }
 
@@ -41,22 +41,12 @@ fn options_by(bounds: &[u8], budget: &[u8], time: &[u8], check: &[u8]) -> Option
     })
 }
 
-/// The options of an exploration: the line
-/// `explore bounds MOST budget RUNS time any|last check RUNS`, with `none` for no bounds.
+/// The options of an exploration: the line `explore MOST RUNS any|last RUNS` with the greatest bound,
+/// or `none` for no bounds, the budget, when deadlines pass, and the number of checks.
 pub fn options_of(alloc: Global, line: &[u8]) -> Result<Option<Options>, AllocError> {
     let words = words(alloc, line)?;
     match words.as_slice() {
-        [
-            b"explore",
-            b"bounds",
-            bounds,
-            b"budget",
-            budget,
-            b"time",
-            time,
-            b"check",
-            check,
-        ] => Ok(options_by(bounds, budget, time, check)),
+        [b"explore", bounds, budget, time, check] => Ok(options_by(bounds, budget, time, check)),
         _ => Ok(None),
     }
 }
