@@ -10,14 +10,14 @@ use std::alloc::{AllocError, Global};
 
 /// The threads that go on after a choice of the thread `first`, so that the race that asked for it
 /// is soon run in its other order.
-#[derive(Debug, Drop)]
+#[derive(Drop)]
 pub struct Lead {
     pub first: u32,
     pub threads: Vec<u32>,
 }
 
 /// What the search knows about a node.
-#[derive(Debug, Drop)]
+#[derive(Drop)]
 pub struct Advice {
     /// The backtrack set: the threads whose choices are worth a run here.
     pub wanted: Vec<u32>,

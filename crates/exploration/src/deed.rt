@@ -7,7 +7,7 @@ use crate::operation::Choice;
 use std::alloc::{AllocError, Global};
 
 /// The effect of a step on one object.
-#[derive(Clone, Copy, Debug)]
+#[derive(Clone, Copy)]
 pub struct Effect {
     pub kind: Kind,
     pub object: u32,
@@ -29,7 +29,7 @@ pub struct Effect {
 }
 
 /// A step, without the threads that were parked.
-#[derive(Debug, Drop)]
+#[derive(Drop)]
 pub struct Deed {
     pub choice: Choice,
     pub kind: Kind,

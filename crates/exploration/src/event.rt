@@ -6,13 +6,13 @@ use crate::kind::Kind;
 use std::alloc::{AllocError, Global};
 
 /// A vector clock: how many events of each thread come before an event, itself included.
-#[derive(Debug, Drop)]
+#[derive(Drop)]
 pub struct Clock {
     counts: Vec<u32>,
 }
 
 /// A step with its vector clock.
-#[derive(Debug, Drop)]
+#[derive(Drop)]
 pub struct Event {
     pub deed: Deed,
     pub clock: Clock,

@@ -40,7 +40,7 @@ pub trait Program {
 }
 
 /// The options of an exploration.
-#[derive(Clone, Copy, Debug)]
+#[derive(Clone, Copy)]
 pub struct Options {
     /// If given, the searches with the bounds from 0 to this one come first.
     pub bounds: Option<u32>,
@@ -53,7 +53,7 @@ pub struct Options {
 }
 
 /// The result of an exploration.
-#[derive(Clone, Copy, Debug, PartialEq, Eq)]
+#[derive(Clone, Copy, PartialEq, Eq)]
 pub enum Ending {
     /// Every order that can matter was tried.
     All,
@@ -62,7 +62,7 @@ pub enum Ending {
 }
 
 // The result of a search.
-#[derive(Clone, Copy, Debug, PartialEq, Eq)]
+#[derive(Clone, Copy, PartialEq, Eq)]
 enum Searched {
     Whole,
     WithinBound,
@@ -70,7 +70,7 @@ enum Searched {
 }
 
 /// The counts of an exploration.
-#[derive(Debug, Drop)]
+#[derive(Drop)]
 pub struct Tally {
     pub runs: u64,
     /// The partial orders that were seen, by their hashes.
@@ -78,7 +78,7 @@ pub struct Tally {
 }
 
 /// The summary of an exploration.
-#[derive(Debug, Drop)]
+#[derive(Drop)]
 pub struct Summary {
     pub ending: Ending,
     pub runs: u64,

@@ -7,7 +7,7 @@ use crate::trace::Room;
 use std::alloc::{AllocError, Global};
 
 // A message of a queue.
-#[derive(Clone, Copy, Debug)]
+#[derive(Clone, Copy)]
 struct Held {
     priority: u32,
     // The number of its send, counted from 1.
@@ -15,7 +15,7 @@ struct Held {
 }
 
 // The messages of a queue in a run.
-#[derive(Debug, Drop)]
+#[derive(Drop)]
 struct Moved {
     object: u32,
     room: u32,
@@ -25,13 +25,13 @@ struct Moved {
 }
 
 /// The state of the queues after the steps of a run so far.
-#[derive(Debug, Drop)]
+#[derive(Drop)]
 pub struct Follower {
     queues: Vec<Moved>,
 }
 
 /// When deadlines may pass.
-#[derive(Clone, Copy, Debug)]
+#[derive(Clone, Copy)]
 pub struct Rules {
     /// Whether a deadline may pass at any time, and not only when no other thread can go on.
     pub any_time: bool,

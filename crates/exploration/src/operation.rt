@@ -11,7 +11,7 @@ pub const MOST_THREADS: u32 = 64;
 pub const MOST_VARIANTS: u32 = 64;
 
 /// Whether a thread can do its operation.
-#[derive(Clone, Copy, Debug, PartialEq, Eq)]
+#[derive(Clone, Copy, PartialEq, Eq)]
 pub enum Ability {
     Cannot,
     Can,
@@ -20,7 +20,7 @@ pub enum Ability {
 }
 
 /// An operation that other threads can see.
-#[derive(Clone, Copy, Debug)]
+#[derive(Clone, Copy)]
 pub struct Operation {
     pub kind: Kind,
     /// The object that it accesses; 0 for none.
@@ -33,7 +33,7 @@ pub struct Operation {
 }
 
 /// A thread that is parked before an operation.
-#[derive(Clone, Copy, Debug)]
+#[derive(Clone, Copy)]
 pub struct Parked {
     pub thread: u32,
     pub operation: Operation,
@@ -43,14 +43,14 @@ pub struct Parked {
 }
 
 /// The thread that goes on, and the variant of its operation.
-#[derive(Clone, Copy, Debug, PartialEq, Eq)]
+#[derive(Clone, Copy, PartialEq, Eq)]
 pub struct Choice {
     pub thread: u32,
     pub variant: u32,
 }
 
 /// Something that a step also did: an unlock, a post, a signal, or the creation of a thread.
-#[derive(Clone, Copy, Debug)]
+#[derive(Clone, Copy)]
 pub struct Also {
     pub kind: Kind,
     /// For a creation, the thread.
@@ -58,7 +58,7 @@ pub struct Also {
 }
 
 /// A step of a run.
-#[derive(Debug, Drop)]
+#[derive(Drop)]
 pub struct Step {
     /// The threads that were parked before it.
     pub parked: Vec<Parked>,
@@ -70,7 +70,7 @@ pub struct Step {
 }
 
 /// How a run ended.
-#[derive(Clone, Copy, Debug, PartialEq, Eq)]
+#[derive(Clone, Copy, PartialEq, Eq)]
 pub enum End {
     Done,
     Deadlock,
@@ -85,7 +85,7 @@ pub enum End {
 }
 
 /// What a run showed.
-#[derive(Debug, Drop)]
+#[derive(Drop)]
 pub struct Trace {
     pub steps: Vec<Step>,
     /// The threads that are parked at the end.

@@ -14,7 +14,7 @@ use crate::trace::Room;
 use std::alloc::{AllocError, Global};
 
 /// What the search knows about the nodes of its path, and about the steps between them.
-#[derive(Debug, Drop)]
+#[derive(Drop)]
 pub struct Plan {
     rules: Rules,
     /// The maximum cost of the choices of a run. Only without a bound are there sleep sets.

@@ -15,7 +15,7 @@ use crate::operation::{Ability, Choice, Parked, Step, parked_of};
 use std::alloc::{AllocError, Global};
 
 /// A run, with the events whose races were searched for.
-#[derive(Clone, Copy, Debug)]
+#[derive(Clone, Copy)]
 pub struct Races<'r> {
     pub rules: Rules,
     /// Whether the search is within a bound. Then it asks for more choices, because those that
@@ -32,7 +32,7 @@ pub struct Races<'r> {
 }
 
 // The thread that is to come before an event with which its step races.
-#[derive(Clone, Copy, Debug)]
+#[derive(Clone, Copy)]
 struct Overtaking {
     thread: u32,
     /// The events between the two steps end before this index.

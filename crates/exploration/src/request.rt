@@ -7,14 +7,14 @@ use std::io::Write;
 use text_io::output::write_all;
 
 /// A thread that must not go on before a step accesses the object.
-#[derive(Clone, Copy, Debug)]
+#[derive(Clone, Copy)]
 pub struct Sleeper {
     pub thread: u32,
     pub object: u32,
 }
 
 /// A run with these choices first, and then by the rule of the program.
-#[derive(Debug, Drop)]
+#[derive(Drop)]
 pub struct Request {
     pub choices: Vec<Choice>,
     /// The threads that go on after the choices, in this order, as long as they can.

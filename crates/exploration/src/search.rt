@@ -14,7 +14,7 @@ use crate::trace::Room;
 use std::alloc::{AllocError, Global};
 
 /// A point in a run at which the search may choose another step than the last run took.
-#[derive(Debug, Drop)]
+#[derive(Drop)]
 pub struct Node {
     /// The choices that lead to it.
     pub prefix: Vec<Choice>,
@@ -25,7 +25,7 @@ pub struct Node {
 }
 
 /// The limits on the size of runs.
-#[derive(Clone, Copy, Debug)]
+#[derive(Clone, Copy)]
 pub struct Limits {
     pub steps: usize,
     /// The choices of a step, apart from the one that was made.
@@ -140,7 +140,7 @@ fn add_nodes(
 }
 
 /// A search, between two runs.
-#[derive(Debug, Drop)]
+#[derive(Drop)]
 pub struct Search {
     nodes: Vec<Node>,
     plan: Plan,

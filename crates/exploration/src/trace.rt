@@ -7,7 +7,7 @@ use std::alloc::{AllocError, Global};
 use std::io::BufRead;
 
 /// How many messages a queue can hold, and how many it held when it was first seen.
-#[derive(Clone, Copy, Debug)]
+#[derive(Clone, Copy)]
 pub struct Room {
     pub object: u32,
     pub most: u32,

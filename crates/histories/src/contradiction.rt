@@ -10,7 +10,7 @@ use crate::passed::{Passed, find_passed};
 use std::alloc::{AllocError, Global};
 
 /// Why a history has no linearization.
-#[derive(Debug, Drop)]
+#[derive(Drop)]
 pub enum Contradiction {
     Excess(Excess),
     Passed(Passed),

@@ -8,7 +8,7 @@ use std::alloc::{AllocError, Global};
 
 /// A message that was received more often than it was sent, up to a time: so often receives had
 /// returned it before so many sends of it began.
-#[derive(Debug, Drop)]
+#[derive(Drop)]
 pub struct Excess {
     pub prio: u32,
     pub message: Vec<u8>,

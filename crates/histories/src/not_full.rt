@@ -16,7 +16,7 @@ use std::alloc::{AllocError, Global};
 
 /// A send that failed with `EAGAIN` or `ETIMEDOUT`, so it found its queue full, although fewer
 /// messages than the queue can hold can have been in it.
-#[derive(Debug, Drop)]
+#[derive(Drop)]
 pub struct NotFull {
     pub prio: u32,
     pub message: Vec<u8>,

@@ -14,7 +14,7 @@ use std::alloc::{AllocError, Global};
 
 /// A message that lay in its queue while a receive passed over it: the receive failed with `EAGAIN`
 /// or `ETIMEDOUT`, or got a message of a lower priority or one of its priority that was sent later.
-#[derive(Debug, Drop)]
+#[derive(Drop)]
 pub struct Passed {
     pub prio: u32,
     pub message: Vec<u8>,

@@ -22,7 +22,7 @@ use schedules::ranked::Finding;
 use std::alloc::{AllocError, Global};
 
 /// Whether a history is linearizable.
-#[derive(Debug, Drop)]
+#[derive(Drop)]
 pub enum Answer {
     /// It is, and this is the text of a journal that explains it.
     Possible(Vec<u8>),
@@ -72,7 +72,7 @@ fn histories_of(alloc: Global, calls: Vec<Called>) -> Result<Vec<Vec<Operation>>
 }
 
 /// The result of checking a history.
-#[derive(Debug, Drop)]
+#[derive(Drop)]
 pub enum Judgement {
     /// It is linearizable, and this is the text of a journal that explains it.
     Possible {

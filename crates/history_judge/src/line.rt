@@ -21,7 +21,7 @@ use std::alloc::{AllocError, Global};
 use text_io::words::words;
 
 /// A call of a process with what it returned.
-#[derive(Debug, Drop)]
+#[derive(Drop)]
 pub struct Called {
     pub process: u32,
     pub operation: Operation,

@@ -13,7 +13,7 @@ use mq_model::faults::Fault;
 use std::alloc::{AllocError, Global};
 
 /// The first word of a reply that is not an error.
-#[derive(Clone, Copy, Debug, PartialEq, Eq)]
+#[derive(Clone, Copy, PartialEq, Eq)]
 pub enum Kind {
     Opened,
     Queued,

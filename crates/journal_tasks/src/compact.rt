@@ -24,7 +24,7 @@ use text_io::output::write_all;
 use text_io::sources::ByteSource;
 
 /// Why there is no short journal.
-#[derive(Clone, Copy, Debug, PartialEq, Eq)]
+#[derive(Clone, Copy)]
 pub enum NoShort {
     /// The entry with this sequence number is the first that is not legal.
     Illegal(u64),

@@ -10,7 +10,7 @@ use mq_model::limits::PROCESSES;
 
 /// How many entries a journal has, how many of the processes 1 to 32 have one, and how many queues
 /// they created.
-#[derive(Clone, Copy, Debug, PartialEq, Eq)]
+#[derive(Clone, Copy)]
 pub struct Counts {
     pub entries: u64,
     pub processes: u64,

@@ -30,7 +30,7 @@ use text_io::output::write_all;
 use text_io::sources::ByteSource;
 
 /// How the interleavings of a script are tried.
-#[derive(Clone, Copy, Debug, PartialEq, Eq)]
+#[derive(Clone, Copy)]
 pub struct Trial {
     /// If given, the journal of the outcome or deadlock with this number is written instead of the
     /// report.
@@ -46,7 +46,7 @@ pub const REPORT: Trial = Trial {
 };
 
 /// The result of trying all interleavings of a script.
-#[derive(Clone, Copy, Debug, PartialEq, Eq)]
+#[derive(Clone, Copy)]
 pub enum Ending {
     /// Every interleaving was tried, and none deadlocks.
     Well,

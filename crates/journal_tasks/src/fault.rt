@@ -12,7 +12,7 @@ use text_io::output::WriteFailed;
 
 /// Why a task on a journal or a history failed. It prints as the line that the program writes to
 /// standard error.
-#[derive(Clone, Copy, Debug, PartialEq, Eq)]
+#[derive(Clone, Copy, Debug)]
 pub enum LogFault {
     /// This line, counted from 1, is the first that is malformed: it is not the line of an entry or
     /// of a call of a history, or is too long for one.

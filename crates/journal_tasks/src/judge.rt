@@ -19,7 +19,7 @@ use text_io::output::write_all;
 use text_io::sources::ByteSource;
 
 /// How a history is checked.
-#[derive(Clone, Copy, Debug, PartialEq, Eq)]
+#[derive(Clone, Copy)]
 pub struct Question {
     /// Whether the journal that explains the history is written, too.
     pub journal: bool,

@@ -19,7 +19,7 @@ use text_io::output::write_all;
 use text_io::sources::ByteSource;
 
 /// Which state is wanted: after this number of entries, or after all, and in which form.
-#[derive(Clone, Copy, Debug, PartialEq, Eq)]
+#[derive(Clone, Copy)]
 pub struct Wanted {
     pub at: Option<u64>,
     pub form: Form,
@@ -32,7 +32,7 @@ pub const LAST: Wanted = Wanted {
 };
 
 /// Why a journal does not have the wanted state.
-#[derive(Clone, Copy, Debug, PartialEq, Eq)]
+#[derive(Clone, Copy)]
 pub enum NoState {
     /// It has only this number of entries.
     Beyond(u64),

@@ -11,7 +11,7 @@ use mq_state::replay::{Cause, Departure, replay};
 use std::alloc::{AllocError, Global};
 
 /// The verdict on a journal.
-#[derive(Clone, Copy, Debug, PartialEq, Eq)]
+#[derive(Clone, Copy)]
 pub enum Verdict {
     /// The journal is legal, and has these numbers of entries, processes and queues.
     Legal(Counts),

@@ -6,7 +6,7 @@ use journal_views::MOST_ENTRIES;
 use mq_model::journals::Journal;
 
 /// The entries from `from` to `to`, both included.
-#[derive(Clone, Copy, Debug, PartialEq, Eq)]
+#[derive(Clone, Copy)]
 pub struct Window {
     pub from: u64,
     pub to: u64,

@@ -16,7 +16,7 @@ pub struct Frame {
 }
 
 /// A straight line of a picture.
-#[derive(Clone, Copy, Debug, PartialEq, Eq)]
+#[derive(Clone, Copy, PartialEq, Eq)]
 pub struct Stroke {
     pub x1: u64,
     pub y1: u64,
@@ -25,7 +25,7 @@ pub struct Stroke {
 }
 
 /// The arrow of a message, whose send has the sequence number `sent`.
-#[derive(Clone, Copy, Debug, PartialEq, Eq)]
+#[derive(Clone, Copy, PartialEq, Eq)]
 pub struct Flight {
     pub stroke: Stroke,
     pub sender: Entry,

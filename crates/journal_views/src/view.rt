@@ -31,7 +31,7 @@ const MOST_VIEWED: u64 = 1_000_000;
 const MOST_PAGE: usize = 25_000_000;
 
 /// Whether a page was written.
-#[derive(Clone, Copy, Debug, PartialEq, Eq)]
+#[derive(Clone, Copy, PartialEq, Eq)]
 pub enum Viewed {
     /// It was written.
     Written,
@@ -40,7 +40,7 @@ pub enum Viewed {
 }
 
 /// Why no page was written.
-#[derive(Clone, Copy, Debug, PartialEq, Eq)]
+#[derive(Clone, Copy, PartialEq, Eq)]
 pub enum Unviewed {
     /// The journal could not be read.
     Unread(JournalFault),

@@ -17,7 +17,7 @@ use crate::seen::Seen;
 use std::alloc::{AllocError, Global};
 
 /// The outcome at a goal: the stage that the machine has reached, whether it is stuck, and a text.
-#[derive(Debug, Drop)]
+#[derive(Drop)]
 pub struct Outcome {
     pub stage: u64,
     pub stuck: bool,
@@ -45,14 +45,14 @@ pub trait EquivalentOutcomes: Observable + PersistentChoices {
 }
 
 /// An outcome, and a schedule that leads to it.
-#[derive(Debug, Drop)]
+#[derive(Drop)]
 pub struct Witnessed {
     pub outcome: Outcome,
     pub schedule: Vec<u32>,
 }
 
 /// The outcomes that were found, in order.
-#[derive(Debug, Drop)]
+#[derive(Drop)]
 pub struct Collected {
     pub found: Vec<Witnessed>,
     /// Whether every schedule was tried, so that there are no others.

@@ -14,7 +14,7 @@ use script_text::script::Script;
 use std::alloc::{AllocError, Global};
 
 /// What a line of a script makes its process do.
-#[derive(Clone, Copy, Debug)]
+#[derive(Clone, Copy)]
 pub enum Step {
     /// A call of the queues.
     Call(Call),
@@ -26,7 +26,7 @@ pub enum Step {
 
 /// A line of a script, with its phase, counted from 0. `given` is the name or the message of its
 /// call.
-#[derive(Debug, Drop)]
+#[derive(Drop)]
 pub struct Planned {
     pub phase: u64,
     pub line: u64,

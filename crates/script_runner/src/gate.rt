@@ -11,7 +11,7 @@ pub trait Gate {
 }
 
 /// The hook that does nothing.
-#[derive(Clone, Copy, Debug, Drop)]
+#[derive(Clone, Copy, Drop)]
 pub struct Plain;
 
 impl Gate for Plain {

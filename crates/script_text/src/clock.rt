@@ -6,7 +6,7 @@ use mq_model::clock::Clock;
 use mq_model::entries::Deadline;
 
 /// A clock that always returns the same time.
-#[derive(Clone, Copy, Debug, PartialEq, Eq)]
+#[derive(Clone, Copy, PartialEq, Eq)]
 pub struct FixedClock {
     pub moment: Deadline,
     ghost is_moment: { is_moment moment ≡ true },

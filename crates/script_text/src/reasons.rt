@@ -11,7 +11,7 @@ use std::fmt;
 use text_io::words::{count_of, small_number, words};
 
 /// Why a line of a script is malformed.
-#[derive(Clone, Copy, Debug, PartialEq, Eq)]
+#[derive(Clone, Copy, PartialEq, Eq)]
 pub enum Reason {
     /// There is another line where `processes N` belongs, or none.
     NoProcesses,

@@ -7,7 +7,7 @@ use mq_model::faults::Fault;
 use std::alloc::{AllocError, Global};
 
 /// What a call of a script returned.
-#[derive(Clone, Copy, Debug, PartialEq, Eq)]
+#[derive(Clone, Copy, PartialEq, Eq)]
 pub enum Outcome {
     Opened(u32),
     Done,

@@ -4,7 +4,7 @@ ghost use Rattle.script_text.specs.Verbs.{verb_written};
 
 /// The word for a kind of call. Scripts have no `collect` and no `withdraw`, and journals no
 /// `exit`.
-#[derive(Clone, Copy, Debug, PartialEq, Eq)]
+#[derive(Clone, Copy, PartialEq, Eq)]
 pub enum Verb {
     Open,
     Close,
