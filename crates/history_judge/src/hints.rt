@@ -1,9 +1,9 @@
 //! The hints: in which order the operations of a history are best tried.
 ghost use Rattle.std.specs.Prelude.{◌≡◌, ◌+◌, IfOk, OnOk, length};
 
-use crate::by_queue::order_of;
 use crate::tasks::tasks_of;
 use histories::operation::{Operation, Outcome};
+use schedules::likely::order_of;
 use std::alloc::{AllocError, Global};
 
 // The minimum number of steps of the heuristic, and the additional steps for each operation.

@@ -2,13 +2,10 @@
 //! linearizable.
 #![tactic(auto)]
 
-mod by_queue;
-pub mod contents;
 pub mod descriptors;
 mod first_contradiction;
 mod fitting;
 pub mod front;
-pub mod heuristic;
 pub mod hints;
 pub mod input;
 pub mod judgement;
@@ -20,6 +17,4 @@ pub mod renaming;
 pub mod said;
 pub mod tasks;
 pub mod text;
-pub mod tightening;
 pub mod well_formed;
-pub mod windows;

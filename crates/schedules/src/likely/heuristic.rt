@@ -2,10 +2,10 @@
 //!
 //! The order is a hint for the check of the history, whose result does not depend on it. Nothing is
 //! proved about it here, except that the search ends and is safe.
-use crate::contents::{Change, Queues, mixed};
-use crate::tasks::{Effect, Task, Tasks};
-use crate::tightening::tightened;
-use crate::windows::{Guess, Windows};
+use super::contents::{Change, Queues, mixed};
+use super::tightening::tightened;
+use super::windows::{Guess, Windows};
+use super::{Effect, Task, Tasks};
 use std::alloc::{AllocError, Global};
 use std::collections::HashSet;
 

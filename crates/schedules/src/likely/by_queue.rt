@@ -3,8 +3,8 @@
 //!
 //! They can be merged since linearizability is local (Herlihy and Wing, "Linearizability: A
 //! Correctness Condition for Concurrent Objects", 1990). Nothing is proved about the order here.
-use crate::heuristic::Heuristic;
-use crate::tasks::{Task, Tasks};
+use super::heuristic::Heuristic;
+use super::{Task, Tasks};
 use std::alloc::{AllocError, Global};
 
 // The maximum number of queues whose calls are ordered by themselves. Each costs a look at all

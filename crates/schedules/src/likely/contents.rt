@@ -1,5 +1,5 @@
 //! The contents of the queues of a history, as far as the heuristic tracks them.
-use crate::tasks::{Effect, Task};
+use super::{Effect, Task};
 use std::alloc::{AllocError, Global};
 
 // A queue: whether it is bound to its name, for how many messages it has room, and the priorities
