@@ -41,8 +41,8 @@ fn options_by(bounds: &[u8], budget: &[u8], time: &[u8], check: &[u8]) -> Option
     })
 }
 
-/// The options of an exploration: the line `explore MOST RUNS any|last RUNS` with the greatest bound,
-/// or `none` for no bounds, the budget, when deadlines pass, and the number of checks.
+/// The options of an exploration: the line `explore MOST RUNS any|last RUNS`. They are the greatest
+/// bound, or `none` for no bounds, the budget, when deadlines pass, and the number of checks.
 pub fn options_of(alloc: Global, line: &[u8]) -> Result<Option<Options>, AllocError> {
     let words = words(alloc, line)?;
     match words.as_slice() {
