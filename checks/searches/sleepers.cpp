@@ -1,0 +1,394 @@
+// Visits every reachable world of a few processes that acquire Lamport's lock and sleep while they
+// wait for it, and counts the dead ones: somebody sleeps, and everybody else sleeps or is at rest.
+//
+//   sleepers N PROTOCOL [--trace]
+//
+// N is 1 to 4. --trace prints the steps to the first dead world. The protocols:
+//   library      that of the library, in Rattle, without time-outs
+//   early        as library, but the process announces its sleep behind its last poll
+//   nostore      as library, but who wakes does not store 1 again for the others
+//   nochain      as library, but who wakes at a flag does not wake the next
+//   noown        as library, but who is about to sleep does not wake those at its own flag
+//   handles      that of c/wait.c, without time-outs
+//   unchained    as handles, but who announced at a flag and goes on wakes nobody there
+// In each of them a thread may also wake for no reason, but for handles.
+#include <array>
+#include <cstdint>
+#include <cstdio>
+#include <cstdlib>
+#include <cstring>
+#include <deque>
+#include <string>
+#include <unordered_map>
+#include <vector>
+
+namespace {
+
+constexpr int MOST = 4;
+
+// The lines of the algorithm, as in docs/lock.md. Scan + j is the scan of flag j + 1.
+enum Point : uint8_t {
+    Rest, SetX, TestY, BackB, AwaitY, Start, SetY, TestX, SlowB, SlowY, SlowAwait, Inside, Leaving, Scan
+};
+const char *const POINTS[] = {"Rest", "SetX", "TestY", "BackB", "AwaitY", "Start", "SetY", "TestX",
+    "SlowB", "SlowY", "SlowAwait", "Inside", "Leaving", "Scan1", "Scan2", "Scan3", "Scan4"};
+constexpr unsigned POINT_COUNT = Scan + MOST;
+
+// What the next step of a process does. Word 0 is the futex word of y, word j that of flag j.
+enum Phase : uint8_t {
+    Awake,      // a line of the algorithm, or begins to sleep
+    CheckOwn,   // loads the word of its own flag
+    ClearOwn,   // stores 0 there
+    WakeOwn,    // wakes one there
+    Count,      // adds 1 to the count of sleepers
+    Mark,       // stores 1 to the word on which it sleeps
+    Poll,       // the line again, the last before the sleep
+    Wait,       // sleeps if the word is 1
+    Asleep,
+    Uncount,    // subtracts 1 from the count
+    Remark,     // stores 1 for those that sleep on
+    CheckNext,  // loads the word of the flag
+    ClearNext,  // stores 0 there
+    WakeNext,   // wakes the next one there
+    ReadCount,  // behind the lock's last step: loads the count
+    CheckY, ClearY, WakeY,
+    CheckFlag, ClearFlag, WakeFlag,
+};
+const char *const PHASES[] = {"", "CheckOwn", "ClearOwn", "WakeOwn", "Count", "Mark", "Poll", "Wait",
+    "Asleep", "Uncount", "Remark", "CheckNext", "ClearNext", "WakeNext", "ReadCount", "CheckY",
+    "ClearY", "WakeY", "CheckFlag", "ClearFlag", "WakeFlag"};
+constexpr unsigned PHASE_COUNT = WakeFlag + 1;
+
+struct Process {
+    Point point;
+    Phase phase;
+    uint8_t word;
+    // 1 + the word at which the process has announced that it sleeps; 0: none (in C alone)
+    uint8_t announced;
+};
+
+struct World {
+    uint8_t x, y;
+    uint8_t flags;  // bit i of process i + 1
+    uint8_t marks;  // bit j of futex word j
+    std::array<Process, MOST> processes;
+};
+
+struct Protocol {
+    bool in_c, polls_first, restores, chains, wakes_own, goes_on;
+};
+
+Protocol protocol_of(const std::string &name)
+{
+    const bool in_c = name == "handles" || name == "unchained";
+    return {in_c, name == "early", name != "nostore", name != "nochain", name != "noown",
+        name == "handles"};
+}
+
+class Machine {
+public:
+    Machine(int count, Protocol protocol) : n(count), how(protocol) {}
+
+    // Each world has a number of its own.
+    uint64_t number(const World &w) const
+    {
+        uint64_t code = ((w.x * (MOST + 1ULL) + w.y) << MOST | w.flags) << (MOST + 1) | w.marks;
+        for (int i = 0; i < n; ++i) {
+            const Process &p = w.processes[i];
+            code = (code * POINT_COUNT + p.point) * PHASE_COUNT + p.phase;
+            code = (code * (MOST + 1) + p.word) * (MOST + 2) + p.announced;
+        }
+        return code;
+    }
+
+    bool is_dead(const World &w) const
+    {
+        bool somebody_sleeps = false;
+        for (int i = 0; i < n; ++i) {
+            const Process &p = w.processes[i];
+            if (p.phase == Asleep)
+                somebody_sleeps = true;
+            else if (p.phase != Awake || p.point != Rest)
+                return false;
+        }
+        return somebody_sleeps;
+    }
+
+    std::vector<World> next(const World &w, int i) const;
+    void print(const World &w) const;
+
+private:
+    const int n;
+    const Protocol how;
+
+    static bool is_up(const World &w, int word) { return w.marks >> word & 1; }
+    static int word_at(Point point) { return point >= Scan ? point - Scan + 1 : 0; }
+    int sleepers(const World &w) const;
+    bool advance(World &w, int i) const;
+    void awake(World w, int i, std::vector<World> &out) const;
+    void wake(const World &w, int i, int word, Phase then, std::vector<World> &out) const;
+    void woken(World w, int i, std::vector<World> &out) const;
+    void end_call(World &w, int i) const;
+};
+
+int Machine::sleepers(const World &w) const
+{
+    int count = 0;
+    for (int i = 0; i < n; ++i)
+        count += w.processes[i].phase >= Mark && w.processes[i].phase <= Uncount;
+    return count;
+}
+
+// The line of the algorithm at which process i + 1 is. False: it waits there.
+bool Machine::advance(World &w, int i) const
+{
+    const int me = i + 1;
+    Point &at = w.processes[i].point;
+    switch (at) {
+    case Rest:
+    case Start: w.flags |= 1 << i; at = SetX; return true;
+    case SetX: w.x = me; at = TestY; return true;
+    case TestY: at = w.y == 0 ? SetY : BackB; return true;
+    case BackB: w.flags &= ~(1 << i); at = AwaitY; return true;
+    case SetY: w.y = me; at = TestX; return true;
+    case TestX: at = w.x == me ? Inside : SlowB; return true;
+    case SlowB: w.flags &= ~(1 << i); at = Scan; return true;
+    case SlowY: at = w.y == me ? Inside : SlowAwait; return true;
+    case Inside: w.y = 0; at = Leaving; return true;
+    case Leaving: w.flags &= ~(1 << i); at = Rest; return true;
+    case AwaitY:
+    case SlowAwait:
+        if (w.y != 0)
+            return false;
+        at = Start;
+        return true;
+    default:
+        if (w.flags >> (at - Scan) & 1)
+            return false;
+        at = at - Scan + 1 == n ? SlowY : Point(at + 1);
+        return true;
+    }
+}
+
+// Process i + 1 wakes one that sleeps on the word, if there is any, and goes on.
+void Machine::wake(const World &w, int i, int word, Phase then, std::vector<World> &out) const
+{
+    const size_t before = out.size();
+    for (int k = 0; k < n; ++k)
+        if (w.processes[k].phase == Asleep && w.processes[k].word == word) {
+            out.push_back(w);
+            out.back().processes[k].phase = Uncount;
+            out.back().processes[i].phase = then;
+        }
+    if (out.size() == before) {
+        out.push_back(w);
+        out.back().processes[i].phase = then;
+    }
+}
+
+// The end of a call behind its departure. From C, who announced at a flag wakes the next one there.
+void Machine::end_call(World &w, int i) const
+{
+    Process &p = w.processes[i];
+    const bool owes = how.goes_on && p.announced > 1;
+    p.word = owes ? p.announced - 1 : 0;
+    p.phase = owes ? CheckNext : Awake;
+    p.announced = 0;
+}
+
+void Machine::awake(World w, int i, std::vector<World> &out) const
+{
+    Process &p = w.processes[i];
+    const Point before = p.point;
+    if (advance(w, i)) {
+        if (before == Leaving)
+            p.phase = how.in_c ? CheckY : ReadCount;
+        if (before == Leaving && !how.goes_on)
+            p.announced = 0;
+    } else if (how.goes_on && p.announced > 1 && p.announced - 1 != word_at(before)) {
+        p.word = p.announced - 1;
+        p.announced = 0;
+        p.phase = CheckNext;
+    } else {
+        p.word = word_at(before);
+        p.phase = CheckOwn;
+    }
+    out.push_back(w);
+}
+
+// What a process does that woke: it leaves a mark for those that sleep on.
+void Machine::woken(World w, int i, std::vector<World> &out) const
+{
+    Process &p = w.processes[i];
+    if (how.in_c) {
+        if (p.word == 0) {
+            w.marks |= 1;
+            p.phase = Awake;
+        } else {
+            p.phase = WakeNext;
+        }
+    } else if (sleepers(w) != 1 && how.restores) {
+        p.phase = Remark;
+    } else {
+        p.word = 0;
+        p.phase = Awake;
+    }
+    out.push_back(w);
+}
+
+// The worlds after a step of process i + 1.
+std::vector<World> Machine::next(const World &w, int i) const
+{
+    std::vector<World> out;
+    World to = w;
+    Process &p = to.processes[i];
+    const int word = p.word, own = i + 1;
+    const auto go = [&](Phase phase) { p.phase = phase; out.push_back(to); };
+    const auto rest = [&] { p.word = 0; go(Awake); };
+    switch (p.phase) {
+    case Awake: awake(w, i, out); break;
+    case CheckOwn: go(how.wakes_own && is_up(w, own) ? ClearOwn : Count); break;
+    case ClearOwn: to.marks &= ~(1 << own); go(WakeOwn); break;
+    case WakeOwn: wake(w, i, own, Count, out); break;
+    case Count:
+        if (how.in_c) {
+            const bool is_second = p.announced == word + 1;
+            if (is_second)
+                p.announced = 0;
+            go(is_second ? Wait : Mark);
+        } else {
+            go(how.polls_first ? Poll : Mark);
+        }
+        break;
+    case Mark:
+        to.marks |= 1 << word;
+        if (how.in_c) {
+            p.announced = word + 1;
+            rest();
+        } else {
+            go(how.polls_first ? Wait : Poll);
+        }
+        break;
+    case Poll: go(advance(to, i) ? Uncount : how.polls_first ? Mark : Wait); break;
+    case Wait: go(is_up(w, word) ? Asleep : Uncount); break;
+    case Asleep:
+        if (!how.in_c)
+            go(Uncount);
+        break;
+    case Uncount: woken(w, i, out); break;
+    case Remark:
+        to.marks |= 1 << word;
+        if (word == 0 || !how.chains)
+            rest();
+        else
+            go(CheckNext);
+        break;
+    case CheckNext:
+        if (is_up(w, word))
+            go(ClearNext);
+        else
+            rest();
+        break;
+    case ClearNext: to.marks &= ~(1 << word); go(WakeNext); break;
+    case WakeNext:
+        wake(w, i, word, Awake, out);
+        for (World &each : out)
+            each.processes[i].word = 0;
+        break;
+    case ReadCount: go(sleepers(w) == 0 ? Awake : CheckY); break;
+    case CheckY: go(is_up(w, 0) ? ClearY : CheckFlag); break;
+    case ClearY: to.marks &= ~1; go(WakeY); break;
+    case WakeY: wake(w, i, 0, CheckFlag, out); break;
+    case CheckFlag:
+        if (is_up(w, own))
+            p.phase = ClearFlag;
+        else
+            end_call(to, i);
+        out.push_back(to);
+        break;
+    case ClearFlag: to.marks &= ~(1 << own); go(WakeFlag); break;
+    case WakeFlag:
+        wake(w, i, own, Awake, out);
+        for (World &each : out)
+            end_call(each, i);
+        break;
+    }
+    return out;
+}
+
+void Machine::print(const World &w) const
+{
+    std::printf("  x=%d y=%d b=", w.x, w.y);
+    for (int i = 0; i < n; ++i)
+        std::printf("%d", w.flags >> i & 1);
+    std::printf(" words=");
+    for (int j = 0; j <= n; ++j)
+        std::printf("%d", w.marks >> j & 1);
+    for (int i = 0; i < n; ++i) {
+        const Process &p = w.processes[i];
+        std::printf("  %d:%s", i + 1, POINTS[p.point]);
+        if (p.phase != Awake)
+            std::printf("/%s(%d)", PHASES[p.phase], p.word);
+        if (p.announced != 0)
+            std::printf("[announced %d]", p.announced - 1);
+    }
+    std::printf("\n");
+}
+
+// The steps to a world, from the numbers of the worlds before each.
+void print_trace(const Machine &machine, const World &first, uint64_t last, int n,
+    const std::unordered_map<uint64_t, uint64_t> &before)
+{
+    std::vector<uint64_t> path = {last};
+    while (path.back() != machine.number(first))
+        path.push_back(before.at(path.back()));
+    World at = first;
+    machine.print(at);
+    for (size_t k = path.size() - 1; k-- > 0;) {
+        bool is_found = false;
+        for (int i = 0; i < n && !is_found; ++i)
+            for (const World &to : machine.next(at, i))
+                if (!is_found && machine.number(to) == path[k]) {
+                    std::printf("%d", i + 1);
+                    at = to;
+                    is_found = true;
+                }
+        machine.print(at);
+    }
+}
+
+}  // namespace
+
+int main(int argc, char **argv)
+{
+    const int n = argc > 2 ? std::atoi(argv[1]) : 0;
+    if (n < 1 || n > MOST) {
+        std::fprintf(stderr, "usage: sleepers N PROTOCOL [--trace]\n");
+        return 2;
+    }
+    const Machine machine(n, protocol_of(argv[2]));
+    const bool traces = argc > 3 && std::strcmp(argv[3], "--trace") == 0;
+    const World first = {};
+    std::unordered_map<uint64_t, uint64_t> before = {{machine.number(first), 0}};
+    std::deque<World> open = {first};
+    uint64_t worlds = 0, dead = 0, first_dead = 0;
+    while (!open.empty()) {
+        const World w = open.front();
+        const uint64_t number = machine.number(w);
+        open.pop_front();
+        ++worlds;
+        if (machine.is_dead(w) && dead++ == 0)
+            first_dead = number;
+        if (dead != 0 && traces)
+            break;
+        for (int i = 0; i < n; ++i)
+            for (const World &to : machine.next(w, i))
+                if (before.emplace(machine.number(to), number).second)
+                    open.push_back(to);
+    }
+    std::printf("%s n=%d worlds=%llu dead=%llu\n", argv[2], n, (unsigned long long)worlds,
+        (unsigned long long)dead);
+    if (dead != 0 && traces)
+        print_trace(machine, first, first_dead, n, before);
+    return 0;
+}
