@@ -1,4 +1,4 @@
-//! POSIX message queues inside one program, over a library whose every call is proved.
+//! POSIX message queues inside one program, over a library of proved calls.
 //!
 //! A [`System`] has 1 to 32 processes that share queues. A [`Process`] is a value: it moves to
 //! another thread, and one thread at a time makes its calls. A [`Queue`] is a queue that a process
