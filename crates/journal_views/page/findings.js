@@ -17,9 +17,13 @@ function waitFindings(journal, state) {
   const found = [];
   const ever = [...stuck].sort((a, b) => a - b);
   if (ever.length > 0) {
-    const waits = ever.length === 1 ? "waits" : "wait";
-    const text = `Deadlock: ${names(ever).toLowerCase()} ${waits} at the end, and nobody who could ` +
-      "answer runs.";
+    const waits = `${names(ever)} ${ever.length === 1 ? "waits" : "wait"} at the end`;
+    const free = [...state.processes.values()].filter((it) => it.wait === null);
+    const text = free.length === 0
+      ? `Deadlock: ${waits.toLowerCase()}, and nobody who could answer runs.`
+      : `${waits}, and nobody who has the ${ever.length === 1 ? "queue" : "queues"} open could ` +
+        `answer. Process ${few(free.map((it) => it.process))} runs, and would have to open ` +
+        `${ever.length === 1 ? "it" : "them"} first.`;
     found.push({ text, i: last, grave: true });
   }
   const others = [...state.processes.values()]
@@ -91,10 +95,11 @@ function errorFindings(journal) {
 function leftFindings(journal, state) {
   const left = [...state.queues.values()].flatMap((it) => it.messages.map((m) => m.place));
   if (left.length === 0) return [];
-  const inside = left.map((place) => place - journal.links.start).filter((i) => i >= 0);
+  const oldest = left.reduce((a, b) => Math.min(a, b));
+  const i = oldest - journal.links.start;
   const text = `${counted(left.length, "message")} ${left.length === 1 ? "lies" : "lie"} in the ` +
-    `queues at the end.${inside.length > 0 ? " The oldest:" : ""}`;
-  return [{ text, i: inside.length > 0 ? Math.min(...inside) : undefined }];
+    `queues at the end. The oldest${i < 0 ? `, ${oldest}, was sent before the window.` : ":"}`;
+  return [{ text, i: i < 0 ? undefined : i }];
 }
 
 function findingsOf(journal) {
@@ -103,5 +108,6 @@ function findingsOf(journal) {
   const found = [...waitFindings(journal, state), ...registrationFindings(journal, state),
     ...inversionFindings(journal), ...errorFindings(journal), ...leftFindings(journal, state)];
   return found.length > 0 ? found :
-    [{ text: "Nothing: every call succeeded, nobody waits at the end, and the queues are empty." }];
+    [{ text: "Nothing: no call failed, nobody waits at the end, and the queues are empty. Whether " +
+      "the replies are right, mqlog check tells." }];
 }

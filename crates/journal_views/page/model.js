@@ -155,16 +155,19 @@ function boundQueue(state, name) {
   return null;
 }
 
-function withoutPlace(list, place) {
-  return list.filter((it) => it.place !== place);
+// Takes what has this place out of a list.
+function removePlace(list, place) {
+  const at = list.findIndex((it) => it.place === place);
+  if (at >= 0) list.splice(at, 1);
 }
 
 // Adds a message where it will be received: by priority, then by the place of its send.
 function addMessage(queue, message) {
   const first = (it) => it.priority > message.priority ||
     (it.priority === message.priority && it.place < message.place);
-  const at = queue.messages.findIndex((it) => !first(it));
-  queue.messages.splice(at < 0 ? queue.messages.length : at, 0, message);
+  let at = queue.messages.length;
+  while (at > 0 && !first(queue.messages[at - 1])) at -= 1;
+  queue.messages.splice(at, 0, message);
 }
 
 // Lets queues go that have no name and that nobody holds.
@@ -238,13 +241,13 @@ function answer(state, place, by) {
 
 function followMessages(state, entry, queue) {
   const message = taken(entry);
-  if (message !== null) queue.messages = withoutPlace(queue.messages, message);
+  if (message !== null) removePlace(queue.messages, message);
   const wait = endedWait(entry);
   if (wait === null) return;
   const sender = queue.senders.find((it) => it.place === wait);
   if (sender && entry.reply === "got") addMessage(queue, sender);
-  queue.senders = withoutPlace(queue.senders, wait);
-  queue.receivers = withoutPlace(queue.receivers, wait);
+  removePlace(queue.senders, wait);
+  removePlace(queue.receivers, wait);
   if (entry.reply !== "withdrawn") answer(state, wait, entry.place);
 }
 
@@ -305,19 +308,34 @@ function followGiven(entry, process) {
   if (entry.got[0] !== "none") process.notices.shift();
 }
 
-// The states of a journal: a copy is kept each so many entries, and the others are computed.
+// How many entries there are at least between two copies of a state, and how many of its messages
+// count as one entry: a copy of a long state is dear, and few of them are kept.
+const LEAST_APART = 50;
+const MESSAGES_AN_ENTRY = 32;
+
+function messagesIn(state) {
+  return [...state.queues.values()].reduce((sum, it) => sum + it.messages.length, 0);
+}
+
+// The states of a journal: copies of some are kept, and the others are computed from these.
 class States {
   constructor(entries, before) {
     this.entries = entries;
-    this.apart = Math.max(50, Math.ceil(entries.length / 2000));
     this.kept = [];
+    // The number of entries before each copy.
+    this.places = [];
     const state = before ? stateOf(before) : emptyState();
     if (!before && entries.length > 0) state.entries = entries[0].place;
     // The queue of each entry, and the names of all queues.
     this.queues = [];
     this.names = new Map([...state.queues].map(([q, it]) => [q, it.name]));
-    for (let k = 0; k <= entries.length; k += 1) {
-      if (k % this.apart === 0) this.kept.push(copyOf(state));
+    const least = Math.max(LEAST_APART, Math.ceil(entries.length / 2000));
+    for (let k = 0, next = 0; k <= entries.length; k += 1) {
+      if (k >= next) {
+        this.kept.push(copyOf(state));
+        this.places.push(k);
+        next = k + Math.max(least, Math.ceil(messagesIn(state) / MESSAGES_AN_ENTRY));
+      }
       if (k < entries.length) this.note(state, entries[k]);
     }
   }
@@ -334,9 +352,14 @@ class States {
 
   // The state before the k-th entry of the page.
   at(k) {
-    const nearest = Math.floor(k / this.apart);
-    const state = copyOf(this.kept[nearest]);
-    for (let i = nearest * this.apart; i < k; i += 1) follow(state, this.entries[i]);
+    let [low, high] = [0, this.places.length];
+    while (high - low > 1) {
+      const middle = Math.floor((low + high) / 2);
+      if (this.places[middle] <= k) low = middle;
+      else high = middle;
+    }
+    const state = copyOf(this.kept[low]);
+    for (let i = this.places[low]; i < k; i += 1) follow(state, this.entries[i]);
     return state;
   }
 }

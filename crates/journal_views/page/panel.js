@@ -26,7 +26,7 @@ function replyText(entry) {
   const texts = {
     queued: "the message is put into the queue", waits: `${full}, so it waits`,
     handed: `the message goes to the receive ${got[0]}, which waited`,
-    got: `it gets message ${got[0]}`, collected: `entry ${got[0]} served it`,
+    got: `it gets message ${got[0]}`, collected: `entry ${got[0]} answered it`,
     withdrawn: `of entry ${got[0]}`,
     fd: `as descriptor ${got[0]}${got[1] ? ", and creates it" : ""}`,
     notice: got[0] === "none" ? "there is none" : `its value is ${got[0]}`,
@@ -216,8 +216,8 @@ function waitStories(page, i, after) {
   const parts = [element("h2", "Who waits, and why?")];
   if (stuck.size > 0) {
     const list = [...stuck].sort((a, b) => a - b).join(", ");
-    const text = `Deadlock: nobody who could answer ${list} runs. ` +
-      "Only a process that opens the queue anew can end this.";
+    const text = `Nobody who has the queue open and could answer ${list} runs. ` +
+      "Only a process that opens the queue can end this.";
     parts.push(element("p", text, { className: "grave" }));
   }
   for (const it of waiting) {

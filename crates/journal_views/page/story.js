@@ -239,7 +239,8 @@ function waitText(journal, state, p, wait) {
   const what = wait.sends ? "room in" : "a message in";
   const who = couldAnswer(state, wait, p);
   const could = wait.sends ? "could receive from it" : "could send to it";
-  const list = who.length === 0 ? "No other process" : `Of the others, ${who.join(", ")}`;
+  const list = who.length === 0 ? "No other process" :
+    `${who.length === 1 ? "Process" : "Processes"} ${who.join(", ")}`;
   return `Process ${p} waits for ${what} ${queueName(wait.queue)} since entry ${wait.place}. ` +
     `${list} ${could}.`;
 }

@@ -252,16 +252,19 @@ function boundQueue(state, name) {
   return null;
 }
 
-function withoutPlace(list, place) {
-  return list.filter((it) => it.place !== place);
+// Takes what has this place out of a list.
+function removePlace(list, place) {
+  const at = list.findIndex((it) => it.place === place);
+  if (at >= 0) list.splice(at, 1);
 }
 
 // Adds a message where it will be received: by priority, then by the place of its send.
 function addMessage(queue, message) {
   const first = (it) => it.priority > message.priority ||
     (it.priority === message.priority && it.place < message.place);
-  const at = queue.messages.findIndex((it) => !first(it));
-  queue.messages.splice(at < 0 ? queue.messages.length : at, 0, message);
+  let at = queue.messages.length;
+  while (at > 0 && !first(queue.messages[at - 1])) at -= 1;
+  queue.messages.splice(at, 0, message);
 }
 
 // Lets queues go that have no name and that nobody holds.
@@ -335,13 +338,13 @@ function answer(state, place, by) {
 
 function followMessages(state, entry, queue) {
   const message = taken(entry);
-  if (message !== null) queue.messages = withoutPlace(queue.messages, message);
+  if (message !== null) removePlace(queue.messages, message);
   const wait = endedWait(entry);
   if (wait === null) return;
   const sender = queue.senders.find((it) => it.place === wait);
   if (sender && entry.reply === "got") addMessage(queue, sender);
-  queue.senders = withoutPlace(queue.senders, wait);
-  queue.receivers = withoutPlace(queue.receivers, wait);
+  removePlace(queue.senders, wait);
+  removePlace(queue.receivers, wait);
   if (entry.reply !== "withdrawn") answer(state, wait, entry.place);
 }
 
@@ -402,19 +405,34 @@ function followGiven(entry, process) {
   if (entry.got[0] !== "none") process.notices.shift();
 }
 
-// The states of a journal: a copy is kept each so many entries, and the others are computed.
+// How many entries there are at least between two copies of a state, and how many of its messages
+// count as one entry: a copy of a long state is dear, and few of them are kept.
+const LEAST_APART = 50;
+const MESSAGES_AN_ENTRY = 32;
+
+function messagesIn(state) {
+  return [...state.queues.values()].reduce((sum, it) => sum + it.messages.length, 0);
+}
+
+// The states of a journal: copies of some are kept, and the others are computed from these.
 class States {
   constructor(entries, before) {
     this.entries = entries;
-    this.apart = Math.max(50, Math.ceil(entries.length / 2000));
     this.kept = [];
+    // The number of entries before each copy.
+    this.places = [];
     const state = before ? stateOf(before) : emptyState();
     if (!before && entries.length > 0) state.entries = entries[0].place;
     // The queue of each entry, and the names of all queues.
     this.queues = [];
     this.names = new Map([...state.queues].map(([q, it]) => [q, it.name]));
-    for (let k = 0; k <= entries.length; k += 1) {
-      if (k % this.apart === 0) this.kept.push(copyOf(state));
+    const least = Math.max(LEAST_APART, Math.ceil(entries.length / 2000));
+    for (let k = 0, next = 0; k <= entries.length; k += 1) {
+      if (k >= next) {
+        this.kept.push(copyOf(state));
+        this.places.push(k);
+        next = k + Math.max(least, Math.ceil(messagesIn(state) / MESSAGES_AN_ENTRY));
+      }
       if (k < entries.length) this.note(state, entries[k]);
     }
   }
@@ -431,9 +449,14 @@ class States {
 
   // The state before the k-th entry of the page.
   at(k) {
-    const nearest = Math.floor(k / this.apart);
-    const state = copyOf(this.kept[nearest]);
-    for (let i = nearest * this.apart; i < k; i += 1) follow(state, this.entries[i]);
+    let [low, high] = [0, this.places.length];
+    while (high - low > 1) {
+      const middle = Math.floor((low + high) / 2);
+      if (this.places[middle] <= k) low = middle;
+      else high = middle;
+    }
+    const state = copyOf(this.kept[low]);
+    for (let i = this.places[low]; i < k; i += 1) follow(state, this.entries[i]);
     return state;
   }
 }
@@ -726,7 +749,8 @@ function waitText(journal, state, p, wait) {
   const what = wait.sends ? "room in" : "a message in";
   const who = couldAnswer(state, wait, p);
   const could = wait.sends ? "could receive from it" : "could send to it";
-  const list = who.length === 0 ? "No other process" : `Of the others, ${who.join(", ")}`;
+  const list = who.length === 0 ? "No other process" :
+    `${who.length === 1 ? "Process" : "Processes"} ${who.join(", ")}`;
   return `Process ${p} waits for ${what} ${queueName(wait.queue)} since entry ${wait.place}. ` +
     `${list} ${could}.`;
 }
@@ -756,9 +780,13 @@ function waitFindings(journal, state) {
   const found = [];
   const ever = [...stuck].sort((a, b) => a - b);
   if (ever.length > 0) {
-    const waits = ever.length === 1 ? "waits" : "wait";
-    const text = `Deadlock: ${names(ever).toLowerCase()} ${waits} at the end, and nobody who could ` +
-      "answer runs.";
+    const waits = `${names(ever)} ${ever.length === 1 ? "waits" : "wait"} at the end`;
+    const free = [...state.processes.values()].filter((it) => it.wait === null);
+    const text = free.length === 0
+      ? `Deadlock: ${waits.toLowerCase()}, and nobody who could answer runs.`
+      : `${waits}, and nobody who has the ${ever.length === 1 ? "queue" : "queues"} open could ` +
+        `answer. Process ${few(free.map((it) => it.process))} runs, and would have to open ` +
+        `${ever.length === 1 ? "it" : "them"} first.`;
     found.push({ text, i: last, grave: true });
   }
   const others = [...state.processes.values()]
@@ -830,10 +858,11 @@ function errorFindings(journal) {
 function leftFindings(journal, state) {
   const left = [...state.queues.values()].flatMap((it) => it.messages.map((m) => m.place));
   if (left.length === 0) return [];
-  const inside = left.map((place) => place - journal.links.start).filter((i) => i >= 0);
+  const oldest = left.reduce((a, b) => Math.min(a, b));
+  const i = oldest - journal.links.start;
   const text = `${counted(left.length, "message")} ${left.length === 1 ? "lies" : "lie"} in the ` +
-    `queues at the end.${inside.length > 0 ? " The oldest:" : ""}`;
-  return [{ text, i: inside.length > 0 ? Math.min(...inside) : undefined }];
+    `queues at the end. The oldest${i < 0 ? `, ${oldest}, was sent before the window.` : ":"}`;
+  return [{ text, i: i < 0 ? undefined : i }];
 }
 
 function findingsOf(journal) {
@@ -842,7 +871,8 @@ function findingsOf(journal) {
   const found = [...waitFindings(journal, state), ...registrationFindings(journal, state),
     ...inversionFindings(journal), ...errorFindings(journal), ...leftFindings(journal, state)];
   return found.length > 0 ? found :
-    [{ text: "Nothing: every call succeeded, nobody waits at the end, and the queues are empty." }];
+    [{ text: "Nothing: no call failed, nobody waits at the end, and the queues are empty. Whether " +
+      "the replies are right, mqlog check tells." }];
 }
 
 // The picture: time from left to right, a lane for each process.
@@ -1190,7 +1220,7 @@ function replyText(entry) {
   const texts = {
     queued: "the message is put into the queue", waits: `${full}, so it waits`,
     handed: `the message goes to the receive ${got[0]}, which waited`,
-    got: `it gets message ${got[0]}`, collected: `entry ${got[0]} served it`,
+    got: `it gets message ${got[0]}`, collected: `entry ${got[0]} answered it`,
     withdrawn: `of entry ${got[0]}`,
     fd: `as descriptor ${got[0]}${got[1] ? ", and creates it" : ""}`,
     notice: got[0] === "none" ? "there is none" : `its value is ${got[0]}`,
@@ -1380,8 +1410,8 @@ function waitStories(page, i, after) {
   const parts = [element("h2", "Who waits, and why?")];
   if (stuck.size > 0) {
     const list = [...stuck].sort((a, b) => a - b).join(", ");
-    const text = `Deadlock: nobody who could answer ${list} runs. ` +
-      "Only a process that opens the queue anew can end this.";
+    const text = `Nobody who has the queue open and could answer ${list} runs. ` +
+      "Only a process that opens the queue can end this.";
     parts.push(element("p", text, { className: "grave" }));
   }
   for (const it of waiting) {
