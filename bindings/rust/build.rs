@@ -1,6 +1,7 @@
 //! Links the proved library, `libyakyrombe.a`. The build looks for it, in this order, in the folder
 //! that `YAKYROMBE_LIB` names, in the folder that pkg-config names, in `lib` of the crate, and in
-//! `lib` of the repository or archive that has the crate as `bindings/rust`.
+//! `lib` of the repository or archive that has the crate as `bindings/rust`. Without it the crate can
+//! be checked, documented and packed, and warnings say what a program needs to be linked.
 
 use std::env;
 use std::path::{Path, PathBuf};
@@ -23,9 +24,19 @@ fn main() {
             // The feature `model` looks for yak-explore there.
             println!("cargo:rustc-env=YAKYROMBE_FOLDER={}", folder.display());
         }
-        Err(why) => {
+        Err(why) if env::var_os(FOLDER).is_some() => {
             eprintln!("{why}");
             exit(1);
+        }
+        Err(why) => {
+            for line in why.lines() {
+                println!("cargo:warning={line}");
+            }
+            // The script runs again until the library is there.
+            for folder in own_folders() {
+                println!("cargo:rerun-if-changed={}", folder.join(LIBRARY).display());
+            }
+            println!("cargo:rustc-env=YAKYROMBE_FOLDER=");
         }
     }
 }
@@ -46,7 +57,7 @@ fn find() -> Result<PathBuf, String> {
     }
     let [lib, above] = own.map(|it| it.display().to_string());
     Err(format!(
-        "{LIBRARY} is not there. One of these helps:\n\
+        "{LIBRARY} is not there, so no program can be linked. One of these helps:\n\
          - unpack a release of Yakyrombe, or build it by checks/c_library at the top of its \
          repository, and name its folder lib: \
          {FOLDER}=/path/to/lib cargo build\n\
