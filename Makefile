@@ -1,8 +1,9 @@
 # make                                     prints this
 # make install PREFIX=/usr/local DESTDIR=  installs the programs, the tools yak-run, yak-seeds,
-#                                          yak-explore and yak-record, the libraries and headers for
-#                                          C, the manual, the pages, and the completion for bash
+#                                          yak-explore and yak-record, mqbench, the libraries and
+#                                          headers for C, the manual, the pages, and the completion for bash
 # make uninstall PREFIX=/usr/local         removes what install has installed
+# make bench                               builds lib/mqbench, which measures calls
 # make dist                                writes dist/yakyrombe-VERSION-linux-x86_64.tar.gz
 # make deb                                 writes Debian packages into dist
 # make clean                               removes what make has built, but not the proved libraries
@@ -24,14 +25,14 @@ COMPLETIONSDIR ?= $(PREFIX)/share/bash-completion/completions
 DESTDIR ?=
 LIB ?= $(CURDIR)/lib
 VERSION := $(shell cat VERSION)
-PROGRAMS = mqrun mqlog mqbench
+PROGRAMS = mqrun mqlog
 TOOLS = run seeds record
 RECORDER = libyakyrombe-record.so
 # The engine that tells yak-explore what to run next, if it is built.
 ENGINE = $(wildcard crates/mqexplore/out/mqexplore)
 ENGINEDIR = $(LIBEXECDIR)/yakyrombe
-MANUAL = $(PROGRAMS:%=%.1) $(TOOLS:%=yak-%.1) yak-explore.1
-COMPLETED = $(filter mqbench,$(PROGRAMS)) $(TOOLS:%=yak-%) yak-explore
+MANUAL = $(PROGRAMS:%=%.1) $(TOOLS:%=yak-%.1) yak-explore.1 mqbench.1
+COMPLETED = mqbench $(TOOLS:%=yak-%) yak-explore
 COMPLETIONS = $(filter mqlog,$(PROGRAMS)) $(COMPLETED)
 DOCS = $(wildcard docs/*)
 EXAMPLES = $(wildcard examples/c/*.c)
@@ -52,14 +53,24 @@ $(LIB)/$(RECORDER): tools/recorder/record.c
 	@mkdir -p $(@D)
 	$(CC) $(CFLAGS) $(LDFLAGS) -shared -fPIC -Wl,-soname,$(RECORDER) -o $@ $< -ldl -lrt
 
+# The benchmark, by the handles of yakyrombe.h.
+$(LIB)/mqbench: $(wildcard tools/bench/*.[ch]) $(LIB)/libyakyrombe.a
+	$(CC) $(CFLAGS) $(LDFLAGS) -std=gnu11 -Wall -Wextra -Iinclude \
+	  -DYAK_BENCH_VERSION='"$(VERSION)"' tools/bench/*.c $(LIB)/libyakyrombe.a -lpthread -lm -o $@
+
+$(LIB)/libyakyrombe.a:
+	$(MAKE) -C c $@ LIB='$(LIB)'
+
 install: $(foreach it,$(PROGRAMS),crates/$(it)/out/$(it)) $(LIB)/$(RECORDER)
 	$(MAKE) -C c install LIB='$(LIB)'
+	$(MAKE) $(LIB)/mqbench LIB='$(LIB)'
 	$(INSTALL) -d $(DESTDIR)$(BINDIR) $(DESTDIR)$(LIBDIR) $(DESTDIR)$(MANDIR)/man1 \
 	  $(DESTDIR)$(DOCDIR)/docs $(DESTDIR)$(DOCDIR)/examples/c $(DESTDIR)$(COMPLETIONSDIR) \
 	  $(DESTDIR)$(DOCDIR)/examples/journals
 	for program in $(PROGRAMS); do \
 	  $(INSTALL) -m 755 crates/$$program/out/$$program $(DESTDIR)$(BINDIR) || exit 1; \
 	done
+	$(INSTALL) -m 755 $(LIB)/mqbench $(DESTDIR)$(BINDIR)
 	for tool in $(TOOLS); do \
 	  sed -e 's|^libraries=.*|libraries=$$here/$(NEAR)|' -e 's|^version=.*|version=$(VERSION)|' \
 	    -e 's|^LIBRARIES = .*|LIBRARIES = f"{HERE}/$(NEAR)"|' \
@@ -92,6 +103,7 @@ install: $(foreach it,$(PROGRAMS),crates/$(it)/out/$(it)) $(LIB)/$(RECORDER)
 
 uninstall:
 	rm -f $(PROGRAMS:%=$(DESTDIR)$(BINDIR)/%) $(TOOLS:%=$(DESTDIR)$(BINDIR)/yak-%) \
+	  $(DESTDIR)$(BINDIR)/mqbench \
 	  $(DESTDIR)$(BINDIR)/yak-explore $(DESTDIR)$(ENGINEDIR)/mqexplore \
 	  $(DESTDIR)$(LIBDIR)/$(RECORDER) $(MANUAL:%=$(DESTDIR)$(MANDIR)/man1/%) \
 	  $(COMPLETIONS:%=$(DESTDIR)$(COMPLETIONSDIR)/%) \
@@ -105,6 +117,8 @@ uninstall:
 	done
 	$(MAKE) -C c uninstall LIB='$(LIB)'
 
+bench: $(LIB)/mqbench
+
 dist:
 	tools/dist
 
@@ -113,6 +127,6 @@ deb:
 
 clean:
 	$(MAKE) -C c clean LIB='$(LIB)'
-	rm -rf $(LIB)/$(RECORDER) dist
+	rm -rf $(LIB)/$(RECORDER) $(LIB)/mqbench dist
 
-.PHONY: help install uninstall dist deb clean
+.PHONY: help install uninstall bench dist deb clean

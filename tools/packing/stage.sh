@@ -33,7 +33,7 @@ install_to_room() {
   logic=$(logic_of "$room/tree$libraries/libyakyrombe.a")
   [ -n "$logic" ] || stop "lib/libyakyrombe.a does not say by which logic it was proved"
   grep -q "logic ${logic:0:16}" README.md || stop "README.md does not name the logic $logic"
-  for file in bin/mqrun bin/mqlog bin/mqbench libexec/yakyrombe/mqexplore; do
+  for file in bin/mqrun bin/mqlog libexec/yakyrombe/mqexplore; do
     [ "$file" != libexec/yakyrombe/mqexplore ] || [ -e "$room/tree$prefix/$file" ] || continue
     [[ $(logic_of "$room/tree$prefix/$file") == "$logic" ]] \
       || stop "$file does not say that it was proved by the logic of lib/libyakyrombe.a: $logic"

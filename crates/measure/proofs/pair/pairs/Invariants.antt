@@ -1,0 +1,5 @@
+use Rattle.measure.specs.Ready.{IsReady}
+use Rattle.measure.proofs.pair.pairs.Given as goal
+
+abbrev pub invariant-loop : goal.invariant-loop
+invariant-loop g l = IsReady l.mq l.process

@@ -1,5 +1,0 @@
-use Rattle.mqbench.specs.Ready.{IsReady}
-use Rattle.mqbench.proofs.alone.fill.Given as goal
-
-abbrev pub invariant-loop : goal.invariant-loop
-invariant-loop g l = IsReady l.mq l.process

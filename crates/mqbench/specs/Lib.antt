@@ -1,5 +1,0 @@
-pub mod Faults
-pub mod Grammar
-pub mod Sizes
-pub mod Usage
-pub mod Ready
