@@ -1,6 +1,6 @@
 /* Two tellers move money between two accounts, each in the other direction. An account is a queue
- * with one message, its balance: whoever has received it has the account alone. The program almost
- * always ends, and hangs if each teller takes its first account before the other takes its second.
+ * with one message, its balance: whoever has received it has the account alone. The program usually
+ * ends, and hangs if each teller takes its first account before the other takes its second.
  * With the argument `ordered` both take the accounts in one order, and it always ends. */
 #include <fcntl.h>
 #include <mqueue.h>
