@@ -19,7 +19,10 @@ enum {
     MIDDLE = 1 << 18,
     MIDDLE_CLASSES = 8,
     HEAD = 16,
-    PAGE = 4096,
+    /* Kernels have pages of 4, 16 or 64 KiB: ranges begin and end at a multiple of the largest, and
+     * a touch in each of the smallest touches all of them. */
+    LARGEST_PAGE = 1 << 16,
+    SMALLEST_PAGE = 1 << 12,
     /* A part is opened by at least this much, and by half of what is open, up to a limit. */
     LEAST_OPENED = 1 << 20,
     MOST_OPENED = 64 << 20,
@@ -35,7 +38,7 @@ static size_t followed[ARENA_PARTS];
 
 static size_t whole_pages(size_t size)
 {
-    return (size + PAGE - 1) & ~(size_t)(PAGE - 1);
+    return (size + LARGEST_PAGE - 1) & ~(size_t)(LARGEST_PAGE - 1);
 }
 
 static void begin_space(unsigned space)
@@ -152,7 +155,7 @@ bool arena_return(char *at, char *again, size_t tables)
 
 void arena_touch(void *from, size_t size)
 {
-    for (char *at = from; at < (char *)from + size; at += PAGE)
+    for (char *at = from; at < (char *)from + size; at += SMALLEST_PAGE)
         __atomic_fetch_or(at, 0, __ATOMIC_RELAXED);
 }
 
@@ -233,7 +236,7 @@ static void give(void *block)
     /* Large blocks return their pages. */
     if (size > MIDDLE) {
         char *from = (char *)whole_pages((uintptr_t)block + sizeof(void *)),
-             *to = (char *)(((uintptr_t)block + size) & ~(uintptr_t)(PAGE - 1));
+             *to = (char *)(((uintptr_t)block + size) & ~(uintptr_t)(LARGEST_PAGE - 1));
         madvise(from, (size_t)(to - from), MADV_REMOVE);
     }
     *(void **)block = space->free[class];

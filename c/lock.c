@@ -67,9 +67,12 @@ void program_tell_forked(bool is_inside)
 
 void program_meet_thread(void)
 {
+    /* For a kernel without robust lists, as qemu-user is: there nobody is told of a death. */
+    static _Thread_local struct robust_list_head no_list;
     struct robust_list_head *head = 0;
     size_t size;
-    syscall(SYS_get_robust_list, 0, &head, &size);
+    if (syscall(SYS_get_robust_list, 0, &head, &size) != 0 || head == 0)
+        head = &no_list;
     program_thread.pending = (void *volatile *)&head->list_op_pending;
     program_thread.number = (int)syscall(SYS_gettid);
 }
