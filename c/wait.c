@@ -187,6 +187,14 @@ static void end_call(yak_process *process)
         wake(&process->futex_words[YAK_ANSWER_WORD_ + 1 + __builtin_ctz(left)]);
 }
 
+/* Once the tries of a call have gone on from the flag at which they announced a sleep, wakes the
+ * next one there, since nobody may come to lower that flag again. */
+static void go_on(yak_process *process, unsigned tries)
+{
+    if (SELDOM(tries > YAK_SPINS_ + 1))
+        wake(&process->futex_words[tries - YAK_SPINS_ - 1]);
+}
+
 /* Passes the time before the next try of a call: pauses, and after some tries announces that the
  * process sleeps. If the next try fails too, and for the same reason, it sleeps, and begins anew.
  * A process that wakes from a sleep for the lock announces the next sleep for those that sleep on,
@@ -201,6 +209,7 @@ static __attribute__((noinline)) void rest(yak_process *process, unsigned *tries
     wake(&process->futex_words[process->number]); /* its own flag, which the last try may have
                                                      lowered */
     if (*tries != YAK_SPINS_ + 1 + futex_word) {
+        go_on(process, *tries);
         *tries = YAK_SPINS_ + 1 + futex_word;
         announce(&process->futex_words[futex_word]);
         return;
@@ -223,6 +232,7 @@ static __attribute__((noinline)) void rest(yak_process *process, unsigned *tries
         begin_call(process);                                            \
         while ((answer_ = yak_proved_##name(__VA_ARGS__)) == YAK_RETRY) \
             rest(process, &tries_);                                     \
+        go_on(process, tries_);                                         \
         end_call(process);                                              \
         return answer_;                                                 \
     }
@@ -426,6 +436,7 @@ uint32_t yak_send_on_(yak_process *process, uint32_t d, const uint8_t *bytes, si
         rest(process, &tries);
         answer = yak_proved_start_send(process, d, bytes, len, prio);
     }
+    go_on(process, tries);
     end_call(process);
     return answer == YAK_WAITS ? await_end(process, &it) : answer;
 }
@@ -439,6 +450,7 @@ uint32_t yak_receive_on_(yak_process *process, uint32_t d, uint8_t *buf, size_t 
         rest(process, &tries);
         answer = yak_proved_start_receive(process, d, buf, len, message);
     }
+    go_on(process, tries);
     end_call(process);
     return answer == YAK_WAITS ? await_end(process, &it) : answer;
 }
