@@ -8,6 +8,7 @@
 #include <fcntl.h>
 #include <string.h>
 #include <sys/eventfd.h>
+#include <sys/syscall.h>
 #include <unistd.h>
 
 typedef struct polled {
@@ -32,9 +33,9 @@ static void renew(uint32_t d)
     if (answer == YAK_DONE && (attributes.curmsgs > 0) != it->is_raised) {
         it->is_raised = !it->is_raised;
         if (it->is_raised)
-            (void)!write(it->file, &count, sizeof count);
+            syscall(SYS_write, it->file, &count, sizeof count);
         else
-            (void)!read(it->file, &count, sizeof count);
+            syscall(SYS_read, it->file, &count, sizeof count);
     }
     errno = error;
 }
@@ -71,7 +72,7 @@ void program_drop_poll(uint32_t d)
 {
     if (!all[d].is_there)
         return;
-    close(all[d].file);
+    syscall(SYS_close, all[d].file);
     all[d].is_there = false;
     --program_here->me->polls;
     --the_program.polls;
