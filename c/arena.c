@@ -5,19 +5,22 @@
 #include "memory.h"
 
 #include <fcntl.h>
+#include <stdatomic.h>
 #include <string.h>
 #include <sys/mman.h>
+#include <sys/resource.h>
 #include <unistd.h>
 
 /* Blocks of a class have one size: steps of 16 bytes up to 1 KiB, powers of two up to 256 KiB, and
  * powers of eight above, because untouched pages cost nothing, and a growing vector is then seldom
- * copied. The class precedes each block. */
+ * copied. A head precedes each block. */
 enum {
     STEP = 16,
     SMALL = 1024,
     SMALL_CLASSES = SMALL / STEP,
     MIDDLE = 1 << 18,
     MIDDLE_CLASSES = 8,
+    LARGE_CLASS = SMALL_CLASSES + MIDDLE_CLASSES, /* the first of the large blocks */
     HEAD = 16,
     /* Kernels have pages of 4, 16 or 64 KiB: ranges begin and end at a multiple of the largest, and
      * a touch in each of the smallest touches all of them. */
@@ -25,12 +28,20 @@ enum {
     SMALLEST_PAGE = 1 << 12,
     /* A part is opened by at least this much, and by half of what is open, up to a limit. */
     LEAST_OPENED = 1 << 20,
+    LEAST = 48 << 20, /* of an arena */
     MOST_OPENED = 64 << 20,
-    /* An abandoned space keeps the pages of this many bytes. */
-    KEPT_PAGES = 1 << 20,
-    /* So many bytes of the space are touched at the first call. */
+    /* A part whose contents are dropped keeps the pages of this many bytes. */
+    KEPT_PAGES = 4 << 20,
+    /* So many bytes of small blocks are touched at the first call. */
     TOUCHED = 1 << 17
 };
+
+/* What precedes a block. The others are only those of large blocks. */
+typedef struct head {
+    uint32_t class;
+    uint32_t is_free;
+    size_t size; /* as it was asked for: what follows is untouched */
+} head;
 
 arena *arena_here;
 /* How much of each part this process can access. */
@@ -41,11 +52,12 @@ static size_t whole_pages(size_t size)
     return (size + LARGEST_PAGE - 1) & ~(size_t)(LARGEST_PAGE - 1);
 }
 
-static void begin_space(unsigned space)
+static void begin_blocks(void)
 {
-    arena_space *it = &arena_here->spaces[space];
+    arena_blocks *it = &arena_here->blocks;
     memset(it, 0, sizeof *it);
-    it->next = arena_here->parts[ARENA_SPACE + space].from;
+    it->next[ARENA_SMALL] = arena_here->parts[ARENA_SMALL].from;
+    it->next[ARENA_LARGE] = arena_here->parts[ARENA_LARGE].from;
 }
 
 void arena_follow(void)
@@ -81,17 +93,16 @@ bool arena_open(unsigned part, size_t wanted)
 /* Lays out the parts after the tables. */
 static void lay_out(char *at, size_t tables)
 {
-    const size_t kept = (size_t)4 << 20, sixth = (arena_here->size - tables - kept) / 6;
+    const size_t kept = (size_t)4 << 20, fourth = (arena_here->size - tables - kept) / 4;
     char *next = at + tables;
     for (unsigned i = 0; i < ARENA_PARTS; ++i) {
         arena_part *it = &arena_here->parts[i];
         it->from = next;
-        it->room = i == ARENA_KEPT ? kept : (i < ARENA_LOG ? 2 * sixth : sixth);
+        it->room = i == ARENA_KEPT ? kept : fourth;
         it->room &= ~(size_t)(LEAST_OPENED - 1);
         next += it->room;
     }
-    begin_space(0);
-    begin_space(1);
+    begin_blocks();
 }
 
 /* Whether the system counts all mapped memory, used or not (vm.overcommit_memory). */
@@ -107,13 +118,22 @@ static bool is_counted(void)
     return mode == '2';
 }
 
+/* How many bytes of addresses to ask for: a sixteenth of what the process may have. */
+static size_t wanted_size(void)
+{
+    const size_t most = is_counted() ? (size_t)768 << 20 : (size_t)96 << 30;
+    struct rlimit limit;
+    if (getrlimit(RLIMIT_AS, &limit) != 0 || limit.rlim_cur == RLIM_INFINITY)
+        return most;
+    limit.rlim_cur = limit.rlim_cur / 16 & ~(rlim_t)(LEAST_OPENED - 1);
+    return limit.rlim_cur < LEAST ? LEAST : least_of(most, (size_t)limit.rlim_cur);
+}
+
 char *arena_map(size_t tables, size_t place, bool is_private)
 {
     const int kind = is_private ? MAP_PRIVATE : MAP_SHARED;
-    const size_t least = (size_t)48 << 20;
     tables = whole_pages(tables);
-    for (size_t size = is_counted() ? (size_t)768 << 20 : (size_t)96 << 30; size >= least;
-         size /= 2) {
+    for (size_t size = wanted_size(); size >= LEAST; size = whole_pages(size / 2)) {
         char *at = mmap(0, size, PROT_NONE, kind | MAP_ANONYMOUS | MAP_NORESERVE, -1, 0);
         if (at == MAP_FAILED)
             continue;
@@ -159,23 +179,26 @@ void arena_touch(void *from, size_t size)
         __atomic_fetch_or(at, 0, __ATOMIC_RELAXED);
 }
 
-void arena_touch_space(void)
+void arena_touch_blocks(void)
 {
-    const unsigned space = arena_here->space;
-    const arena_part *part = &arena_here->parts[ARENA_SPACE + space];
-    char *from = arena_here->spaces[space].next;
+    const arena_part *part = &arena_here->parts[ARENA_SMALL];
+    char *from = arena_here->blocks.next[ARENA_SMALL];
     arena_touch(from, least_of(TOUCHED, (size_t)(part->from + part->open - from)));
 }
 
-void arena_turn(void)
+void arena_drop(unsigned part, size_t kept, const char *to)
 {
-    const unsigned old = arena_here->space;
-    const arena_part *it = &arena_here->parts[ARENA_SPACE + old];
-    const size_t used = (size_t)(arena_here->spaces[old].next - it->from);
-    arena_here->space ^= 1;
-    begin_space(arena_here->space);
-    if (used > KEPT_PAGES)
-        madvise(it->from + KEPT_PAGES, whole_pages(used) - KEPT_PAGES, MADV_REMOVE);
+    char *const from = arena_here->parts[part].from + whole_pages(kept);
+    if (to > from)
+        madvise(from, whole_pages((size_t)(to - from)), MADV_REMOVE);
+}
+
+void arena_clear(void)
+{
+    const arena_blocks *it = &arena_here->blocks;
+    for (unsigned part = ARENA_SMALL; part <= ARENA_LARGE; ++part)
+        arena_drop(part, KEPT_PAGES, it->next[part]);
+    begin_blocks();
 }
 
 /* ---- the allocator ---- */
@@ -201,46 +224,67 @@ static size_t size_of(unsigned class)
     return (size_t)MIDDLE * 8 << 3 * (class - SMALL_CLASSES - MIDDLE_CLASSES);
 }
 
-/* A new block of a class, after all others; null if the space can't be opened that far. */
-static __attribute__((noinline)) void *take_new(unsigned class)
+static head *head_of(void *block)
 {
-    arena_space *space = &arena_here->spaces[arena_here->space];
-    const unsigned part = ARENA_SPACE + arena_here->space;
-    const size_t end = (size_t)(space->next - arena_here->parts[part].from) + size_of(class) + HEAD;
-    char *block = space->next + HEAD;
-    if (!arena_reaches(part, end))
+    return (head *)(void *)((char *)block - HEAD);
+}
+
+/* A new block of a class, after all others; null if its part can't be opened that far. */
+static __attribute__((noinline)) void *take_new(unsigned class, size_t size)
+{
+    const unsigned part = class < LARGE_CLASS ? ARENA_SMALL : ARENA_LARGE;
+    char **next = &arena_here->blocks.next[part], *block = *next + HEAD;
+    if (!arena_reaches(part, (size_t)(block - arena_here->parts[part].from) + size_of(class)))
         return 0;
-    space->next = block + size_of(class);
-    *(size_t *)(block - HEAD) = class;
+    *head_of(block) = (head){.class = class, .size = size};
+    atomic_signal_fence(memory_order_seq_cst);
+    *next = block + size_of(class);
+    return block;
+}
+
+static __attribute__((noinline)) void *take_large(unsigned class, size_t size)
+{
+    void *block;
+    if (class >= ARENA_CLASSES)
+        return 0;
+    block = arena_here->blocks.free[class];
+    if (block == 0)
+        return take_new(class, size);
+    *head_of(block) = (head){.class = class, .size = size};
+    atomic_signal_fence(memory_order_seq_cst);
+    arena_here->blocks.free[class] = *(void **)block;
     return block;
 }
 
 static void *take(size_t size)
 {
     const unsigned class = class_of(size);
-    arena_space *space = &arena_here->spaces[arena_here->space];
     void *block;
-    if (class >= ARENA_CLASSES)
-        return 0;
-    block = space->free[class];
+    if (class >= LARGE_CLASS)
+        return take_large(class, size);
+    block = arena_here->blocks.free[class];
     if (block == 0)
-        return take_new(class);
-    space->free[class] = *(void **)block;
+        return take_new(class, size);
+    arena_here->blocks.free[class] = *(void **)block;
     return block;
+}
+
+/* A large block returns its pages. */
+static __attribute__((noinline)) void empty(char *block, size_t size)
+{
+    char *from = (char *)whole_pages((uintptr_t)block + sizeof(void *)),
+         *to = (char *)(((uintptr_t)block + size) & ~(uintptr_t)(LARGEST_PAGE - 1));
+    madvise(from, (size_t)(to - from), MADV_REMOVE);
+    head_of(block)->is_free = true;
 }
 
 static void give(void *block)
 {
-    arena_space *space = &arena_here->spaces[arena_here->space];
-    const size_t class = *(size_t *)((char *)block - HEAD), size = size_of((unsigned)class);
-    /* Large blocks return their pages. */
-    if (size > MIDDLE) {
-        char *from = (char *)whole_pages((uintptr_t)block + sizeof(void *)),
-             *to = (char *)(((uintptr_t)block + size) & ~(uintptr_t)(LARGEST_PAGE - 1));
-        madvise(from, (size_t)(to - from), MADV_REMOVE);
-    }
-    *(void **)block = space->free[class];
-    space->free[class] = block;
+    const unsigned class = head_of(block)->class;
+    if (class >= LARGE_CLASS)
+        empty(block, size_of(class));
+    *(void **)block = arena_here->blocks.free[class];
+    arena_here->blocks.free[class] = block;
 }
 
 rattle_tried rattle_alloc(size_t size, size_t align)
@@ -250,11 +294,14 @@ rattle_tried rattle_alloc(size_t size, size_t align)
 
 rattle_tried rattle_realloc(void *p, size_t kept, size_t size, size_t align)
 {
-    const size_t class = *(size_t *)((char *)p - HEAD);
+    const unsigned class = head_of(p)->class;
     void *new;
     size = size != 0 ? size : align;
-    if (class_of(size) == class)
+    if (class_of(size) == class) {
+        if (class >= LARGE_CLASS)
+            head_of(p)->size = size;
         return rattle_tried_with(p);
+    }
     new = take(size);
     if (new != 0) {
         memcpy(new, p, kept < size ? kept : size);
@@ -266,4 +313,60 @@ rattle_tried rattle_realloc(void *p, size_t kept, size_t size, size_t align)
 void rattle_dealloc(void *p)
 {
     give(p);
+}
+
+/* ---- images ---- */
+
+/* Small blocks are copied as one piece. Of each large block its head, and of a free one the link to
+ * the next. */
+static size_t used_of(const head *it)
+{
+    return (it->is_free ? sizeof(void *) : it->size + 7) & ~(size_t)7;
+}
+
+size_t arena_image_size(void)
+{
+    const arena_blocks *it = &arena_here->blocks;
+    size_t size =
+        sizeof *it + (size_t)(it->next[ARENA_SMALL] - arena_here->parts[ARENA_SMALL].from);
+    for (char *at = arena_here->parts[ARENA_LARGE].from; at != it->next[ARENA_LARGE];
+         at += HEAD + size_of(((head *)(void *)at)->class))
+        size += HEAD + used_of((head *)(void *)at);
+    return size;
+}
+
+static char *put(char *to, const void *from, size_t size)
+{
+    memcpy(to, from, size);
+    return to + size;
+}
+
+char *arena_save(char *to)
+{
+    const arena_blocks *it = &arena_here->blocks;
+    const char *small = arena_here->parts[ARENA_SMALL].from;
+    to = put(to, it, sizeof *it);
+    to = put(to, small, (size_t)(it->next[ARENA_SMALL] - small));
+    for (char *at = arena_here->parts[ARENA_LARGE].from; at != it->next[ARENA_LARGE];
+         at += HEAD + size_of(((head *)(void *)at)->class))
+        to = put(to, at, HEAD + used_of((head *)(void *)at));
+    return to;
+}
+
+static const char *get(void *to, const char *from, size_t size)
+{
+    memcpy(to, from, size);
+    return from + size;
+}
+
+const char *arena_load(const char *from)
+{
+    arena_blocks *it = &arena_here->blocks;
+    char *small = arena_here->parts[ARENA_SMALL].from;
+    from = get(it, from, sizeof *it);
+    from = get(small, from, (size_t)(it->next[ARENA_SMALL] - small));
+    for (char *at = arena_here->parts[ARENA_LARGE].from; at != it->next[ARENA_LARGE];
+         at += HEAD + size_of(((head *)(void *)at)->class))
+        from = get(at, from, HEAD + used_of((const head *)(const void *)from));
+    return from;
 }

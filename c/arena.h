@@ -4,8 +4,8 @@
  * It is one mapping, made before main: MAP_SHARED | MAP_ANONYMOUS | MAP_NORESERVE. It starts with
  * the tables of the program (the_program.h). These parts follow. Each is accessible only as far as
  * it is used, because mlockall allocates pages for all memory that can be read:
- *   - two spaces for the allocations of the proved library. One is in use; the system is rebuilt in
- *     the other;
+ *   - two parts for the allocations of the proved library: one for small blocks, one for large
+ * ones;
  *   - two logs (log.h), one of which is in use;
  *   - the bytes of a message for each open wait of the library.
  * When a process acquires the lock of the program, it opens for itself what others have opened. */
@@ -17,8 +17,9 @@
 #include <stdint.h>
 
 enum {
-    ARENA_SPACE = 0, /* and 1 */
-    ARENA_LOG = 2,   /* and 3 */
+    ARENA_SMALL = 0,
+    ARENA_LARGE = 1,
+    ARENA_LOG = 2, /* and 3 */
     ARENA_KEPT = 4,
     ARENA_PARTS = 5,
     ARENA_CLASSES = 96
@@ -30,17 +31,17 @@ typedef struct arena_part {
     size_t open; /* how far it is open */
 } arena_part;
 
-typedef struct arena_space {
-    char *next;                /* the end of all blocks ever taken */
+/* The blocks of the allocator, in both parts. */
+typedef struct arena_blocks {
+    char *next[2];             /* the end of all blocks ever taken, by part */
     void *free[ARENA_CLASSES]; /* freed blocks, by class */
-} arena_space;
+} arena_blocks;
 
 typedef struct arena {
     size_t size;       /* of the mapping */
-    unsigned space;    /* the one in use */
     unsigned openings; /* how often something was opened; each process has to follow */
     arena_part parts[ARENA_PARTS];
-    arena_space spaces[2];
+    arena_blocks blocks;
 } arena;
 
 #pragma GCC visibility push(hidden)
@@ -68,11 +69,18 @@ static inline bool arena_reaches(unsigned part, size_t wanted)
 
 /* Touches pages, so that they are present, and changes nothing. */
 void arena_touch(void *from, size_t size);
-/* The same for the next 128 KiB of the space, as far as it is open. */
-void arena_touch_space(void);
+/* The same for the next 128 KiB of small blocks, as far as they are open. */
+void arena_touch_blocks(void);
+/* Gives back the pages of a part up to an address, but for so many bytes at its begin. */
+void arena_drop(unsigned part, size_t kept, const char *to);
 
-/* Switches to the other space, which is empty. All blocks of the old one are lost. */
-void arena_turn(void);
+/* All blocks are lost. */
+void arena_clear(void);
+/* A copy of all blocks: its size; how it is made, up to the address that is returned; and how the
+ * blocks become again what they were. A handler that interrupts the allocator may make one. */
+size_t arena_image_size(void);
+char *arena_save(char *to);
+const char *arena_load(const char *from);
 
 #pragma GCC visibility pop
 

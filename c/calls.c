@@ -47,11 +47,10 @@ static int result(uint32_t answer)
     return answer == YAK_DONE ? 0 : fails(yak_errno(answer));
 }
 
-/* Whether the program can read the word at an address, or write it. The kernel looks, by a call
- * that fails or asks for the signal mask, and so changes nothing else. */
-static bool is_good_word(uintptr_t at, bool is_written)
+/* Whether the program can read the 8 bytes at an address, or write them. The kernel looks, by a
+ * call that fails or asks for the signal mask, and so changes nothing else. */
+static bool is_good_word(void *word, bool is_written)
 {
-    void *const word = (void *)(at & ~(uintptr_t)7);
     const int error = errno;
     const long failed = is_written ? syscall(SYS_rt_sigprocmask, SIG_BLOCK, 0, word, 8)
                                    : syscall(SYS_rt_sigprocmask, -1, word, 0, 8);
@@ -60,11 +59,11 @@ static bool is_good_word(uintptr_t at, bool is_written)
     return is_good;
 }
 
-/* The same for attributes, which two pages have at the most. */
+/* The same for attributes, which two pages have at the most. They may be at any address. */
 static bool is_good(const struct mq_attr *attr, bool is_written)
 {
-    const uintptr_t first = (uintptr_t)attr, last = first + sizeof *attr - 1;
-    return is_good_word(first, is_written) && is_good_word(last, is_written);
+    char *const first = (char *)(uintptr_t)attr;
+    return is_good_word(first, is_written) && is_good_word(first + sizeof *attr - 8, is_written);
 }
 
 /* A dispatcher with room for another description; PROCESSES if there is none. */
@@ -76,7 +75,7 @@ static unsigned roomy_dispatcher(void)
             if (the_program.tables.descriptions[d].made == 0 &&
                 program_take_dispatcher(program_dispatcher_of(d)))
                 return program_dispatcher_of(d);
-        program_sweep();
+        program_sweep_at_once();
     }
     return PROCESSES;
 }
@@ -94,7 +93,7 @@ static int open_description(const yak_opening *opening, bool nonblock, const cha
     *answer = did_open(dispatcher, &with, (const uint8_t *)name, len, d);
     /* The dead may hold queues that have lost their names. */
     if (*answer == YAK_NOSPC && the_program.is_logged) {
-        program_sweep();
+        program_sweep_at_once();
         *answer = did_open(dispatcher, &with, (const uint8_t *)name, len, d);
     }
     *d = program_description(dispatcher, *d);
@@ -110,6 +109,15 @@ static unsigned free_number(void)
     while (number < NUMBERS && program_here->me->numbers[number] != 0)
         ++number;
     return number;
+}
+
+/* Who looks for a queue of another program is told once that there is none. */
+static void tell_missing(void)
+{
+    static atomic_bool has_told;
+    if (!atomic_exchange(&has_told, true))
+        program_tell("mq_open found no queue of that name: other programs have queues of their "
+                     "own, and these are those of one program and its forked children, here of");
 }
 
 static mqd_t open_queue(const char *name, int oflag, const struct mq_attr *attr)
@@ -147,6 +155,8 @@ static mqd_t open_queue(const char *name, int oflag, const struct mq_attr *attr)
     if (error != 0)
         return fails(error);
     explored_gave(yak_errno(answer), 0);
+    if (answer == YAK_NOENT)
+        tell_missing();
     return answer == YAK_DONE ? FIRST + (mqd_t)number : result(answer);
 }
 
@@ -246,6 +256,8 @@ static int exchange(mqd_t mqdes, const struct mq_attr *set, struct mq_attr *befo
     explored_call(set != 0 ? STEP_SETATTR : STEP_GETATTR, mqdes);
     if ((error = program_enter()) != 0)
         return fails(error);
+    if (the_program.is_logged)
+        program_end_dead_waits();
     d = program_number(mqdes);
     MADE(answer, yak_proved_getattr(&the_program.processes[program_dispatcher_of(d)],
                                     program_there(d), &attributes));
@@ -272,12 +284,15 @@ int mq_setattr(mqd_t mqdes, const struct mq_attr *set, struct mq_attr *before)
 int mq_notify(mqd_t mqdes, const struct sigevent *event)
 {
     uint32_t answer = YAK_DONE;
+    notices found;
     int error;
+    found.count = 0;
     explored_call(STEP_NOTIFY, mqdes);
     if ((error = program_enter()) != 0)
         return fails(error);
-    error = program_register(program_number(mqdes), event, &answer);
+    error = program_register(program_number(mqdes), event, &answer, &found);
     program_leave();
+    program_deliver(&found);
     return error != 0 ? fails(error) : result(answer);
 }
 
@@ -341,6 +356,74 @@ YAK_HOT static __attribute__((noinline)) outcome go_on(uint32_t d, const request
     return end;
 }
 
+/* How a call that would wait tries again before it waits. */
+enum {
+    RETRIES = 8,
+    /* Turns of a loop before the first: some 1.5 microseconds. Before the others twice as many. */
+    RETRY_PAUSE = 4096,
+    MOST_IN_VAIN = 16, /* after so many calls in a row for which that was in vain, */
+    SKIPS = 64         /* so many don't do it */
+};
+
+/* What the retries of this thread came to. */
+static _Thread_local struct {
+    bool was_in_vain; /* the last time */
+    unsigned in_vain; /* how often in a row */
+    unsigned left;    /* how many more calls don't retry */
+} retrying;
+
+static bool begins_to_retry(void)
+{
+    if (retrying.left != 0) {
+        --retrying.left;
+        return false;
+    }
+    if (!retrying.was_in_vain)
+        retrying.in_vain = 0;
+    retrying.was_in_vain = false;
+    return true;
+}
+
+static void learn_that_in_vain(void)
+{
+    retrying.was_in_vain = true;
+    if (++retrying.in_vain >= MOST_IN_VAIN)
+        retrying.left = SKIPS;
+}
+
+/* Whether a call that would wait is one to try again. A stored journal is to have each wait, and a
+ * registration is to be told as before. A receive behind a send polls for its reply instead. */
+static bool may_try_again(uint32_t d, bool is_send, const yak_moment *until)
+{
+    yak_moment now;
+    if (the_program.nonblock[d] || the_program.is_stored || the_program.tables.registered != 0 ||
+        program_is_apart || (!is_send && program_thread.has_sent))
+        return false;
+    if (until == &program_never)
+        return true;
+    now = yak_now();
+    return program_is_before(&now, until);
+}
+
+/* Leaves the lock to try a call again that would wait. Others go on meanwhile: a queue that a crowd
+ * uses is seldom full or empty for long, and a wait costs a sleep, a wake and three calls of the
+ * library. The processor is not yielded, which beside busy programs would be gone for milliseconds.
+ */
+static __attribute__((noinline)) bool tries_again(uint32_t d, bool is_send, const yak_moment *until,
+                                                  unsigned *tries)
+{
+    if (*tries == 0 && (!may_try_again(d, is_send, until) || !begins_to_retry()))
+        return false;
+    if (*tries == RETRIES) {
+        learn_that_in_vain();
+        return false;
+    }
+    program_leave();
+    yak_pause_(*tries == 0 ? RETRY_PAUSE : 2 * RETRY_PAUSE);
+    ++*tries;
+    return true;
+}
+
 /* A send or a receive: 0, or -1 with errno. */
 static inline __attribute__((always_inline)) int
 make(const char *call, bool is_send, mqd_t mqdes, uint8_t *bytes, size_t len, uint32_t prio,
@@ -349,6 +432,7 @@ make(const char *call, bool is_send, mqd_t mqdes, uint8_t *bytes, size_t len, ui
     yak_moment moment = {0};
     outcome end;
     uint32_t answer, d;
+    unsigned tries = 0;
     int error;
     /* A pointer that is no good is met outside the lock. */
     if (until != 0) {
@@ -360,8 +444,8 @@ make(const char *call, bool is_send, mqd_t mqdes, uint8_t *bytes, size_t len, ui
         if ((error = program_enter()) != 0)
             return fails(error);
         if (__builtin_expect(the_program.is_logged, false) &&
-            the_program.tables.waiters != the_program.tables.idle && program_has_dead_waiter())
-            program_sweep();
+            the_program.tables.waiters != the_program.tables.idle)
+            program_end_dead_waits();
         d = program_number(mqdes);
         answer = program_try(is_send, d, bytes, len, prio, message);
         if (__builtin_expect(answer == YAK_DONE && the_program.until_large >= 0 &&
@@ -380,6 +464,9 @@ make(const char *call, bool is_send, mqd_t mqdes, uint8_t *bytes, size_t len, ui
             program_thread.has_sent = is_send;
             explored_moved(is_send, d, 0, bytes, is_send ? len : message->len);
             return 0;
+        } else if (answer == YAK_AGAIN &&
+                   tries_again(d, is_send, until != 0 ? &moment : &program_never, &tries)) {
+            end.fate = ANEW;
         } else {
             const request asked = {
                 .call = call,

@@ -3,30 +3,21 @@
  *
  * Each process has a place with its descriptor numbers, and holds a robust mutex there, which the
  * kernel marks when the thread that took it ends, or calls exec. A process whose mutex is marked is
- * looked for in /proc. What the dead held is taken away when somebody needs it: nothing polls. */
+ * looked for in /proc (lives.c). What the dead held is taken away when somebody needs it: nothing
+ * polls. */
 #define _GNU_SOURCE
 #include "explored_calls.h"
+#include "lives.h"
 #include "log.h"
 
-#include <dirent.h>
 #include <errno.h>
-#include <fcntl.h>
 #include <limits.h>
 #include <linux/futex.h>
 #include <stdlib.h>
 #include <string.h>
 #include <sys/mman.h>
-#include <time.h>
+#include <sys/syscall.h>
 #include <unistd.h>
-
-enum {
-    /* So many milliseconds a child has to come if nobody can tell what became of it, and so long it
-       is not looked for. */
-    COMING = 5000,
-    UNDOUBTED = 20,
-    /* So long nobody looks again, on the way to a send or a receive. */
-    LOOKED = 50
-};
 
 program *program_at;
 here *program_here;
@@ -73,157 +64,32 @@ static bool is_copied(void)
 
 /* ---- who lives ---- */
 
-/* What /proc/PID/stat says. */
-typedef struct stat_line {
-    char state;
-    int parent;
-    int threads;
-    unsigned long long start;
-} stat_line;
-
-/* False if there is no such process. */
-static bool read_stat(pid_t pid, stat_line *it)
-{
-    char path[64], text[1024], *at;
-    ssize_t got;
-    int file;
-    snprintf(path, sizeof path, "/proc/%d/stat", (int)pid);
-    if ((file = open(path, O_RDONLY | O_CLOEXEC)) < 0)
-        return false;
-    got = read(file, text, sizeof text - 1);
-    close(file);
-    if (got <= 0)
-        return false;
-    text[got] = 0;
-    if ((at = strrchr(text, ')')) == 0)
-        return false;
-    return sscanf(at + 2,
-                  "%c %d %*d %*d %*d %*d %*u %*u %*u %*u %*u %*u %*u %*d %*d %*d %*d %d %*d %llu",
-                  &it->state, &it->parent, &it->threads, &it->start) == 4;
-}
-
-static bool is_over(const stat_line *it)
-{
-    return it->state == 'X' || (it->state == 'Z' && it->threads <= 1);
-}
-
-/* Whether a process that lives has the arena: after exec it has not. */
-static bool has_arena(pid_t pid)
-{
-    char path[64], text[4096], wanted[32];
-    bool is_found = false;
-    ssize_t got;
-    size_t kept = 0;
-    int file;
-    snprintf(path, sizeof path, "/proc/%d/maps", (int)pid);
-    snprintf(wanted, sizeof wanted, "%lx-", (unsigned long)(uintptr_t)program_at);
-    if ((file = open(path, O_RDONLY | O_CLOEXEC)) < 0)
-        return true;
-    /* The begin of a line may be cut by the end of what was read. */
-    while (!is_found && (got = read(file, text + kept, sizeof text - 1 - kept)) > 0) {
-        const size_t size = kept + (size_t)got;
-        text[size] = 0;
-        for (char *line = text; line != 0 && !is_found; line = strchr(line, '\n')) {
-            line += *line == '\n';
-            is_found = strncmp(line, wanted, strlen(wanted)) == 0 && strstr(line, "-s ") != 0;
-        }
-        kept = size < sizeof wanted + 16 ? size : sizeof wanted + 16;
-        memmove(text, text + size - kept, kept);
-    }
-    close(file);
-    return is_found;
-}
-
-static uint64_t milliseconds(void)
-{
-    struct timespec now;
-    clock_gettime(CLOCK_MONOTONIC, &now);
-    return (uint64_t)now.tv_sec * 1000 + (uint64_t)now.tv_nsec / 1000000;
-}
-
-static bool is_marked(const owner *it)
-{
-    return (__atomic_load_n(&it->alive.__data.__lock, __ATOMIC_RELAXED) & FUTEX_OWNER_DIED) != 0;
-}
-
-static bool has_place(pid_t pid)
-{
-    for (unsigned i = 0; i < the_program.owners_used; ++i)
-        if (atomic_load(&the_program.owners[i].state) == OWNER_LIVE &&
-            the_program.owners[i].pid == pid)
-            return true;
-    return false;
-}
-
-/* Which places have a child that will never come, since its fork is over and it is not among the
- * children of its parent that live, have the arena, and have no place. */
-static bool is_missed[OWNERS];
-
-static void look_at(pid_t pid)
-{
-    stat_line it;
-    bool is_known = pid <= 0 || !read_stat(pid, &it) || is_over(&it);
-    for (unsigned i = 0; i < the_program.owners_used && !is_known; ++i)
-        if (is_missed[i] && the_program.owners[i].pid == (pid_t)it.parent) {
-            is_known = has_place(pid);
-            is_missed[i] = is_known || (!the_program.owners[i].is_apart && !has_arena(pid));
-        }
-}
-
-static void look_for_children(void)
-{
-    const uint64_t now = milliseconds();
-    bool is_doubtful = false;
-    DIR *all;
-    for (unsigned i = 0; i < the_program.owners_used; ++i) {
-        const owner *it = &the_program.owners[i];
-        const uint64_t is_made = atomic_load(&it->is_made);
-        is_missed[i] =
-            atomic_load(&it->state) == OWNER_COMING && is_made != 0 && now - is_made >= UNDOUBTED;
-        is_doubtful = is_doubtful || is_missed[i];
-    }
-    if (!is_doubtful)
-        return;
-    if ((all = opendir("/proc")) == 0) {
-        memset(is_missed, 0, sizeof is_missed);
-        return;
-    }
-    for (struct dirent *it; (it = readdir(all)) != 0;)
-        look_at((pid_t)strtol(it->d_name, 0, 10));
-    closedir(all);
-}
-
-/* Whether a process is dead whose place was in a state. */
-static bool is_dead(owner *it, uint32_t state)
-{
-    stat_line now;
-    if (state == OWNER_COMING)
-        return is_missed[it - the_program.owners] || milliseconds() - it->forked > COMING;
-    if (it == program_here->me || !is_marked(it))
-        return false;
-    it->looked = milliseconds();
-    if (!read_stat(it->pid, &now))
-        return kill(it->pid, 0) != 0 && errno == ESRCH;
-    return now.start != it->start || is_over(&now) || !has_arena(it->pid);
-}
-
-bool program_has_dead_waiter(void)
-{
-    const tables *all = &the_program.tables;
-    for (uint32_t left = all->waiters & ~all->idle; left != 0; left &= left - 1) {
-        const owner *it = &the_program.owners[all->waits[__builtin_ctz(left)].owner];
-        if (is_marked(it) && it != program_here->me && milliseconds() - it->looked >= LOOKED)
-            return true;
-    }
-    return false;
-}
-
 bool program_is_alone(void)
 {
     for (unsigned i = 0; i < the_program.owners_used; ++i)
         if (atomic_load(&the_program.owners[i].state) != OWNER_FREE &&
             &the_program.owners[i] != program_here->me)
             return false;
+    return true;
+}
+
+/* Whether a process is dead whose place was in a state; after lives_look_for_children. */
+static bool is_dead(const owner *it, uint32_t state)
+{
+    if (state == OWNER_COMING || state == OWNER_JOINING)
+        return !lives_to_come(it);
+    return state == OWNER_GONE || !lives_still(it);
+}
+
+bool program_is_left_alone(void)
+{
+    lives_look_for_children(false);
+    for (unsigned i = 0; i < the_program.owners_used; ++i) {
+        const owner *it = &the_program.owners[i];
+        const uint32_t state = atomic_load(&it->state);
+        if (state != OWNER_FREE && it != program_here->me && !is_dead(it, state))
+            return false;
+    }
     return true;
 }
 
@@ -251,28 +117,61 @@ bool program_is_held(uint32_t d)
 
 /* ---- what the dead held ---- */
 
-/* Withdraws the waits of a process. If one was answered, its message is lost, as over the kernel's
- * queues. */
-static void end_waits_of(unsigned number)
+/* Tells everybody of the messages that have gone back to their queues. */
+static void tell_of_returned(void)
 {
-    static uint8_t room[MOST_BYTES];
-    yak_message message;
-    for (unsigned process = 0; process < PROCESSES; ++process) {
-        const pending *it = &the_program.tables.waits[process];
-        if (it->is_open && it->owner == number) {
-            did_end(process, room, it->is_send ? 0 : sizeof room, &message, &program_never);
-            program_release(process);
-        }
+    notices found;
+    found.count = 0;
+    program_collect_notices(DESCRIPTIONS, &found);
+    program_tell_polls(DESCRIPTIONS);
+}
+
+/* Ends the wait of a dead thread. False if it is still open: then its message has no room in its
+ * queue, or memory is refused. */
+static bool end_dead_wait(unsigned process)
+{
+    uint32_t answered;
+    bool is_returned = false;
+    if (!did_return(process, &is_returned))
+        return false;
+    answered = program_note_answers(process);
+    program_release(process);
+    program_wake_them(answered);
+    if (is_returned)
+        tell_of_returned();
+    return true;
+}
+
+void program_end_dead_waits(void)
+{
+    const tables *all = &the_program.tables;
+    for (uint32_t left = all->waiters & ~all->idle; left != 0; left &= left - 1) {
+        const unsigned process = (unsigned)__builtin_ctz(left);
+        const pending *it = &all->waits[process];
+        if (it->is_open && !lives_thread(&the_program.owners[it->owner], it->tid))
+            end_dead_wait(process);
     }
 }
 
+static bool end_waits_of(unsigned number)
+{
+    bool is_ended = true;
+    for (unsigned process = 0; process < PROCESSES; ++process) {
+        const pending *it = &the_program.tables.waits[process];
+        if (it->is_open && it->owner == number)
+            is_ended = end_dead_wait(process) && is_ended;
+    }
+    return is_ended;
+}
+
+/* Releases what a dead process held. Its place stays as long as it has a wait. */
 static void bury(unsigned number)
 {
     owner *it = &the_program.owners[number];
-    end_waits_of(number);
+    const bool is_ended = end_waits_of(number);
     for (uint32_t d = 0; d < DESCRIPTIONS; ++d)
         program_unregister(d, number);
-    for (unsigned i = 0; i < NUMBERS; ++i)
+    for (unsigned i = 0; i < NUMBERS && is_ended; ++i)
         if (it->numbers[i] != 0) {
             const uint32_t d = it->numbers[i] - 1u;
             it->numbers[i] = 0;
@@ -283,22 +182,32 @@ static void bury(unsigned number)
     it->overflow = 0;
     the_program.polls -= it->polls;
     it->polls = 0;
-    it->due_count = 0;
-    atomic_store(&it->state, OWNER_FREE);
+    if (is_ended)
+        atomic_store(&it->state, OWNER_FREE);
 }
 
-void program_sweep(void)
+static void sweep(bool looks_at_once)
 {
-    look_for_children();
+    lives_look_for_children(looks_at_once);
     for (unsigned i = 0; i < the_program.owners_used; ++i) {
         owner *it = &the_program.owners[i];
         uint32_t state = atomic_load(&it->state);
         if (state == OWNER_FREE || !is_dead(it, state))
             continue;
-        /* A child that comes now has lost its place; one that has come since then has not. */
-        if (atomic_compare_exchange_strong(&it->state, &state, OWNER_LIVE))
+        /* One that has come since then has its place. */
+        if (atomic_compare_exchange_strong(&it->state, &state, OWNER_GONE))
             bury(i);
     }
+}
+
+void program_sweep(void)
+{
+    sweep(false);
+}
+
+void program_sweep_at_once(void)
+{
+    sweep(true);
 }
 
 void program_mend(void)
@@ -340,18 +249,17 @@ static owner *take_place(void)
             if (atomic_load(&it->state) != OWNER_FREE)
                 continue;
             ++it->life;
-            it->forked = milliseconds();
-            it->pid = getpid();
+            it->forked = lives_now();
             it->overflow = 0;
             it->own_threads = 0;
             it->polls = 0;
-            it->due_count = 0;
+            memset(it->due, 0, sizeof it->due);
             memset(it->numbers, 0, sizeof it->numbers);
             if (i >= the_program.owners_used)
                 the_program.owners_used = i + 1;
             return it;
         }
-        program_sweep();
+        program_sweep_at_once();
     }
     return 0;
 }
@@ -360,8 +268,9 @@ static owner *take_place(void)
 static void come(owner *it)
 {
     pthread_mutexattr_t kind;
-    stat_line now;
-    it->start = read_stat(getpid(), &now) ? now.start : 0;
+    it->pid = getpid();
+    it->start = lives_start(it->pid);
+    it->holder = (pid_t)syscall(SYS_gettid);
     memset(&it->alive, 0, sizeof it->alive);
     pthread_mutexattr_init(&kind);
     pthread_mutexattr_setpshared(&kind, PTHREAD_PROCESS_SHARED);
@@ -369,7 +278,7 @@ static void come(owner *it)
     pthread_mutex_init(&it->alive, &kind);
     pthread_mutexattr_destroy(&kind);
     REAL(pthread_mutex_lock)(&it->alive);
-    it->pid = getpid();
+    atomic_store(&it->state, OWNER_LIVE);
 }
 
 /* Maps an arena for this process, and takes its first place. */
@@ -383,7 +292,6 @@ static bool begin_arena(void)
     program_here->seen = 0;
     program_here->me = take_place();
     come(program_here->me);
-    atomic_store(&program_here->me->state, OWNER_LIVE);
     is_first = true;
     return true;
 }
@@ -403,48 +311,33 @@ static _Thread_local char *picture;
 static _Thread_local size_t picture_size;
 static _Thread_local char *again; /* a second mapping of the arena */
 
-enum { PICTURE_PARTS = 5 };
-
-/* What is in use of the arena, in parts: the tables, the space in use, the log, the other one while
- * it is written, what is kept. */
-static size_t part_in_use(unsigned i, char **from)
+/* The log, if the system is being made again from it; and what waiters keep. */
+static size_t log_in_use(char **from)
 {
-    const arena *all = &the_program.arena;
-    const uint32_t busy = the_program.tables.waiters & ~the_program.tables.idle;
-    switch (i) {
-    case 0:
-        *from = (char *)program_at;
-        return sizeof(program);
-    case 1:
-        *from = all->parts[ARENA_SPACE + all->space].from;
-        return (size_t)(all->spaces[all->space].next - *from);
-    case 2:
-        *from = all->parts[ARENA_LOG + the_program.log].from;
-        return the_program.is_logged ? (size_t)(the_program.log_next[the_program.log] - *from) : 0;
-    case 3:
-        *from = all->parts[ARENA_LOG + (the_program.log ^ 1)].from;
-        return the_program.is_torn ? all->parts[ARENA_LOG + (the_program.log ^ 1)].open : 0;
-    default:
-        *from = all->parts[ARENA_KEPT].from;
-        return busy != 0 ? (size_t)(32 - __builtin_clz(busy)) * MOST_BYTES : 0;
-    }
+    *from = the_program.arena.parts[ARENA_LOG + the_program.log].from;
+    return the_program.is_torn ? (size_t)(the_program.log_next[the_program.log] - *from) : 0;
 }
 
+static size_t kept_in_use(char **from)
+{
+    const uint32_t busy = the_program.tables.waiters & ~the_program.tables.idle;
+    *from = the_program.arena.parts[ARENA_KEPT].from;
+    return busy != 0 ? (size_t)(32 - __builtin_clz(busy)) * MOST_BYTES : 0;
+}
+
+/* The picture has the tables, the log, what is kept, and the blocks. */
 static void take_picture(void)
 {
-    char *to, *from;
-    picture_size = 0;
-    for (unsigned i = 0; i < PICTURE_PARTS; ++i)
-        picture_size += part_in_use(i, &from);
+    char *to, *log, *kept;
+    const size_t log_size = log_in_use(&log), kept_size = kept_in_use(&kept);
+    picture_size = sizeof(program) + log_size + kept_size + arena_image_size();
     picture = mmap(0, picture_size, PROT_READ | PROT_WRITE, MAP_PRIVATE | MAP_ANONYMOUS, -1, 0);
     if (picture == MAP_FAILED)
         return;
-    to = picture;
-    for (unsigned i = 0; i < PICTURE_PARTS; ++i) {
-        const size_t size = part_in_use(i, &from);
-        memcpy(to, from, size);
-        to += size;
-    }
+    to = mempcpy(picture, program_at, sizeof(program));
+    to = mempcpy(to, log, log_size);
+    to = mempcpy(to, kept, kept_size);
+    arena_save(to);
 }
 
 static void drop_picture(void)
@@ -457,20 +350,22 @@ static void drop_picture(void)
 /* Puts the picture where the arena was. */
 static void hang_picture(void)
 {
-    char *at = picture, *from;
-    const size_t size = the_program.arena.size;
+    const char *at = picture;
+    char *to;
+    size_t size = the_program.arena.size;
     if (picture == MAP_FAILED ||
         mmap(program_at, size, PROT_READ | PROT_WRITE,
              MAP_PRIVATE | MAP_ANONYMOUS | MAP_FIXED | MAP_NORESERVE, -1, 0) == MAP_FAILED)
         abort();
     /* The first part says where the others lie. */
-    memcpy(program_at, picture, sizeof(program));
-    for (unsigned i = 0; i < PICTURE_PARTS; ++i) {
-        const size_t part = part_in_use(i, &from);
-        if (i != 0)
-            memcpy(from, at, part);
-        at += part;
-    }
+    memcpy(program_at, at, sizeof(program));
+    at += sizeof(program);
+    size = log_in_use(&to);
+    memcpy(to, at, size);
+    at += size;
+    size = kept_in_use(&to);
+    memcpy(to, at, size);
+    arena_load(at + size);
     drop_picture();
 }
 
@@ -488,15 +383,19 @@ static void share_words(void)
 }
 
 /* Takes a place for the child, which has the numbers of its parent. From then on the log is to
- * count, which the next call sees to. */
+ * count, which the next call sees to, before it changes anything. */
 static void make_place(void)
 {
     if ((coming = take_place()) == 0)
         return;
     memcpy(coming->numbers, program_here->me->numbers, sizeof coming->numbers);
-    coming->is_apart = is_inside;
+    coming->pid = program_here->me->pid;
+    coming->start = program_here->me->start;
     atomic_store(&coming->is_made, 0);
+    if (the_program.inode == 0)
+        the_program.inode = lives_inode();
     atomic_store(&coming->state, OWNER_COMING);
+    the_program.is_at_rest = !the_program.is_logged && !is_inside;
     the_program.arena.openings += !the_program.is_logged;
     share_words();
     if (program_has_thread_notices() || program_has_polls())
@@ -554,7 +453,7 @@ static void in_parent(void)
         leave_for(place_before);
     is_held_for_fork = false;
     if (coming != 0)
-        atomic_store(&coming->is_made, milliseconds());
+        atomic_store(&coming->is_made, lives_now());
     drop_picture();
     if (again != 0)
         munmap(again, the_program.arena.size);
@@ -575,14 +474,16 @@ static void forget(void)
     program_forget_polls();
 }
 
-/* The child has its place, unless it comes too late. */
+/* The child takes its place, in which it writes nothing before. */
 static void take_part_in_family(void)
 {
     uint32_t was = OWNER_COMING;
-    come(coming);
     program_here->seen = 0;
-    program_here->me =
-        atomic_compare_exchange_strong(&coming->state, &was, OWNER_LIVE) ? coming : 0;
+    program_here->me = 0;
+    if (!atomic_compare_exchange_strong(&coming->state, &was, OWNER_JOINING))
+        return;
+    come(coming);
+    program_here->me = coming;
 }
 
 void program_come_to_family(void)

@@ -14,10 +14,11 @@
 #include <unistd.h>
 
 enum {
-    /* So often a thread tries before it sleeps, and passes so many turns of a loop between: some
-       six microseconds. */
-    TRIES = 128,
-    PAUSE = 128,
+    /* So often a thread tries before it sleeps, and passes so many turns of a loop before the next
+       try: the first time, and then twice as many, up to so many. All are some 50 microseconds. */
+    TRIES = 14,
+    SHORTEST_PAUSE = 256,
+    LONGEST_PAUSE = 16384,
     /* So many nanoseconds a sleeper sleeps until it looks whether the holder lives. */
     LONGEST_SLEEP = 50000000
 };
@@ -39,7 +40,7 @@ static __attribute__((constructor)) void begin(void)
 
 /* ThreadSanitizer knows the lock by one of these addresses. If another thread is in a call below at
  * a fork, then in the child this address stays taken for ever, so the child uses the next one. */
-static char addresses[64];
+static char addresses[1 << 16];
 static unsigned address;
 
 void program_tell_locked(void)
@@ -117,11 +118,12 @@ static void sleep_for_lock(int seen)
                                 __ATOMIC_RELAXED, __ATOMIC_RELAXED);
 }
 
-/* Takes the lock: whether its holder has died. */
+/* Takes the lock: whether its holder has died. The pauses become long: meanwhile the holder makes
+ * several calls, for which the memory stays with its processor. */
 static bool take(void)
 {
     int *const word = PROGRAM_WORD, waiters = 0;
-    unsigned tries = 0;
+    unsigned tries = 0, pause = SHORTEST_PAUSE;
     for (;;) {
         int seen = __atomic_load_n(word, __ATOMIC_RELAXED);
         const int sleepers = seen & (int)FUTEX_WAITERS;
@@ -131,7 +133,8 @@ static bool take(void)
                 return (seen & FUTEX_OWNER_DIED) != 0;
         } else if (tries < TRIES) {
             ++tries;
-            yak_pause_(PAUSE);
+            yak_pause_(pause);
+            pause *= pause < LONGEST_PAUSE ? 2 : 1;
         } else {
             if (sleepers == 0 &&
                 !__atomic_compare_exchange_n(word, &seen, seen | (int)FUTEX_WAITERS, false,
@@ -139,6 +142,8 @@ static bool take(void)
                 continue;
             sleep_for_lock(seen | (int)FUTEX_WAITERS);
             waiters = (int)FUTEX_WAITERS;
+            tries = 0;
+            pause = SHORTEST_PAUSE;
         }
     }
 }
@@ -188,30 +193,50 @@ int program_lock_slowly(void)
     if (!has_died)
         return 0;
     arena_follow();
-    the_program.is_torn = true;
     ++the_program.arena.openings; /* so that each process looks at what is torn */
+    if (the_program.is_at_rest)
+        return 0;
+    the_program.is_torn = true;
     return repair();
 }
 
-/* Begins the log, if it is to count from now on; makes it short; or ends it if no other process is
- * left. */
+/* Tells those who find the system after the death of this process that it is at rest, or that it
+ * may not be. */
+static void set_at_rest(bool is_at_rest)
+{
+    atomic_signal_fence(memory_order_seq_cst);
+    the_program.is_at_rest = is_at_rest;
+    atomic_signal_fence(memory_order_seq_cst);
+}
+
+/* Begins the log if other processes live, from when on it is to count. */
+static void begin_log(void)
+{
+    if (!program_shares() || program_is_alone())
+        return;
+    set_at_rest(true);
+    if (!program_is_left_alone())
+        log_checkpoint();
+    set_at_rest(false);
+    program_sweep();
+}
+
+/* Makes the log short, or ends it if no other process is left. If there is no memory for that, the
+ * log grows to twice its size before the next attempt. */
 static void shorten(void)
 {
-    const char *from = the_program.arena.parts[ARENA_LOG + the_program.log].from;
-    const size_t size = (size_t)(the_program.log_next[the_program.log] - from);
-    if (the_program.is_stored)
-        return;
-    if (!the_program.is_logged && (!program_shares() || program_is_alone()))
-        return;
-    if (the_program.is_logged && the_program.log_limit != SIZE_MAX)
-        return;
+    const unsigned log = the_program.log;
+    const size_t size =
+        (size_t)(the_program.log_next[log] - the_program.arena.parts[ARENA_LOG + log].from);
     program_sweep();
     if (program_is_alone()) {
         the_program.is_logged = false;
         return;
     }
-    if (!log_checkpoint() && !the_program.is_torn)
+    set_at_rest(true);
+    if (!log_checkpoint())
         the_program.log_limit = 2 * size;
+    set_at_rest(false);
 }
 
 int program_attend(void)
@@ -224,9 +249,11 @@ int program_attend(void)
         error = program_first();
     if (error != 0)
         return error;
-    shorten();
-    if (the_program.is_torn && (error = repair()) != 0)
-        return error;
+    if (!the_program.is_stored && !the_program.is_logged)
+        begin_log();
+    else if (!the_program.is_stored && the_program.log_limit == SIZE_MAX)
+        shorten();
+    set_at_rest(false);
     __atomic_store_n(&program_here->seen, the_program.arena.openings, __ATOMIC_SEQ_CST);
     return 0;
 }

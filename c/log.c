@@ -12,8 +12,10 @@ static yak_process *at(unsigned process)
 
 /* ---- records ---- */
 
-char *log_write(unsigned log, char *to, record it, const void *own, size_t own_size,
-                const void *bytes)
+/* Writes a record into a log without committing it. Returns the address of the next one, or null if
+ * the log has no room. */
+static char *write_record(unsigned log, char *to, record it, const void *own, size_t own_size,
+                          const void *bytes)
 {
     const size_t size = bytes != 0 ? it.len : 0,
                  whole = (sizeof it + own_size + size + 7) & ~(size_t)7;
@@ -42,18 +44,24 @@ static inline void commit(unsigned log, char *next)
     }
 }
 
-/* Appends and commits the record of a call. If the log has no room, logging ends, and the system
- * can't recover from a death inside the lock any more. */
+/* The log has no room: logging ends, and begins again if the next call can make a checkpoint. Until
+ * then the system can't recover from a death inside the lock. */
+static __attribute__((noinline)) void end_log(void)
+{
+    the_program.is_logged = false;
+    ++the_program.arena.openings;
+}
+
+/* Appends and commits the record of a call. */
 static __attribute__((noinline)) void append(record it, const void *own, size_t own_size,
                                              const void *bytes)
 {
     const unsigned log = the_program.log;
-    char *next = log_write(log, the_program.log_next[log], it, own, own_size, bytes);
-    if (next == 0) {
-        the_program.is_logged = false;
-        return;
-    }
-    commit(log, next);
+    char *next = write_record(log, the_program.log_next[log], it, own, own_size, bytes);
+    if (next != 0)
+        commit(log, next);
+    else
+        end_log();
 }
 
 /* The same if calls are logged. */
@@ -72,7 +80,7 @@ void log_message(bool is_send, uint32_t d, const uint8_t *bytes, size_t len, uin
     record *const it = (record *)(void *)at;
     if (__builtin_expect(!arena_reaches(ARENA_LOG + log, (size_t)(at - part->from) + whole),
                          false)) {
-        the_program.is_logged = false;
+        end_log();
         return;
     }
     it->size = (uint32_t)whole;
@@ -133,7 +141,7 @@ static void apply_open(unsigned process, uint32_t d, const opened *it, const uin
         the_program.tables.replicas[process][d] = (uint8_t)(it->queue + 1);
         the_program.tables.holders[it->queue] |= 1u << process;
     }
-    if (it->whose != FOR_DESCRIPTION)
+    if (it->whose == FOR_REPLICA)
         return;
     to = &the_program.tables.descriptions[program_description(process, d)];
     to->made = it->made;
@@ -354,14 +362,9 @@ uint32_t did_start(unsigned process, pending *it, const request *asked, yak_mess
         .d = (uint8_t)it->d,
         .len = (uint32_t)asked->len,
     };
-    uint8_t *kept = program_kept(process);
     uint32_t answer;
-    if (kept == 0)
-        return YAK_NOMEMORY;
-    if (it->is_send) {
-        memcpy(kept, asked->bytes, asked->len);
+    if (it->is_send)
         the_program.is_empty[it->queue] = false;
-    }
     answer = start(process, it, asked->bytes, asked->len, message);
     if (answer != YAK_DONE && answer != YAK_WAITS)
         return answer;
@@ -562,13 +565,151 @@ uint32_t did_end(unsigned process, uint8_t *buf, size_t len, yak_message *messag
     return answer;
 }
 
-/* ---- rebuilding the system ---- */
+/* ---- messages that go back ---- */
 
 static uint8_t room[MOST_BYTES];
 
-/* Where the bytes are kept that a waiter keeps. A thread may be taking them just now: then they are
- * whole, and are not written again. */
-static uint8_t *kept_again(unsigned process)
+/* A message that waits for its way back, in the log that is not in use. Its bytes follow. */
+typedef struct kept_back {
+    uint32_t prio;
+    uint32_t len;
+} kept_back;
+
+static uint32_t send_by(unsigned process, uint32_t d, const void *bytes, size_t len, uint32_t prio)
+{
+    uint32_t answer;
+    MADE(answer, yak_proved_start_send(at(process), d, bytes, len, prio));
+    program_count(answer == YAK_DONE ? len : 0);
+    return answer;
+}
+
+/* Receives all messages of a queue: the end of where they are, in order. */
+static char *take_all(unsigned process, uint32_t d, int64_t count, char *to)
+{
+    for (; count > 0; --count) {
+        kept_back *it = (kept_back *)(void *)to;
+        yak_message message = {0};
+        uint32_t answer;
+        MADE(answer, yak_proved_start_receive(at(process), d, (uint8_t *)(it + 1),
+                                              (size_t)MOST_BYTES, &message));
+        if (answer != YAK_DONE)
+            return 0;
+        *it = (kept_back){.prio = message.prio, .len = (uint32_t)message.len};
+        to += (sizeof *it + message.len + 7) & ~(size_t)7;
+    }
+    return to;
+}
+
+/* Sends a message in front of those of its priority: all others are received before and sent again,
+ * in their order. There is room for one more, and for all of them in the other log. */
+static uint32_t send_in_front(unsigned process, uint32_t d, const void *bytes, size_t len,
+                              uint32_t prio, int64_t count)
+{
+    char *const from = the_program.arena.parts[ARENA_LOG + (the_program.log ^ 1)].from,
+                *const end = take_all(process, d, count, from);
+    uint32_t answer = end != 0 ? YAK_DONE : YAK_NOMEMORY;
+    bool is_sent = false;
+    for (char *it = from; answer == YAK_DONE && (it != end || !is_sent);) {
+        const kept_back *next = (const kept_back *)(void *)it;
+        if (!is_sent && (it == end || next->prio <= prio)) {
+            answer = send_by(process, d, bytes, len, prio);
+            is_sent = true;
+        } else {
+            answer = send_by(process, d, next + 1, next->len, next->prio);
+            it += (sizeof *next + next->len + 7) & ~(size_t)7;
+        }
+    }
+    return answer;
+}
+
+/* Whether the messages of a queue can be received and sent again: a process that is registered
+ * there would be told, though the queue was not empty. */
+static bool has_registration(unsigned slot)
+{
+    for (uint32_t d = 0; d < DESCRIPTIONS && the_program.tables.registered != 0; ++d)
+        if (the_program.tables.registrations[d].is_set &&
+            the_program.tables.descriptions[d].queue == slot)
+            return true;
+    return false;
+}
+
+/* Keeps the message of a wait that the library has answered: false if memory is refused. */
+static bool keep(unsigned process, uint8_t *kept)
+{
+    yak_message message = {0};
+    uint32_t answer = YAK_NOMEMORY;
+    if (kept != 0)
+        MADE(answer, yak_proved_collect(at(process), kept, (size_t)MOST_BYTES, &message));
+    if (answer == YAK_DONE)
+        apply_keep(process, &message);
+    return answer == YAK_DONE;
+}
+
+/* Sends the message that a waiter keeps, in front of those of its priority or behind them, and ends
+ * its wait. */
+static uint32_t go_back(unsigned process, bool is_in_front)
+{
+    const pending *it = &the_program.tables.waits[process];
+    const uint8_t *bytes = program_kept_from(process);
+    yak_attributes now = {0};
+    uint32_t answer;
+    READ(answer, yak_proved_getattr(at(process), it->d, &now));
+    if (answer == YAK_DONE && is_in_front)
+        answer =
+            send_in_front(process, it->d, bytes, it->message.len, it->message.prio, now.curmsgs);
+    else if (answer == YAK_DONE)
+        answer = send_by(process, it->d, bytes, it->message.len, it->message.prio);
+    the_program.is_empty[it->queue] = false;
+    apply_end(process);
+    return answer;
+}
+
+/* Whether the queue of a wait has room, and the other log for all that is in it. */
+static bool has_room(const pending *it, unsigned process, bool *is_in_front)
+{
+    yak_attributes now = {0};
+    uint32_t answer;
+    READ(answer, yak_proved_getattr(at(process), it->d, &now));
+    *is_in_front =
+        !has_registration(it->queue) &&
+        arena_reaches(ARENA_LOG + (the_program.log ^ 1),
+                      (size_t)now.curmsgs * ((size_t)now.msgsize + 2 * sizeof(kept_back)));
+    return answer == YAK_DONE && now.curmsgs < now.maxmsg;
+}
+
+bool did_return(unsigned process, bool *is_returned)
+{
+    const pending *it = &the_program.tables.waits[process];
+    record head = {.what = DID_KEEP, .process = (uint8_t)process};
+    yak_message message;
+    uint32_t answer;
+    if (!it->has_ended && !is_alone(process) && !it->is_send &&
+        yak_answered(at(process)) == YAK_DONE) {
+        if (!keep(process, program_kept(process)))
+            return false;
+        note(head, 0, 0, 0);
+    }
+    if (!it->has_ended || is_in_state(process, HAND_TAKEN)) {
+        answer = did_end(process, room, it->is_send ? 0 : sizeof room, &message, &program_never);
+        return answer == YAK_DONE || answer == YAK_TIMEDOUT;
+    }
+    /* One that waits alone for a message is to find it. */
+    if (!has_room(it, process, &head.is_on) || did_enter(it->queue) != YAK_DONE)
+        return false;
+    atomic_store(&the_program.hands[process].state, 0);
+    if (go_back(process, head.is_on) != YAK_DONE) {
+        log_replay();
+        return false;
+    }
+    head.what = DID_RETURN;
+    note(head, 0, 0, 0);
+    *is_returned = true;
+    return true;
+}
+
+/* ---- rebuilding the system ---- */
+
+uint8_t *log_kept_again(unsigned process)
 {
     return atomic_load(&the_program.hands[process].state) % HAND_STATES == HAND_FULL
                ? room
@@ -603,14 +744,11 @@ static uint32_t start_again(const record *it, const uint8_t *own)
     pending with;
     yak_message message;
     uint32_t answer;
-    uint8_t *kept = kept_again(it->process);
     memcpy(&with, own, sizeof with);
-    if (kept == 0)
-        return YAK_NOMEMORY;
     if (with.is_send)
-        memcpy(kept, own + sizeof with, it->len);
-    answer = start(it->process, &with, with.is_send ? kept : room,
-                   it->len < MOST_BYTES ? it->len : (size_t)MOST_BYTES, &message);
+        memcpy(room, own + sizeof with, it->len);
+    answer = start(it->process, &with, room, it->len < MOST_BYTES ? it->len : (size_t)MOST_BYTES,
+                   &message);
     apply_start(it->process, &with);
     return answer == YAK_WAITS ? (uint32_t)YAK_DONE : answer;
 }
@@ -632,19 +770,6 @@ static uint32_t end_again(const record *it, const uint8_t *own)
     return answer == YAK_TIMEDOUT ? (uint32_t)YAK_DONE : answer;
 }
 
-static uint32_t keep_again(const record *it, const uint8_t *own)
-{
-    pending with;
-    uint8_t *kept = kept_again(it->process);
-    if (kept == 0)
-        return YAK_NOMEMORY;
-    memcpy(&with, own, sizeof with);
-    memcpy(kept, own + sizeof with, it->len);
-    apply_start(it->process, &with);
-    apply_keep(it->process, &with.message);
-    return YAK_DONE;
-}
-
 static uint32_t wait_alone_again(const record *it, const uint8_t *own)
 {
     pending with;
@@ -657,7 +782,7 @@ static uint32_t enter_again(const record *it)
 {
     const pending *of = &the_program.tables.waits[it->process];
     yak_message message = {0};
-    const uint32_t answer = start(it->process, of, kept_again(it->process), of->len, &message);
+    const uint32_t answer = start(it->process, of, log_kept_again(it->process), of->len, &message);
     apply_enter(it->process, answer, &message);
     return answer == YAK_WAITS ? (uint32_t)YAK_DONE : answer;
 }
@@ -673,8 +798,8 @@ static uint32_t hand_again(const record *it, const uint8_t *own)
     MADE(answer,
          yak_proved_start_send(at(it->process), it->d, own + sizeof waiter, it->len, it->prio));
     if (answer == YAK_DONE)
-        MADE(answer,
-             yak_proved_start_receive(at(waiter), of->d, kept_again(waiter), of->len, &message));
+        MADE(answer, yak_proved_start_receive(at(waiter), of->d, log_kept_again(waiter), of->len,
+                                              &message));
     apply_keep(waiter, &message);
     return answer;
 }
@@ -713,14 +838,16 @@ static uint32_t do_again(const record *it)
         return answer;
     case DID_START:
         return start_again(it, own);
-    case DID_KEEP:
-        return keep_again(it, own);
     case DID_ALONE:
         return wait_alone_again(it, own);
     case DID_ENTER:
         return enter_again(it);
     case DID_HAND:
         return hand_again(it, own);
+    case DID_KEEP:
+        return keep(it->process, log_kept_again(it->process)) ? YAK_DONE : YAK_NOMEMORY;
+    case DID_RETURN:
+        return go_back(it->process, it->is_on);
     default:
         return end_again(it, own);
     }
@@ -734,23 +861,29 @@ static void show_hands(void)
             show_hand((unsigned)__builtin_ctz(left));
 }
 
+/* Makes a new system. */
+static bool begin_anew(void)
+{
+    uint32_t (*const make)(yak_process *, size_t) = the_program.is_stored ? yak_new : yak_unstored;
+    arena_clear();
+    memset(the_program.processes, 0, sizeof the_program.processes);
+    memset(&the_program.tables, 0, sizeof the_program.tables);
+    the_program.tables.waiters = the_program.tables.idle = UINT32_MAX & ~(1u << DISPATCHER);
+    return make(the_program.processes, PROCESSES) == YAK_DONE;
+}
+
 bool log_replay(void)
 {
     const unsigned log = the_program.log;
-    const char *from = the_program.arena.parts[ARENA_LOG + log].from,
-               *end = the_program.log_next[log];
-    uint32_t (*const make)(yak_process *, size_t) = the_program.is_stored ? yak_new : yak_unstored;
+    const char *const end = the_program.log_next[log];
     const int64_t until_large = the_program.until_large;
     uint32_t answer = YAK_DONE;
     the_program.is_torn = true;
-    arena_turn();
-    memset(the_program.processes, 0, sizeof the_program.processes);
-    memset(&the_program.tables, 0, sizeof the_program.tables);
     memset(the_program.is_empty, 0, sizeof the_program.is_empty);
-    the_program.tables.waiters = the_program.tables.idle = UINT32_MAX & ~(1u << DISPATCHER);
-    if (make(the_program.processes, PROCESSES) != YAK_DONE)
+    if (!log_load_image() && !begin_anew())
         return false;
-    for (const char *it = from; it != end && answer == YAK_DONE; it += ((const record *)it)->size)
+    for (const char *it = the_program.log_from[log]; it != end && answer == YAK_DONE;
+         it += ((const record *)it)->size)
         answer = do_again((const record *)it);
     the_program.until_large = until_large;
     the_program.is_torn = answer != YAK_DONE;

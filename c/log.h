@@ -3,8 +3,8 @@
  * One store commits the record of a call; if its process dies before that, the call was never made.
  * The system is rebuilt from the log by the same calls in the same order, and so are the tables
  * that the log determines. The log is kept from the first fork on, and from the first call on if
- * the journal is stored. If the journal is not stored, checkpoints write the live state to the
- * other log (checkpoint.c), so the size of the log is bounded. */
+ * the journal is stored. If the journal is not stored, a checkpoint begins the other log with an
+ * image of the live state (checkpoint.c), so the size of the log is bounded. */
 #ifndef YAKYROMBE_LOG_H
 #define YAKYROMBE_LOG_H
 
@@ -23,10 +23,11 @@ enum {
     DID_START,
     DID_COLLECT,
     DID_END,
-    DID_KEEP,  /* the wait of a waiter has already ended, and its result is kept */
-    DID_ALONE, /* a receive begins to wait alone */
-    DID_ENTER, /* the library begins such a wait */
-    DID_HAND   /* a send, and the receive that waited alone; behind the record is its waiter */
+    DID_ALONE,  /* a receive begins to wait alone */
+    DID_ENTER,  /* the library begins such a wait */
+    DID_KEEP,   /* a wait of a dead thread has ended, and its message is kept */
+    DID_RETURN, /* it goes back to its queue */
+    DID_HAND    /* a send, and the receive that waited alone; behind the record is its waiter */
 };
 
 /* The data of its kind follow, and the bytes of a name or a message. */
@@ -40,8 +41,8 @@ typedef struct record {
     uint32_t len; /* of the bytes; for a receive, of its buffer */
 } record;
 
-/* What a descriptor is opened for: one for nobody is in no table, and is closed soon. */
-enum { FOR_DESCRIPTION, FOR_REPLICA, FOR_NOBODY };
+/* What a descriptor is opened for. */
+enum { FOR_DESCRIPTION, FOR_REPLICA };
 
 /* The data of an open. */
 typedef struct opened {
@@ -73,6 +74,10 @@ uint32_t did_enter(unsigned slot);
 unsigned did_hand(uint32_t d, const uint8_t *bytes, size_t len, uint32_t prio);
 /* Closes the wait of a waiter if its thread has taken the message that was handed to it. */
 bool did_take(unsigned process);
+/* Ends the wait of a dead thread. If it was answered with a message that the thread has not taken,
+ * this goes back to its place in the queue, and `is_returned` is set. False, and nothing is
+ * changed, if the queue has no room for it, or memory is refused. */
+bool did_return(unsigned process, bool *is_returned);
 /* Takes the next notice of a dispatcher. log_take_notice commits it. */
 uint32_t did_next_notice(unsigned process, uint64_t *value);
 void log_take_notice(unsigned process, uint32_t d);
@@ -80,10 +85,6 @@ void log_take_notice(unsigned process, uint32_t d);
 /* Records a send or a receive of a dispatcher that is done. */
 void log_message(bool is_send, uint32_t d, const uint8_t *bytes, size_t len, uint32_t prio);
 
-/* Writes a record into a log without committing it. Returns the address of the next one, or null if
- * the log has no room. */
-char *log_write(unsigned log, char *at, record it, const void *own, size_t own_size,
-                const void *bytes);
 /* Whether a queue exists and has this name. */
 bool log_is_named(const queue *it, const uint8_t *name, size_t len);
 /* The slot for a queue with this name: that of the bound one, or a free one. */
@@ -91,9 +92,15 @@ unsigned log_queue(const uint8_t *name, size_t len);
 
 /* Rebuilds the system and its tables from the log: false if an allocation fails. */
 bool log_replay(void);
-/* Starts a new log with the current state, and rebuilds the system from it. False if an allocation
- * fails: then the system is unchanged, or torn. */
+/* Begins a new log with an image of the current state: false if there is no memory for that. It
+ * changes nothing of the state. */
 bool log_checkpoint(void);
+/* Restores the state of the image with which a log begins: false if it has none. */
+bool log_load_image(void);
+/* Where the bytes that a waiter keeps are restored. A thread may be taking them just now: then they
+ * are whole, and are written elsewhere. Null if an allocation fails. */
+uint8_t *log_kept_again(unsigned process);
+/* A checkpoint is made when the records have this many bytes. */
 enum { LOG_LIMIT = 1 << 20 };
 
 #pragma GCC visibility pop

@@ -22,6 +22,17 @@
  * All of this is in memory that parent and forked children share (arena.h). One lock guards it; it
  * is held during a call and never while a call waits. If a process dies inside it, the next one
  * rebuilds the system from the log (log.h).
+ *
+ * The rule for code under the lock:
+ *   - It is no cancellation point, or cancellation is disabled. It waits for nothing that another
+ *     process or thread does. checks/under_the_lock compares the functions that it calls with the
+ *     list of under_the_lock.txt. That list does not know which system calls are made by syscall().
+ *   - Each table has a bound, and what finds no room stays where it is: nothing is dropped.
+ *   - It signals no process, and hands nothing to a thread, that it has not found alive in this
+ * stay. It writes to no place of a process that the process may not have any more: who takes a
+ * place does so by a compare-exchange, before it writes there.
+ *   - Each instruction may be the last of its process. One store commits what a call changes, and a
+ *     change of the system that no log has is made only if no other process lives.
  */
 #ifndef YAKYROMBE_THE_PROGRAM_H
 #define YAKYROMBE_THE_PROGRAM_H
@@ -55,7 +66,7 @@ enum {
     NUMBERS = 128, /* descriptors of one operating-system process */
     OWNERS = 1024, /* operating-system processes that share the arena */
     QUEUES = 64,   /* as in the library */
-    DUE = 16,      /* the most notices that a process has not taken yet */
+    NOTICES = 16,  /* the most that a call delivers */
     LONGEST_NAME = 256,
     MOST_BYTES = 65536, /* of a message */
     /* The number of the first descriptor: far above file descriptors, so that calls on files fail
@@ -156,29 +167,30 @@ static inline uint64_t program_hand_state(uint64_t order, unsigned state)
 
 /* ---- operating-system processes ---- */
 
-enum { OWNER_FREE, OWNER_COMING, OWNER_LIVE };
+/* A place is taken for a child before its fork. The child then joins. What is gone is dead, and may
+ * still hold something. */
+enum { OWNER_FREE, OWNER_COMING, OWNER_JOINING, OWNER_LIVE, OWNER_GONE };
 
 typedef struct owner {
     _Atomic uint32_t state;
     unsigned life;  /* how often the slot was taken */
     pid_t pid;      /* while it is coming, that of its parent */
-    uint64_t start; /* when the operating system started it */
+    pid_t holder;   /* the thread that holds `alive` */
+    uint64_t start; /* when the operating system started the process with that pid */
     /* For a child that is coming, in milliseconds: when its parent forked; and when the fork was
        over, so that the child exists or never will; 0 before. */
     uint64_t forked;
     _Atomic uint64_t is_made;
-    bool is_apart;   /* it completes a call of its parent before it joins */
-    uint64_t looked; /* when another process last checked whether it lives, in milliseconds */
-    /* Held by the first thread of the process. The kernel marks it when that thread ends, and at
-       exec. */
+    /* Held by a thread of the process, mostly its first. The kernel marks it when that thread ends,
+       and at exec. */
     pthread_mutex_t alive;
     uint8_t numbers[NUMBERS]; /* a description plus 1, or 0 */
     uint32_t overflow;
     uint32_t own_threads;        /* threads of the library */
     _Atomic uint32_t futex_word; /* on which its notifier sleeps */
     uint32_t polls;              /* how many descriptors for poll it has */
-    uint64_t due[DUE];           /* serials of notices that its notifier thread has to take */
-    unsigned due_count;
+    /* The descriptions with a notice that its notifier thread has to take, by bits. */
+    uint64_t due[DESCRIPTIONS / 64];
 } owner;
 
 /* A send or a receive. */
@@ -233,6 +245,7 @@ typedef struct waiting {
 typedef struct program {
     pthread_mutex_t lock; /* only its memory is used: lock.c */
     arena arena;
+    unsigned long inode; /* of the arena, from the first fork on; 0 if it is not known */
     bool is_ready;
     bool is_stored;         /* the journal is stored */
     bool is_logged;         /* calls are logged */
@@ -247,7 +260,10 @@ typedef struct program {
     uint64_t serials;
     uint32_t overflow; /* how many calls wait without a waiter */
     uint32_t polls;    /* how many descriptors for poll there are, of all processes */
+    /* The system is at rest: who dies inside the lock now has changed nothing of it. */
+    bool is_at_rest;
     unsigned log;      /* which of the two logs is in use */
+    char *log_from[2]; /* its first record, which an image may precede */
     char *log_next[2];
     size_t log_limit;                 /* in bytes: at this size a checkpoint is made */
     _Atomic uint32_t news[PROCESSES]; /* how often there was news for the wait of a waiter; that of
@@ -343,7 +359,7 @@ typedef struct notice {
 
 typedef struct notices {
     unsigned count;
-    notice them[DUE];
+    notice them[NOTICES];
 } notices;
 
 /* ---- the lock (lock.c) ---- */
@@ -594,8 +610,9 @@ void program_test_cancel(void);
 /* Ends the open wait of a thread that ends. */
 void program_end_with_thread(void *unused);
 
-/* The registration of mq_notify on a description. */
-int program_register(uint32_t d, const struct sigevent *event, uint32_t *answer);
+/* The registration of mq_notify on a description. A notice of an earlier one that this process has
+ * not taken yet is added to those that are to be delivered. */
+int program_register(uint32_t d, const struct sigevent *event, uint32_t *answer, notices *found);
 /* Ends the registration that a process made by a description that it closes. */
 void program_unregister(uint32_t d, unsigned owner);
 /* Takes the notices of the queue of a description, or with DESCRIPTIONS of all queues. Those for
@@ -626,12 +643,17 @@ void program_drop_poll(uint32_t d);
 
 /* ---- operating-system processes (family.c) ---- */
 
-/* Releases what dead processes held; inside the lock. */
+/* Releases what dead processes held; inside the lock. A child that has not come yet is looked for
+ * only some time after its fork, or with program_sweep_at_once now. */
 void program_sweep(void);
-/* Whether a process with an open wait may have died, by one load for each waiting one. */
-bool program_has_dead_waiter(void);
-/* Whether no other process shares the queues. */
+void program_sweep_at_once(void);
+/* Ends the waits of threads that have died, and returns the messages that were handed to them to
+ * their queues. Inside the lock, before a call; two loads for each open wait if nobody died. */
+void program_end_dead_waits(void);
+/* Whether no other process shares the queues; and whether the others are dead, which are not
+ * released yet. */
 bool program_is_alone(void);
+bool program_is_left_alone(void);
 /* Whether the processes of this program share their queues: no seed decides, and YAK_FORK is not
  * new. */
 bool program_shares(void);
