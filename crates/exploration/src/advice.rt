@@ -149,7 +149,7 @@ fn add_sleepers(sleepers: &mut Vec<Sleeper>, deed: &Deed, but: u32) -> Result<()
 fn depends_on_more(kind: Kind) -> bool {
     match kind {
         Kind::Exit | Kind::Open | Kind::Close | Kind::Unlink | Kind::Clock => true,
-        Kind::Signal | Kind::Create => true,
+        Kind::Signal | Kind::Create | Kind::SetAttr => true,
         _ => false,
     }
 }

@@ -1,6 +1,7 @@
 //! The effects of a step, as far as other steps can depend on them.
 ghost use Rattle.std.specs.Prelude.{◌≡◌};
 ghost use Rattle.exploration.specs.Dependence.{is_exit, is_on_names, is_receive, is_send, is_wait, tells_time};
+ghost use Rattle.exploration.specs.Locks.{is_lock, is_rwunlock, is_unlock, is_write_lock};
 
 use crate::kind::Kind;
 use crate::operation::Choice;
@@ -93,6 +94,33 @@ pub fn is_receive(kind: Kind) -> bool
     ensures { result ≡ is_receive kind }
 {
     matches!(kind, Kind::Receive)
+}
+
+/// Whether the operation locks a mutex.
+pub fn is_lock(kind: Kind) -> bool
+    ensures { result ≡ is_lock kind }
+{
+    matches!(kind, Kind::Lock)
+}
+
+pub fn is_unlock(kind: Kind) -> bool
+    ensures { result ≡ is_unlock kind }
+{
+    matches!(kind, Kind::Unlock)
+}
+
+/// Whether the operation locks a lock of readers and writers for a writer.
+pub fn is_write_lock(kind: Kind) -> bool
+    ensures { result ≡ is_write_lock kind }
+{
+    matches!(kind, Kind::WriteLock)
+}
+
+/// Whether the operation unlocks a lock of readers and writers.
+pub fn is_rwunlock(kind: Kind) -> bool
+    ensures { result ≡ is_rwunlock kind }
+{
+    matches!(kind, Kind::RwUnlock)
 }
 
 /// Whether the operation is a half of a wait on a condition variable.

@@ -90,7 +90,7 @@ pub struct Summary {
 
 // Whether a run with this end shows everything that the program does.
 fn is_whole(end: End) -> bool {
-    matches!(end, End::Done | End::Deadlock)
+    matches!(end, End::Done | End::Deadlock | End::Died)
 }
 
 impl Tally {

@@ -1,8 +1,10 @@
 //! What the steps of a run did, and which message each receive took.
+ghost use Rattle.std.specs.Prelude.{◌≡◌, true, false};
+ghost use Rattle.exploration.specs.Locks.{is_write_lock};
 
 use crate::deed::{Deed, Effect, is_receive, is_send};
 use crate::kind::Kind;
-use crate::operation::{Ability, Choice, Operation, Parked, Step, parked_of};
+use crate::operation::{Ability, Choice, Operation, Parked, Step, Trace, parked_of};
 use crate::trace::Room;
 use std::alloc::{AllocError, Global};
 
@@ -22,6 +24,8 @@ struct Moved {
     held: Vec<Held>,
     sends: u32,
     receives: u32,
+    // Whether a notice was asked for. From then on it matters whether a send finds it empty.
+    is_watched: bool,
 }
 
 /// The state of the queues after the steps of a run so far.
@@ -120,6 +124,7 @@ impl Follower {
                     held,
                     sends: 0,
                     receives: 0,
+                    is_watched: false,
                 })?;
                 self.queues.len() - 1
             }
@@ -138,12 +143,17 @@ impl Follower {
             return Ok(());
         }
         let is_sent = is_send(effect.kind);
-        if !is_sent && !is_receive(effect.kind) {
+        let is_asked = matches!(effect.kind, Kind::Notify);
+        if !is_sent && !is_asked && !is_receive(effect.kind) {
             return Ok(());
         }
         let Some(queue) = self.queue(alloc, rooms, effect.object)? else {
             return Ok(());
         };
+        queue.is_watched = queue.is_watched || is_asked;
+        if queue.is_watched {
+            return Ok(());
+        }
         if is_sent {
             queue.send(effect, place)
         } else {
@@ -153,12 +163,15 @@ impl Follower {
     }
 }
 
-// Whether an operation changes nothing: it fails, or only reads.
-fn only_looks(kind: Kind, error: u32) -> bool {
+// Whether an operation changes nothing: it fails, or only reads. Read locks count, since they commute.
+// So a write lock never does: one that fails depends on the readers that it found.
+fn only_looks(kind: Kind, error: u32) -> bool
+    ensures { is_write_lock kind ≡ true → result ≡ false }
+{
     match kind {
         Kind::GetAttr | Kind::ReadLock => true,
         Kind::Send | Kind::Receive | Kind::TryLock | Kind::SemTry | Kind::SemWait => error != 0,
-        Kind::Lock | Kind::WriteLock | Kind::Wake => error != 0,
+        Kind::Lock | Kind::Wake => error != 0,
         _ => false,
     }
 }
@@ -250,15 +263,26 @@ fn cause_of(steps: &[Step], place: usize, thread: u32) -> Option<usize> {
     None
 }
 
+// What a step is, for those that depend on it. One that ended the program is an exit: the order of
+// it and of what the others did matters.
+fn kind_in(trace: &Trace, place: usize, kind: Kind) -> Kind {
+    if trace.end.is_sudden() && place.saturating_add(1) == trace.steps.len() {
+        Kind::Exit
+    } else {
+        kind
+    }
+}
+
 /// What the step at index `place` did.
 pub fn deed_of(
     alloc: Global,
     rules: Rules,
     rooms: &[Room],
     follower: &mut Follower,
-    steps: &[Step],
+    trace: &Trace,
     place: usize,
 ) -> Result<Option<Deed>, AllocError> {
+    let steps = trace.steps.as_slice();
     let Some(step) = steps.get(place) else {
         return Ok(None);
     };
@@ -278,7 +302,7 @@ pub fn deed_of(
     let (effects, created) = all_effects(alloc, rooms, follower, step, parked, number)?;
     Ok(Some(Deed {
         choice,
-        kind: parked.operation.kind,
+        kind: kind_in(trace, place, parked.operation.kind),
         is_late,
         stands_still: stands_still(rules, parked.operation.kind, is_late),
         effects,

@@ -84,6 +84,13 @@ pub enum End {
     Hung,
 }
 
+impl End {
+    /// Whether the last step ended the program, as an exit does.
+    pub fn is_sudden(self) -> bool {
+        matches!(self, End::Died | End::Hung)
+    }
+}
+
 /// What a run showed.
 #[derive(Drop)]
 pub struct Trace {

@@ -227,7 +227,7 @@ impl Plan {
         self.go_back(asked.saturating_sub(1));
         let mut follower = Follower::new(alloc);
         for (place, step) in trace.steps.iter().enumerate() {
-            let found = deed_of(alloc, self.rules, rooms, &mut follower, &trace.steps, place)?;
+            let found = deed_of(alloc, self.rules, rooms, &mut follower, trace, place)?;
             let Some(deed) = found else {
                 return Err(Fault::Unfit);
             };
@@ -259,7 +259,7 @@ impl Plan {
         self.advices.clear();
         let mut follower = Follower::new(alloc);
         for (place, step) in trace.steps.iter().enumerate() {
-            let found = deed_of(alloc, self.rules, rooms, &mut follower, &trace.steps, place)?;
+            let found = deed_of(alloc, self.rules, rooms, &mut follower, trace, place)?;
             if let Some(deed) = found {
                 self.add_event(alloc, &step.parked, deed)?;
             }
