@@ -253,7 +253,10 @@ static int exchange(mqd_t mqdes, const struct mq_attr *set, struct mq_attr *befo
         return fails(EFAULT);
     if (set != 0 && (set->mq_flags & ~(long)O_NONBLOCK) != 0)
         return fails(EINVAL);
-    explored_call(set != 0 ? STEP_SETATTR : STEP_GETATTR, mqdes);
+    if (set != 0)
+        explored_setattr(mqdes, (set->mq_flags & O_NONBLOCK) != 0);
+    else
+        explored_call(STEP_GETATTR, mqdes);
     if ((error = program_enter()) != 0)
         return fails(error);
     if (the_program.is_logged)
@@ -333,7 +336,7 @@ YAK_HOT static __attribute__((noinline)) outcome go_on(uint32_t d, const request
         handed = program_record(d, asked);
     if (answer == YAK_AGAIN && !asked->is_send)
         the_program.is_empty[the_program.tables.descriptions[d].queue] = !the_program.is_stored;
-    if (answer == YAK_AGAIN && !the_program.nonblock[d])
+    if (answer == YAK_AGAIN && (!the_program.nonblock[d] || explored_has_begun()))
         end = program_wait(&process, d, asked, message, &cancelling);
     if (end.fate < LOST) {
         answered = program_note_answers(process != DISPATCHER ? process : program_dispatcher_of(d));

@@ -1,4 +1,4 @@
-/* Whether it is certain that no thread can go on, by a seed: else it is no deadlock. */
+/* Whether it is certain that no thread can go on: else it is no deadlock. */
 #define _GNU_SOURCE
 #include "machine.h"
 
@@ -100,6 +100,11 @@ static bool has_timers(void)
 const char *machine_doubt(void)
 {
     const char *doubt = 0;
+    const unsigned unseen = the_machine.shared->unseen;
+    if (the_machine.seed == 0 && (unseen & UNSEEN_TIMERS) != 0)
+        return "the program has timers, by which a wait may be meant to end";
+    if (the_machine.seed == 0 && (unseen & UNSEEN_CHILDREN) != 0)
+        return "the program has forked a child, by which a wait may be meant to end";
     if (the_machine.signals)
         return "the program has sent a signal, by which a wait may be meant to end";
     if (has_timers())

@@ -17,7 +17,27 @@ enum {
     YAK_MOST_RECORDS = 1 << 20,
     YAK_MOST_SLEEPS = 1 << 10,
     YAK_OBJECT_NAME = 256,
-    YAK_EXPLORE_VERSION = 1
+    YAK_DOUBT = 256,
+    YAK_POLLS = 20, /* in a row and in vain, if nothing else is asked for */
+    YAK_EXPLORE_VERSION = 2
+};
+
+/* What a program can do that is not seen, for the last line of a report. */
+#define YAK_UNSEEN(X)                            \
+    X(HANDLERS, "handlers of signals")           \
+    X(TIMERS, "timers")                          \
+    X(CHILDREN, "forked children")               \
+    X(CANCELS, "a cancellation that interrupts") \
+    X(NOTICES, "that a receiver keeps a notice back")
+
+enum {
+#define YAK_UNSEEN_BIT(name, words) UNSEEN_##name##_PLACE,
+    YAK_UNSEEN(YAK_UNSEEN_BIT)
+#undef YAK_UNSEEN_BIT
+        UNSEEN_KINDS,
+#define YAK_UNSEEN_BIT(name, words) UNSEEN_##name = 1 << UNSEEN_##name##_PLACE,
+    YAK_UNSEEN(YAK_UNSEEN_BIT)
+#undef YAK_UNSEEN_BIT
 };
 
 /* The kinds of steps: the word of the protocol with the engine, and the call that a report names,
@@ -121,7 +141,8 @@ typedef enum yak_end {
     YAK_END_STEPS, /* too many */
     YAK_END_UNFIT, /* a thread that was to go on could not */
     YAK_END_SLEPT, /* all that can go on are asleep */
-    YAK_END_RACE   /* two accesses to memory that nothing orders */
+    YAK_END_RACE,  /* two accesses to memory that nothing orders */
+    YAK_END_DOUBT  /* it can't be decided, as `doubt` says */
 } yak_end;
 
 typedef struct yak_record {
@@ -150,11 +171,16 @@ typedef struct yak_sleeper {
 typedef struct yak_explored {
     /* What is asked for. */
     uint32_t most_steps;
-    bool is_last; /* a deadline passes only if nobody else can go on */
-    bool is_each; /* an unlock and a post are steps of their own */
+    bool is_last;  /* a deadline passes only if nobody else can go on */
+    bool is_each;  /* an unlock and a post are steps of their own */
+    bool is_begun; /* a call that waits on a queue begins by a step of its own */
     bool is_random;
     uint64_t seed;
-    uint32_t choices; /* the thread, and the variant times 256; 0 leaves the step to the rule */
+    uint32_t
+        changes; /* of priorities in a run at random, as PCT makes; 0 for any thread at any step */
+    uint32_t length;     /* of a run, for the places of these changes */
+    uint32_t most_polls; /* in a row and in vain before others go on */
+    uint32_t choices;    /* the thread, and the variant times 256; 0 leaves the step to the rule */
     uint32_t leads;
     uint32_t sleepers;
     uint16_t choice[YAK_MOST_STEPS];
@@ -164,6 +190,13 @@ typedef struct yak_explored {
     uint32_t version; /* it is there */
     pid_t child;      /* that makes the run */
     int status;       /* of the child, as waitpid has it */
+    pid_t running;    /* the kernel's number of the thread that goes on */
+    uint32_t unseen;  /* what the program did that is not seen */
+    bool sees_memory; /* the program tells of its accesses to memory */
+    bool sets_flags;  /* it made a description not block while other threads were there */
+    bool gives_way;   /* a thread polled in vain, until others went on */
+    bool child_calls; /* a forked child made calls on queues */
+    char doubt[YAK_DOUBT];
     uint32_t objects;
     yak_object object[YAK_MOST_OBJECTS];
     uint32_t records;

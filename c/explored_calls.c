@@ -62,6 +62,41 @@ void explored_call(yak_kind kind, int mqdes)
     machine_act(&op);
 }
 
+/* A change of the flag of a description matters to the calls that are about to be made on it. */
+void explored_setattr(int mqdes, bool nonblock)
+{
+    const uint32_t d = program_number(mqdes);
+    if (!is_step())
+        return;
+    if (nonblock && d < DESCRIPTIONS && !the_program.nonblock[d] && the_machine.chooses &&
+        machine_has_others())
+        the_machine.shared->sets_flags = true;
+    explored_call(STEP_SETATTR, mqdes);
+}
+
+/* Whether this thread's call has begun to wait by a step of its own. */
+static __thread bool has_begun;
+
+bool explored_has_begun(void)
+{
+    return has_begun;
+}
+
+/* Begins a call by a step of its own, which reads the flag of the description. Whether it waits
+ * then. */
+static bool begins_to_wait(machine_op *op)
+{
+    machine_op begin = *op;
+    begin.flags |= YAK_TRY;
+    begin.nonblock = 0;
+    machine_act(&begin);
+    if (*op->nonblock || machine_can_move(op))
+        return false;
+    machine_gave(EAGAIN, 0);
+    op->nonblock = 0;
+    return true;
+}
+
 static bool is_wrong(bool is_send, uint32_t d, size_t len, unsigned prio)
 {
     const int64_t msgsize = queue_of(d)->msgsize;
@@ -75,19 +110,24 @@ void explored_transfer(bool is_send, int mqdes, size_t len, unsigned prio,
 {
     machine_op op;
     uint32_t d;
+    has_begun = false;
     if (!is_step())
         return;
     op = machine_op_on(is_send ? STEP_SEND : STEP_RECEIVE, 0, until);
     op.object = object_of(mqdes);
     op.arg = is_send ? prio : 0;
     d = program_number(mqdes);
-    if (d >= DESCRIPTIONS || is_wrong(is_send, d, len, prio))
+    if (d >= DESCRIPTIONS || is_wrong(is_send, d, len, prio)) {
         op.flags |= YAK_NEVER_BLOCKS;
-    else if (the_program.nonblock[d])
-        op.flags |= YAK_TRY;
-    /* By a seed the call waits in the library, where reports and notices see it. */
-    else if (queue_of(d)->object != 0 && the_machine.seed == 0)
+    } else if (queue_of(d)->object != 0 && the_machine.seed == 0) {
         op.with = (void *)(uintptr_t)queue_of(d);
+        op.nonblock = &the_program.nonblock[d];
+        if (the_machine.shared->is_begun && (has_begun = begins_to_wait(&op)) == false)
+            return;
+    } else if (the_program.nonblock[d]) {
+        /* By a seed the call waits in the library, where reports and notices see it. */
+        op.flags |= YAK_TRY;
+    }
     machine_act(&op);
 }
 
@@ -224,6 +264,12 @@ void explored_await(const _Atomic uint32_t *word, uint32_t value, const struct t
     snprintf(what, sizeof what, "%s on %.*s", here->asked.call, (int)here->len,
              (const char *)here->name);
     machine_waits(has_changed, &with, until, what);
+}
+
+void explored_refuses(void)
+{
+    if (the_machine.shared != 0)
+        the_machine.shared->child_calls = true;
 }
 
 void explored_journal(void)

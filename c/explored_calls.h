@@ -14,6 +14,7 @@
  * sends or receives. */
 void explored_names(yak_kind kind);
 void explored_call(yak_kind kind, int mqdes);
+void explored_setattr(int mqdes, bool nonblock);
 void explored_transfer(bool is_send, int mqdes, size_t len, unsigned prio,
                        const struct timespec *until);
 /* After it: 0 or its error, with a value that others can see. */
@@ -24,6 +25,10 @@ void explored_queue(unsigned slot, const uint8_t *name, size_t len, const yak_op
 void explored_number(unsigned number, uint32_t d);
 /* Whether the machine decides who runs. */
 bool explored_decides(void);
+/* Whether the call has begun to wait, so that the flag of its description is not asked again. */
+bool explored_has_begun(void);
+/* A forked child makes a call. */
+void explored_refuses(void);
 /* Waits until the word changes, or the deadline, which may be null. */
 void explored_await(const _Atomic uint32_t *word, uint32_t value, const struct timespec *until);
 /* The program has a journal; a thread is cancelled; the program is sent a signal. */
@@ -37,12 +42,15 @@ void explored_signals(void);
 
 #define explored_names(kind) ((void)0)
 #define explored_call(kind, mqdes) ((void)0)
+#define explored_setattr(mqdes, nonblock) ((void)0)
 #define explored_transfer(is_send, mqdes, len, prio, until) ((void)0)
 #define explored_gave(error, value) ((void)0)
 #define explored_moved(is_send, d, error, bytes, len) ((void)0)
 #define explored_queue(slot, name, len, opening) ((void)0)
 #define explored_number(number, d) ((void)0)
 #define explored_decides() false
+#define explored_has_begun() false
+#define explored_refuses() ((void)0)
 #define explored_await(word, value, until) ((void)0)
 #define explored_journal() ((void)0)
 #define explored_cancels(thread) ((void)0)

@@ -179,6 +179,14 @@ void *__tsan_memset(void *to, int with, size_t size)
 /* The turn of the operation of a function below. */
 #define TURN(kind) ((void)order, act(kind, at, sizeof *at, CODE))
 
+/* Whether a comparison let the value change: else the step was a poll in vain. */
+static bool is_changed(bool it)
+{
+    if (!it)
+        machine_was_vain();
+    return it;
+}
+
 #define FETCH(bits, type, what)                                                      \
     type __tsan_atomic##bits##_fetch_##what(volatile type *at, type with, int order) \
     {                                                                                \
@@ -199,29 +207,33 @@ void *__tsan_memset(void *to, int with, size_t size)
     }                                                                                             \
     type __tsan_atomic##bits##_exchange(volatile type *at, type with, int order)                  \
     {                                                                                             \
+        type before;                                                                              \
         TURN(STEP_STORE);                                                                         \
-        return __atomic_exchange_n(at, with, SEQ);                                                \
+        before = __atomic_exchange_n(at, with, SEQ);                                              \
+        if (before == with)                                                                       \
+            machine_was_vain();                                                                   \
+        return before;                                                                            \
     }                                                                                             \
     int __tsan_atomic##bits##_compare_exchange_strong(volatile type *at, type *expected,          \
                                                       type with, int order, int other)            \
     {                                                                                             \
         (void)other;                                                                              \
         TURN(STEP_STORE);                                                                         \
-        return __atomic_compare_exchange_n(at, expected, with, false, SEQ, SEQ);                  \
+        return is_changed(__atomic_compare_exchange_n(at, expected, with, false, SEQ, SEQ));      \
     }                                                                                             \
     int __tsan_atomic##bits##_compare_exchange_weak(volatile type *at, type *expected, type with, \
                                                     int order, int other)                         \
     {                                                                                             \
         (void)other;                                                                              \
         TURN(STEP_STORE);                                                                         \
-        return __atomic_compare_exchange_n(at, expected, with, false, SEQ, SEQ);                  \
+        return is_changed(__atomic_compare_exchange_n(at, expected, with, false, SEQ, SEQ));      \
     }                                                                                             \
     type __tsan_atomic##bits##_compare_exchange_val(volatile type *at, type expected, type with,  \
                                                     int order, int other)                         \
     {                                                                                             \
         (void)other;                                                                              \
         TURN(STEP_STORE);                                                                         \
-        __atomic_compare_exchange_n(at, &expected, with, false, SEQ, SEQ);                        \
+        is_changed(__atomic_compare_exchange_n(at, &expected, with, false, SEQ, SEQ));            \
         return expected;                                                                          \
     }                                                                                             \
     FETCH(bits, type, add)                                                                        \

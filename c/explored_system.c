@@ -1,5 +1,5 @@
 /* The names that the machine takes in libyakyrombe-seed and libyakyrombe-explore alone: futexes, by
- * which Rust's threads wait, and _exit. */
+ * which Rust's threads wait, timers, and _exit. */
 #define _GNU_SOURCE
 #include "machine.h"
 #include "the_program.h"
@@ -7,6 +7,7 @@
 #include <linux/futex.h>
 #include <stdarg.h>
 #include <sys/syscall.h>
+#include <sys/time.h>
 #include <unistd.h>
 
 /* A word of the library itself is none of the program's. */
@@ -74,6 +75,26 @@ long syscall(long number, ...)
                          (const struct timespec *)with[3]);
     }
     return YAK_REAL(syscall)(number, with[0], with[1], with[2], with[3], with[4], with[5]);
+}
+
+/* ---- timers, which run by the time of the system ---- */
+
+int timer_create(clockid_t clock, struct sigevent *event, timer_t *timer)
+{
+    machine_misses(UNSEEN_TIMERS);
+    return YAK_REAL(timer_create)(clock, event, timer);
+}
+
+int setitimer(__itimer_which_t which, const struct itimerval *now, struct itimerval *before)
+{
+    machine_misses(UNSEEN_TIMERS);
+    return YAK_REAL(setitimer)(which, now, before);
+}
+
+unsigned alarm(unsigned seconds)
+{
+    machine_misses(UNSEEN_TIMERS);
+    return YAK_REAL(alarm)(seconds);
 }
 
 /* ---- the end of the program ---- */

@@ -6,6 +6,7 @@
 
 #include <limits.h>
 #include <linux/futex.h>
+#include <signal.h>
 #include <stdlib.h>
 #include <string.h>
 #include <sys/syscall.h>
@@ -23,9 +24,16 @@ static __thread volatile bool is_parked;
 extern void __tsan_acquire(void *at) __attribute__((weak));
 extern void __tsan_release(void *at) __attribute__((weak));
 
+static void end_trace(yak_end why);
+
 void machine_stop(const char *why)
 {
     const char *seed = the_machine.seed;
+    if (seed == 0 && !the_machine.is_direct) {
+        snprintf(the_machine.shared->doubt, YAK_DOUBT, "%s", why);
+        end_trace(YAK_END_DOUBT);
+        machine_quit(2);
+    }
     fprintf(stderr, "yakyrombe: the run%s%s ends: %s\n", seed != 0 ? " with seed " : "",
             seed != 0 ? seed : "", why);
     the_machine.is_on = false;
@@ -87,6 +95,22 @@ uint32_t machine_clock_object(void)
 
 /* ---- the trace ---- */
 
+/* Whether a step of this kind only reads what others may change. */
+static bool only_looks(yak_kind kind)
+{
+    return kind == STEP_GETATTR || kind == STEP_LOAD || kind == STEP_SLEEP;
+}
+
+/* Whether a step can leave all as it was. */
+static bool may_be_vain(const seat *it)
+{
+    const yak_kind kind = it->op.kind;
+    return only_looks(kind) || kind == STEP_TRYLOCK || kind == STEP_SEMTRY ||
+           (machine_is_try(it) &&
+            (kind == STEP_SEND || kind == STEP_RECEIVE || kind == STEP_LOCK ||
+             kind == STEP_SEMWAIT || kind == STEP_RDLOCK || kind == STEP_WRLOCK));
+}
+
 static void note(yak_record it)
 {
     yak_explored *all = the_machine.shared;
@@ -129,8 +153,23 @@ void machine_also(yak_kind kind, uint32_t object)
 
 void machine_gave(int error, uint32_t value)
 {
+    if (!machine_decides() || !the_machine.is_noted)
+        return;
+    note((yak_record){.what = YAK_GAVE, .object = (uint32_t)error, .arg = value});
+    if (error == 0 && !only_looks(machine_seat()->op.kind))
+        machine_seat()->vain = 0;
+}
+
+void machine_was_vain(void)
+{
     if (machine_decides() && the_machine.is_noted)
-        note((yak_record){.what = YAK_GAVE, .object = (uint32_t)error, .arg = value});
+        machine_seat()->vain = machine_seat()->before + 1;
+}
+
+void machine_misses(unsigned what)
+{
+    if (the_machine.shared != 0)
+        __atomic_fetch_or(&the_machine.shared->unseen, what, __ATOMIC_SEQ_CST);
 }
 
 void machine_note_entries(void)
@@ -202,6 +241,20 @@ static void hold_back_yields(uint8_t *able)
             able[i] = YAK_CANNOT;
 }
 
+/* A thread that has polled in vain often enough gives way until another has gone on. */
+static void hold_back_polls(uint8_t *able)
+{
+    const unsigned most = the_machine.shared->most_polls;
+    bool others = false;
+    for (unsigned i = 0; most != 0 && i < the_machine.used; ++i)
+        others = others || (able[i] != YAK_CANNOT && the_machine.seats[i].vain < most);
+    for (unsigned i = 0; others && i < the_machine.used; ++i)
+        if (the_machine.seats[i].vain >= most && able[i] != YAK_CANNOT) {
+            able[i] = YAK_CANNOT;
+            the_machine.shared->gives_way = true;
+        }
+}
+
 /* With `--time last` a deadline passes only if no thread can run, the first one. */
 static void hold_back_deadlines(uint8_t *able)
 {
@@ -228,6 +281,7 @@ static unsigned look(uint8_t *able)
     }
     hold_back_yields(able);
     hold_back_deadlines(able);
+    hold_back_polls(able);
     return MACHINE_NONE;
 }
 
@@ -282,9 +336,49 @@ static bool is_awake(const uint8_t *able, unsigned i)
     return i < the_machine.used && able[i] != YAK_CANNOT && the_machine.seats[i].asleep == 0;
 }
 
+/* The rank of a new thread in a run at random: those that come later stand anywhere between the
+ * others, below all that a change of priorities gives. */
+static uint32_t new_rank(void)
+{
+    return (uint32_t)(simulation_number(&the_machine.random) >> 33) + YAK_MOST_STEPS;
+}
+
+/* Whether the priorities change at this step: each place is as likely as any other. */
+static bool is_change(void)
+{
+    const yak_explored *all = the_machine.shared;
+    return all->changes > 1 && all->length != 0 &&
+           simulation_number(&the_machine.random) % all->length < all->changes - 1;
+}
+
+/* Of those that can go on the one of the highest rank, as PCT has it: of depth 1 the ranks stay,
+ * and of greater depth the one that would go on sometimes falls behind all others. */
+static unsigned by_rank(const uint8_t *able)
+{
+    unsigned best = MACHINE_NONE;
+    for (unsigned tries = 0; tries < 2; ++tries) {
+        best = MACHINE_NONE;
+        for (unsigned i = 0; i < the_machine.used; ++i)
+            if (is_awake(able, i) &&
+                (best == MACHINE_NONE || the_machine.seats[i].rank > the_machine.seats[best].rank))
+                best = i;
+        if (tries != 0 || !is_change())
+            break;
+        the_machine.seats[best].rank = YAK_MOST_STEPS - 1 - the_machine.ranks++ % YAK_MOST_STEPS;
+    }
+    return best;
+}
+
 static unsigned at_random(const uint8_t *able, unsigned awake, unsigned *variant)
 {
-    unsigned left = (unsigned)(simulation_number(&the_machine.random) % awake), i = 0;
+    unsigned left, i = 0;
+    if (the_machine.shared->changes != 0) {
+        i = by_rank(able);
+        *variant =
+            (unsigned)(simulation_number(&the_machine.random) % variants(&the_machine.seats[i]));
+        return i;
+    }
+    left = (unsigned)(simulation_number(&the_machine.random) % awake);
     while (!is_awake(able, i) || left-- != 0)
         ++i;
     *variant = (unsigned)(simulation_number(&the_machine.random) % variants(&the_machine.seats[i]));
@@ -342,12 +436,22 @@ static yak_record record_of(const seat *it, yak_what what, unsigned able)
         .what = (uint8_t)what,
         .thread = (uint8_t)number_of(it),
         .kind = (uint8_t)it->op.kind,
-        .flags = (uint8_t)it->op.flags,
+        .flags = (uint8_t)(it->op.flags | (machine_is_try(it) ? YAK_TRY : 0)),
         .able = (uint8_t)able,
         .variants = (uint8_t)variants(it),
         .object = it->op.object,
         .arg = it->op.arg,
     };
+}
+
+/* Another thread's step may end the vain polls of all. */
+static void count_polls(seat *it)
+{
+    for (unsigned i = 0; i < the_machine.used; ++i)
+        if (&the_machine.seats[i] != it)
+            the_machine.seats[i].vain = 0;
+    it->before = it->vain;
+    it->vain = may_be_vain(it) || it->is_late ? it->vain + 1 : 0;
 }
 
 /* The step that a seat makes: what it touches, and the time. */
@@ -357,6 +461,9 @@ static void begin_step(seat *it, unsigned able, unsigned variant)
     it->is_late = able == YAK_LATE;
     it->variant = variant;
     it->ran = the_machine.steps;
+    the_machine.shared->running = it->tid;
+    if (!is_local(op->kind) || it->is_late)
+        count_polls(it);
     touch(op->object);
     the_machine.touches_all = op->kind == STEP_EXIT || op->kind == STEP_YIELD ||
                               (it->is_late && the_machine.shared->is_last);
@@ -387,7 +494,7 @@ static void note_choice(const seat *it, unsigned variant)
 
 static void end_by_deadlock(void)
 {
-    const char *doubt = the_machine.seed != 0 ? machine_doubt() : 0;
+    const char *doubt = machine_doubt();
     char why[256];
     if (doubt == 0)
         machine_end_run(YAK_END_DEADLOCK, 5);
@@ -567,9 +674,12 @@ seat *machine_add_seat(void)
 {
     const unsigned at = place_of_new();
     seat *it = &the_machine.seats[at];
-    if (at >= (reuses_seats() ? (unsigned)MACHINE_SEATS : (unsigned)YAK_SEATS))
+    if (at >= (reuses_seats() ? (unsigned)MACHINE_SEATS : (unsigned)YAK_SEATS)) {
+        if (the_machine.seed == 0)
+            machine_stop("the program starts more than 64 threads");
         return 0;
-    *it = (seat){.state = SEAT_PARKED, .op = {.kind = STEP_START}};
+    }
+    *it = (seat){.state = SEAT_PARKED, .op = {.kind = STEP_START}, .rank = new_rank()};
     the_machine.used += at == the_machine.used;
     return it;
 }
@@ -618,6 +728,14 @@ void machine_leave(void)
     number_here = HAS_LEFT;
 }
 
+bool machine_has_others(void)
+{
+    for (unsigned i = 0; i < the_machine.used; ++i)
+        if (the_machine.seats[i].state == SEAT_PARKED)
+            return true;
+    return false;
+}
+
 void machine_cancels(pthread_t thread)
 {
     for (unsigned i = 0; machine_decides() && i < the_machine.used; ++i)
@@ -662,6 +780,17 @@ static void say_end(yak_end why)
     }
 }
 
+/* What the program does that is not seen, as far as it shows at the end of a run. */
+static void look_for_handlers(void)
+{
+    for (int number = 1; number < SIGRTMIN; ++number) {
+        struct sigaction action;
+        if (sigaction(number, 0, &action) == 0 && action.sa_handler != SIG_DFL &&
+            action.sa_handler != SIG_IGN)
+            machine_misses(UNSEEN_HANDLERS);
+    }
+}
+
 void machine_keep_journal(void)
 {
     const char *path = getenv("YAK_JOURNAL");
@@ -695,6 +824,8 @@ static void end_trace(yak_end why)
         note_holder(it);
     }
     note((yak_record){.what = YAK_END, .kind = (uint8_t)why});
+    if (!the_machine.is_direct)
+        look_for_handlers();
     the_machine.is_on = false;
 }
 

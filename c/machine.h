@@ -42,7 +42,8 @@ typedef struct machine_op {
     pthread_mutex_t *mutex; /* of a wait for a condition */
     bool (*goes_on)(void *with);
     void *with;
-    const char *what; /* what a run by a seed says of it; null for the name of its kind */
+    const bool *nonblock; /* the flag of the description of a send or a receive; null if none */
+    const char *what;     /* what a run by a seed says of it; null for the name of its kind */
 } machine_op;
 
 typedef enum seat_state { SEAT_FREE, SEAT_PARKED, SEAT_RUNS, SEAT_OUT } seat_state;
@@ -60,6 +61,9 @@ typedef struct seat {
     unsigned variant; /* of its step */
     unsigned ran;     /* at which step it ran last */
     unsigned reads;   /* of the clock */
+    unsigned vain;    /* how often it polled in vain since another thread went on */
+    unsigned before;  /* the same before its last step */
+    uint32_t rank;    /* by which a run at random prefers it */
     unsigned asleep;  /* how many objects wake it, if it sleeps */
     uint32_t wakes[MACHINE_ASLEEP];
     machine_op op;
@@ -86,6 +90,7 @@ typedef struct machine {
     yak_explored *shared;
     unsigned used, last, leads;
     unsigned steps, first; /* and those before there was a choice */
+    unsigned ranks;        /* that were given to threads */
     uint64_t random;
     struct timespec now;
     unsigned touches; /* by the step that runs */
@@ -142,6 +147,10 @@ void machine_leave(void);
 void machine_cancels(pthread_t thread);
 /* The program ends by this step. */
 void machine_exits(int status);
+/* The step changed nothing, though one of its kind can. */
+void machine_was_vain(void);
+/* The program does what is not seen. */
+void machine_misses(unsigned what);
 /* The simulated time, and a moment so much later. */
 struct timespec machine_later(const struct timespec *time);
 /* Begins the choices. If yak-explore asks for runs, this returns in a child for each. */
@@ -199,6 +208,13 @@ pid_t machine_holder(const pthread_mutex_t *mutex);
 
 /* Why it is not certain that no thread can go on, or null if it is (doubt.c). */
 const char *machine_doubt(void);
+
+/* Whether there is what a send or a receive waits for. */
+bool machine_can_move(const machine_op *op);
+/* Whether there are other threads that have not ended. */
+bool machine_has_others(void);
+/* Whether what a parked thread is about to do does not block. */
+bool machine_is_try(const seat *it);
 
 /* Ends the run, which can't be decided. */
 void machine_stop(const char *why) __attribute__((noreturn));

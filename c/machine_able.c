@@ -35,7 +35,7 @@ static bool has_count(const void *at)
     return value > 0;
 }
 
-static bool can_move(const machine_op *op)
+bool machine_can_move(const machine_op *op)
 {
     const machine_queue *it = op->with;
     if (it == 0)
@@ -58,11 +58,16 @@ bool machine_is_cancelled_in(const seat *it)
     }
 }
 
+bool machine_is_try(const seat *it)
+{
+    return (it->op.flags & YAK_TRY) != 0 || (it->op.nonblock != 0 && *it->op.nonblock);
+}
+
 /* Whether what an operation waits for is there. */
 static bool is_there(const seat *it)
 {
     const machine_op *op = &it->op;
-    if ((op->flags & (YAK_TRY | YAK_NEVER_BLOCKS)) != 0)
+    if (machine_is_try(it) || (op->flags & YAK_NEVER_BLOCKS) != 0)
         return true;
     switch (op->kind) {
     case STEP_JOIN:
@@ -80,7 +85,7 @@ static bool is_there(const seat *it)
         return (*(const int *)op->at & 1) == 0;
     case STEP_SEND:
     case STEP_RECEIVE:
-        return can_move(op);
+        return machine_can_move(op);
     case STEP_COLLECT:
         return op->goes_on(op->with);
     case STEP_SLEEP:

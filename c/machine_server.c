@@ -49,7 +49,7 @@ static void stop_at(const char *text)
 {
     fprintf(stderr,
             "yakyrombe: YAK_SCHEDULE has %s, which is not STEP:THREAD or STEP:THREAD.VARIANT in "
-            "the order of the steps, each, last, or random:SEED\n",
+            "the order of the steps, each, begun, last, polls:MOST, or random:SEED\n",
             text);
     machine_quit(2);
 }
@@ -90,18 +90,31 @@ static void read_seed(const char *word, yak_explored *to)
         stop_at(word);
 }
 
+static void read_polls(const char *word, yak_explored *to)
+{
+    const char *at = word + 6;
+    to->most_polls = read_number(&at, 0, INT_MAX, word);
+    if (*at != 0)
+        stop_at(word);
+}
+
 static void read_schedule(const char *text, yak_explored *to)
 {
     char *copy = strdup(text), *rest = copy;
     if (copy == 0)
         stop("no memory");
+    to->most_polls = YAK_POLLS;
     for (char *word; (word = strtok_r(rest, " ", &rest)) != 0;) {
         if (strcmp(word, "each") == 0)
             to->is_each = true;
+        else if (strcmp(word, "begun") == 0)
+            to->is_begun = true;
         else if (strcmp(word, "last") == 0)
             to->is_last = true;
         else if (strncmp(word, "random:", 7) == 0)
             read_seed(word + 7, to);
+        else if (strncmp(word, "polls:", 6) == 0)
+            read_polls(word, to);
         else
             read_choice(word, to);
     }
@@ -122,9 +135,12 @@ static void begin_run(void)
 {
     const yak_explored *all = the_machine.shared;
     the_machine.chooses = true;
+    the_machine.shared->sees_memory = the_machine.sees_memory;
     the_machine.first = the_machine.steps;
     on_exit(end_program, 0);
     the_machine.random = simulation_state(all->seed);
+    the_machine.seats[0].rank =
+        (uint32_t)(simulation_number(&the_machine.random) >> 33) + YAK_MOST_STEPS;
     for (uint32_t i = 0; i < all->sleepers && i < YAK_MOST_SLEEPS; ++i) {
         seat *it = &the_machine.seats[(all->sleeper[i].thread - 1) % YAK_SEATS];
         if (it->asleep < MACHINE_ASLEEP)
@@ -146,6 +162,7 @@ static void serve(void)
     while (write(the_machine.link, &byte, 1) == 1 && read(the_machine.link, &byte, 1) == 1) {
         pid_t child;
         all->records = before;
+        all->doubt[0] = 0;
         child = _Fork();
         if (child == 0) {
             close(the_machine.link);
@@ -187,6 +204,7 @@ static void end_thread(void *of)
 /* A child that a program forks is not explored. By a seed it goes on, with one thread. */
 static void in_child(void)
 {
+    machine_misses(UNSEEN_CHILDREN);
     the_machine.is_on = the_machine.is_on && the_machine.seed != 0;
     if (!the_machine.is_on)
         return;

@@ -5,11 +5,14 @@
 #include <ctype.h>
 #include <errno.h>
 #include <fcntl.h>
+#include <poll.h>
 #include <signal.h>
 #include <stdlib.h>
 #include <string.h>
 #include <sys/wait.h>
 #include <unistd.h>
+
+enum { MOST_READ = 1 << 16 };
 
 static char *find_engine(void)
 {
@@ -40,7 +43,9 @@ void engine_start(engine *it, const options *options)
     close(to[0]);
     close(from[1]);
     it->to = need(fdopen(to[1], "w"));
-    it->from = need(fdopen(from[0], "r"));
+    it->from = from[0];
+    it->text = 0;
+    it->count = it->size = 0;
     it->told = 0;
     free(path);
     if (options->bounds == 0)
@@ -57,7 +62,8 @@ void engine_stop(engine *it)
     int status;
     kill(it->process, SIGKILL);
     fclose(it->to);
-    fclose(it->from);
+    close(it->from);
+    free(it->text);
     waitpid(it->process, &status, 0);
 }
 
@@ -118,16 +124,51 @@ static void read_run(char *at, yak_explored *to, const char *line)
         stop("the engine asks for '%s'", line);
 }
 
-asked engine_read(engine *it, yak_explored *to, char **line)
+/* Waits until the engine says more, and reads it: false at its end, or if the time is used up. */
+static bool read_more(engine *it, const options *options, bool *is_late)
 {
-    static char *text;
-    static size_t size;
-    ssize_t len = getline(&text, &size, it->from);
-    char *at = text;
-    if (len <= 0)
-        return ASKED_NOTHING;
-    if (text[len - 1] == '\n')
-        text[len - 1] = 0;
+    struct pollfd from = {.fd = it->from, .events = POLLIN};
+    ssize_t len;
+    int ready;
+    while ((ready = poll(&from, 1, milliseconds_left(options, -1))) < 0 && errno == EINTR)
+        ;
+    *is_late = ready == 0;
+    if (ready <= 0)
+        return false;
+    if (it->size - it->count < MOST_READ) {
+        it->size += MOST_READ;
+        it->text = need(realloc(it->text, it->size));
+    }
+    len = read(it->from, it->text + it->count, MOST_READ);
+    if (len > 0)
+        it->count += (size_t)len;
+    return len > 0;
+}
+
+/* The next line: null at the end, or if the time is used up. It lasts until the next. */
+static char *read_line(engine *it, const options *options, bool *is_late)
+{
+    static char *line;
+    char *end;
+    size_t len;
+    while (it->count == 0 || (end = memchr(it->text, '\n', it->count)) == 0)
+        if (!read_more(it, options, is_late))
+            return 0;
+    len = (size_t)(end - it->text);
+    line = need(realloc(line, len + 1));
+    memcpy(line, it->text, len);
+    line[len] = 0;
+    it->count -= len + 1;
+    memmove(it->text, end + 1, it->count);
+    return line;
+}
+
+asked engine_read(engine *it, const options *options, yak_explored *to, char **line)
+{
+    bool is_late = false;
+    char *text = read_line(it, options, &is_late), *at = text;
+    if (text == 0)
+        return is_late ? ASKED_LATE : ASKED_NOTHING;
     *line = text;
     to->choices = to->leads = to->sleepers = 0;
     to->is_random = false;
@@ -138,6 +179,7 @@ asked engine_read(engine *it, yak_explored *to, char **line)
     if (takes_word(&at, "random")) {
         to->is_random = true;
         to->seed = strtoull(at, 0, 10);
+        to->changes = (uint32_t)(to->seed % 4);
         return ASKED_RUN;
     }
     if (takes_word(&at, "bound"))
@@ -215,12 +257,30 @@ static const char *word_of_end(const run *it)
 {
     /* After a race the others' steps are missing, as after a signal. */
     static const char *const words[] = {"done",  "done",  "deadlock", "steps",
-                                        "unfit", "slept", "died"};
+                                        "unfit", "slept", "died",     "died"};
     if (it->is_hung)
         return "hung";
     if (it->end <= YAK_END_DONE && WIFSIGNALED(it->status))
         return "died";
     return words[it->end];
+}
+
+/* The threads that were parked when a run ended suddenly: those in front of the last step, but the
+ * one that made it. */
+static void put_left(FILE *to, const yak_explored *of)
+{
+    const yak_record *last = of->record + of->records, *at;
+    while (last != of->record && last[-1].what != YAK_CHOSE)
+        --last;
+    if (last == of->record)
+        return;
+    for (at = last - 1; at != of->record && at[-1].what == YAK_AT; --at)
+        ;
+    fputs_unlocked("left", to);
+    for (; at->what == YAK_AT; ++at)
+        if (at->thread != last[-1].thread)
+            put_thread(to, at);
+    putc_unlocked('\n', to);
 }
 
 void engine_tell(engine *it, const yak_explored *of, const run *result, bool fails)
@@ -231,6 +291,8 @@ void engine_tell(engine *it, const yak_explored *of, const run *result, bool fai
             fprintf(it->to, "room %u %u\n", it->told + 1, of->object[it->told].room);
     while (at != end)
         at = put_records(it->to, at, end);
+    if (result->end == YAK_END_NONE)
+        put_left(it->to, of);
     fprintf(it->to, "end %s %d\n", word_of_end(result), fails);
     fflush(it->to);
 }

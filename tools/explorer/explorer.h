@@ -5,6 +5,7 @@
 #include <explore.h>
 
 #include <stdio.h>
+#include <time.h>
 
 /* The statuses of yak-explore. */
 enum { EVERY_ORDER = 0, WRONG_USE = 2, FAILURE = 5, NOT_EVERY_ORDER = 6 };
@@ -12,7 +13,8 @@ enum { EVERY_ORDER = 0, WRONG_USE = 2, FAILURE = 5, NOT_EVERY_ORDER = 6 };
 typedef struct options {
     bool is_last; /* --time last */
     bool stops;   /* --stop */
-    unsigned long bounds, budget, check, seconds, steps;
+    unsigned long bounds, budget, early, check, seconds, steps, polls, step_seconds;
+    struct timespec until; /* the last moment, if there are seconds */
     const char *output;
     char **words; /* the program and its arguments */
 } options;
@@ -20,6 +22,8 @@ typedef struct options {
 /* Ends yak-explore with a line on the error stream. */
 void stop(const char *format, ...) __attribute__((noreturn, format(printf, 1, 2)));
 void *need(void *memory);
+/* The milliseconds that are left of `--seconds`, at the most so many. */
+int milliseconds_left(const options *of, int most);
 /* Where a file is: beside yak-explore, or in a folder named from there; null if it is nowhere. */
 char *find_beside(const char *name, const char *const *folders);
 
@@ -28,7 +32,8 @@ char *find_beside(const char *name, const char *const *folders);
 /* What a run came to. */
 typedef struct run {
     yak_end end;   /* YAK_END_NONE if the program ended without saying so */
-    bool is_hung;  /* it made no step for some seconds, and was killed */
+    bool is_hung;  /* a step computed for too long, and the run was killed */
+    bool is_late;  /* the seconds were used up, and it was killed */
     int status;    /* as waitpid has it */
     char *printed; /* on both streams, a string */
 } run;
@@ -45,7 +50,7 @@ typedef struct program {
 } program;
 
 void program_start(program *it, const options *options);
-/* Makes the run that it->shared asks for. */
+/* Makes the run that it->shared asks for. If it can't be decided, it->shared->doubt says why. */
 void program_run(program *it, run *result);
 void program_stop(program *it);
 /* Runs the program once without the server, by YAK_SCHEDULE: its status, or -1 if it was killed
@@ -58,16 +63,19 @@ int program_run_alone(const program *it, const char *schedule, const char *print
 
 typedef struct engine {
     pid_t process;
-    FILE *to, *from;
+    FILE *to;
+    int from;
+    char *text; /* what it has said and nobody has read: `count` bytes */
+    size_t count, size;
     uint32_t told; /* how many objects it knows */
 } engine;
 
-typedef enum asked { ASKED_RUN, ASKED_BOUND, ASKED_DONE, ASKED_NOTHING } asked;
+typedef enum asked { ASKED_RUN, ASKED_BOUND, ASKED_DONE, ASKED_NOTHING, ASKED_LATE } asked;
 
 void engine_start(engine *it, const options *options);
 void engine_stop(engine *it);
 /* Reads what the engine asks for next. A run is written into `to`; the line stays in `line`. */
-asked engine_read(engine *it, yak_explored *to, char **line);
+asked engine_read(engine *it, const options *options, yak_explored *to, char **line);
 /* Tells it what a run was. */
 void engine_tell(engine *it, const yak_explored *of, const run *result, bool fails);
 
@@ -102,12 +110,13 @@ steps steps_of(const yak_explored *of);
 bool next_step(steps *all, step *it);
 
 typedef struct outcome {
-    char *what; /* how a run ended, and what it printed: a line, and indented lines */
-    bool fails;
+    char *what;          /* how a run ended, and what it printed: a line, and indented lines */
+    bool fails, is_open; /* it can't be decided whether it fails */
     unsigned long runs, first;
+    unsigned long searched;       /* of these runs, by the search, and not at random */
     unsigned preemptions, length; /* of the shortest schedule */
     choice *choices;              /* of it: those that are not the rule's */
-    bool is_each;
+    bool is_each, is_begun;
 } outcome;
 
 typedef struct outcomes {
@@ -117,15 +126,27 @@ typedef struct outcomes {
 
 /* Keeps what a run came to: whether it fails. One that was not made to its end is not kept. */
 bool outcomes_keep(outcomes *all, const yak_explored *of, const run *result, unsigned long number);
+/* An outcome that only runs at random have had, or null. */
+const outcome *outcome_not_searched(const outcomes *all);
 /* The text of YAK_SCHEDULE. */
-char *schedule_of(const outcome *it, bool is_last);
+char *schedule_of(const outcome *it, const options *options);
 /* Asks for that schedule. */
 void ask_for(const outcome *it, yak_explored *to);
 /* The name of an object in a report. */
 const char *object_name(const yak_explored *of, uint32_t object, char *text, size_t size);
 const char *call_name(const yak_record *of);
 
+/* ---- what a program contains that is not seen (atomics.c) ---- */
+
+typedef enum atomics { ATOMICS_NONE, ATOMICS_SOME, ATOMICS_UNKNOWN } atomics;
+
+/* Whether the code of a program has atomic operations, by its instructions. */
+atomics atomics_in(const char *program);
+
 /* ---- the report (report.c) ---- */
+
+/* The command that repeats a run, as a line. */
+void write_command(FILE *to, const outcome *of, const program *it);
 
 void write_report(const outcomes *all, const program *it);
 /* Writes a folder for each failure. */

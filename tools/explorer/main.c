@@ -28,8 +28,12 @@ static const char *const help =
     "  --bounds MOST    schedules with 0 to MOST preemptions come first, or 'none'; 2 if left out\n"
     "  --budget RUNS    the most runs, 100000 if left out\n"
     "  --seconds N      the most seconds; no limit if 0 or left out\n"
+    "  --early RUNS     random runs before the search, 50 if left out\n"
     "  --check RUNS     random runs after the search, 200 if left out\n"
     "  --steps MOST     the most steps of a run, 2000 if left out\n"
+    "  --polls MOST     how often a thread polls in vain until others go on, 20 if left out; 0 is\n"
+    "                   no limit\n"
+    "  --step-seconds N the most seconds that the processor computes a step, 10 if left out\n"
     "  --stop           stop at the first failure\n"
     "  --output DIR     write a folder for each failure: schedule, journal, threads, lanes, "
     "output\n"
@@ -121,14 +125,31 @@ static unsigned long number_of(const char *option, const char *text, unsigned lo
     return it;
 }
 
-enum { BOUNDS = 1, BUDGET, CHECK, SECONDS, STEPS, TIME, STOP, OUTPUT, HELP, VERSION };
+enum {
+    BOUNDS = 1,
+    BUDGET,
+    EARLY,
+    CHECK,
+    SECONDS,
+    STEPS,
+    POLLS,
+    STEP_SECONDS,
+    TIME,
+    STOP,
+    OUTPUT,
+    HELP,
+    VERSION
+};
 
 static const struct option names[] = {
     {"bounds", required_argument, 0, BOUNDS},
     {"budget", required_argument, 0, BUDGET},
+    {"early", required_argument, 0, EARLY},
     {"check", required_argument, 0, CHECK},
     {"seconds", required_argument, 0, SECONDS},
     {"steps", required_argument, 0, STEPS},
+    {"polls", required_argument, 0, POLLS},
+    {"step-seconds", required_argument, 0, STEP_SECONDS},
     {"time", required_argument, 0, TIME},
     {"stop", no_argument, 0, STOP},
     {"output", required_argument, 0, OUTPUT},
@@ -146,6 +167,9 @@ static void take_option(options *to, int which, const char *text)
     case BUDGET:
         to->budget = number_of("budget", text, 1000000000);
         break;
+    case EARLY:
+        to->early = number_of("early", text, 1000000000);
+        break;
     case CHECK:
         to->check = number_of("check", text, 1000000000);
         break;
@@ -154,6 +178,12 @@ static void take_option(options *to, int which, const char *text)
         break;
     case STEPS:
         to->steps = number_of("steps", text, YAK_MOST_STEPS);
+        break;
+    case POLLS:
+        to->polls = number_of("polls", text, 1000000000);
+        break;
+    case STEP_SECONDS:
+        to->step_seconds = number_of("step-seconds", text, 1000000000);
         break;
     case TIME:
         if (strcmp(text, "any") != 0 && strcmp(text, "last") != 0)
@@ -179,12 +209,20 @@ static void take_option(options *to, int which, const char *text)
 
 static options read_options(int count, char **words)
 {
-    options it = {.bounds = 3, .budget = 100000, .check = 200, .steps = 2000};
+    options it = {.bounds = 3,
+                  .budget = 100000,
+                  .early = 50,
+                  .check = 200,
+                  .steps = 2000,
+                  .polls = YAK_POLLS,
+                  .step_seconds = 10};
     for (int which; (which = getopt_long(count, words, "+", names, 0)) != -1;)
         take_option(&it, which, optarg);
     it.words = words + optind;
     if (*it.words == 0)
         stop("there is no program to run; see yak-explore --help");
+    clock_gettime(CLOCK_MONOTONIC, &it.until);
+    it.until.tv_sec += (time_t)it.seconds;
     return it;
 }
 
@@ -200,7 +238,22 @@ typedef struct exploration {
     char *done; /* what the engine says of the end, or null */
     bool is_late;
     bool is_cut; /* a run had more steps than it may have */
+    char *doubt; /* why a run was not decided, or null */
 } exploration;
+
+int milliseconds_left(const options *of, int most)
+{
+    struct timespec now;
+    double left;
+    if (of->seconds == 0)
+        return most;
+    clock_gettime(CLOCK_MONOTONIC, &now);
+    left = (double)(of->until.tv_sec - now.tv_sec) * 1e3 +
+           (double)(of->until.tv_nsec - now.tv_nsec) / 1e6;
+    if (left <= 0)
+        return 0;
+    return most >= 0 && left > most ? most : left > 1e9 ? 1000000000 : (int)left + 1;
+}
 
 static double seconds_since(const struct timespec *from)
 {
@@ -241,32 +294,76 @@ static bool make_run(exploration *it, run *result, bool *fails)
     program_run(&it->program, result);
     ++it->runs;
     it->is_cut |= result->end == YAK_END_STEPS;
-    *fails = outcomes_keep(&it->outcomes, it->program.shared, result, it->runs);
+    if (result->end == YAK_END_DOUBT && it->doubt == 0)
+        it->doubt = need(strdup(it->program.shared->doubt));
+    *fails = !result->is_late && outcomes_keep(&it->outcomes, it->program.shared, result, it->runs);
     free(result->printed);
     show_progress(it, false);
-    it->is_late =
-        it->options->seconds != 0 && seconds_since(&it->began) >= (double)it->options->seconds;
-    return !it->is_late && !(*fails && it->options->stops) && !it->program.is_gone;
+    it->is_late = result->is_late || milliseconds_left(it->options, 1) == 0;
+    return !it->is_late && it->doubt == 0 && !(*fails && it->options->stops) &&
+           !it->program.is_gone;
+}
+
+/* How many choices a run had. */
+static uint32_t length_of(const yak_explored *of)
+{
+    uint32_t count = 0;
+    for (uint32_t i = 0; i < of->records; ++i)
+        count += of->record[i].what == YAK_CHOSE;
+    return count;
+}
+
+/* Makes random runs before the search, which find many failures sooner: of depths 1 to 3, after one
+ * by the rule. False if the search is not to begin. */
+static bool run_early(exploration *it)
+{
+    yak_explored *shared = it->program.shared;
+    bool goes_on = true, fails;
+    run result;
+    shared->is_random = true;
+    for (uint64_t seed = 0; goes_on && seed < it->options->early; ++seed) {
+        shared->choices = shared->leads = shared->sleepers = 0;
+        shared->seed = seed;
+        shared->changes = (uint32_t)(1 + seed % 3);
+        goes_on = make_run(it, &result, &fails);
+        shared->length = length_of(shared);
+    }
+    return goes_on;
+}
+
+/* Whether the search is to begin again: with unlocks and posts as steps, or with the begins of
+ * calls that wait. */
+static bool begins_again(yak_explored *shared)
+{
+    const bool is_each = !shared->is_each && has_tries(shared),
+               is_begun = !shared->is_begun && shared->sets_flags;
+    shared->is_each = shared->is_each || is_each;
+    shared->is_begun = shared->is_begun || is_begun;
+    return is_each || is_begun;
 }
 
 /* Searches until the engine is done, or something ends it earlier: false if the search is to begin
- * again with unlocks as steps. */
+ * again. */
 static bool search(exploration *it)
 {
     yak_explored *shared = it->program.shared;
-    bool goes_on = true, begins_again = false, fails;
+    bool goes_on = true, again = false, fails;
     run result;
     engine_start(&it->engine, it->options);
     while (goes_on) {
         char *line = 0;
-        switch (engine_read(&it->engine, shared, &line)) {
+        switch (engine_read(&it->engine, it->options, shared, &line)) {
         case ASKED_RUN:
             goes_on = make_run(it, &result, &fails);
-            begins_again = goes_on && !shared->is_each && has_tries(shared);
-            if (begins_again)
+            again = goes_on && begins_again(shared);
+            if (again)
                 goes_on = false;
             else
                 engine_tell(&it->engine, shared, &result, fails);
+            break;
+        case ASKED_LATE:
+            it->is_late = true;
+            goes_on = false;
             break;
         case ASKED_DONE:
             free(it->done);
@@ -281,14 +378,67 @@ static bool search(exploration *it)
         }
     }
     engine_stop(&it->engine);
-    return !begins_again;
+    return !again;
+}
+
+static const char *say_atomics(const exploration *it)
+{
+    if (it->program.library == 0)
+        return "what the program's own atomic operations do, if it has any";
+    switch (atomics_in(it->options->words[0])) {
+    case ATOMICS_SOME:
+        return "atomic operations, as those of C11, of C++ and of std's Mutex in Rust";
+    case ATOMICS_UNKNOWN:
+        return "atomic operations, if there are any";
+    default:
+        return 0;
+    }
+}
+
+/* What the program does and the explorer does not see, as the end of a line. */
+static void say_unseen(const exploration *it)
+{
+    static const char *const words[] = {
+#define YAK_UNSEEN_WORDS(name, words) words,
+        YAK_UNSEEN(YAK_UNSEEN_WORDS)
+#undef YAK_UNSEEN_WORDS
+    };
+    const yak_explored *shared = it->program.shared;
+    const char *begin = "; it does not see ", *atomics = 0;
+    for (unsigned i = 0; i < UNSEEN_KINDS; ++i)
+        if ((shared->unseen >> i & 1) != 0) {
+            printf("%s%s", begin, words[i]);
+            begin = ", and ";
+        }
+    if (!shared->sees_memory && (atomics = say_atomics(it)) != 0)
+        printf("%s%s", begin, atomics);
+}
+
+/* A run at random ended as none of the search did, so the search has left something out. */
+static bool say_fault(const exploration *it, const outcome *lacking)
+{
+    const outcome *searched = it->outcomes.them;
+    while (searched->searched == 0)
+        ++searched;
+    printf("not every order was tried: a random run ended as no run of the search, so the program "
+           "shares what is not seen, or this is a fault of the explorer\n  the random run: ");
+    write_command(stdout, lacking, &it->program);
+    printf("  a run of the search: ");
+    write_command(stdout, searched, &it->program);
+    return false;
 }
 
 static bool say_every_order(const exploration *it)
 {
-    printf("every order that can matter was tried");
+    const outcome *lacking = outcome_not_searched(&it->outcomes);
+    if (lacking != 0)
+        return say_fault(it, lacking);
+    printf("every order that can matter of what it sees was tried");
     if (it->is_cut)
         printf(", up to step %lu", it->options->steps);
+    if (it->program.shared->gives_way)
+        printf(", with at most %lu polls in a row and in vain", it->options->polls);
+    say_unseen(it);
     puts("");
     return true;
 }
@@ -298,7 +448,7 @@ static bool say_how_far(const exploration *it)
 {
     const char *done = it->done != 0 ? it->done : "";
     unsigned long unseen = 0, of = 0;
-    if (it->program.is_gone) {
+    if (it->program.is_gone && it->doubt == 0) {
         puts("the program ended before its first thread, in one order");
         return true;
     }
@@ -306,9 +456,11 @@ static bool say_how_far(const exploration *it)
         return say_every_order(it);
     if (sscanf(done, "unseen %lu %lu", &unseen, &of) == 2 && unseen == 0)
         return say_every_order(it);
-    if (of != 0)
+    if (it->doubt != 0)
+        printf("not every order was tried: %s\n", it->doubt);
+    else if (of != 0)
         printf("not every order was tried: %lu of %lu random runs had one that the search had not "
-               "seen, so the program shares what is not seen\n",
+               "seen, so the program shares what is not seen, or this is a fault of the explorer\n",
                unseen, of);
     else if (it->is_late)
         puts("not every order was tried: the time is used up");
@@ -348,9 +500,9 @@ int main(int count, char **words)
     program_start(&it.program, &options);
     if (it.program.is_gone)
         make_run(&it, &result, &fails);
-    else
+    else if (run_early(&it))
         while (!search(&it))
-            it.program.shared->is_each = true;
+            ;
     seconds = seconds_since(&it.began);
     show_progress(&it, true);
     if (options.output != 0 && it.outcomes.failing != 0)

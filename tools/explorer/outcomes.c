@@ -183,6 +183,8 @@ static void write_last_step(FILE *to, const yak_explored *of)
 
 static bool is_failure(const run *of)
 {
+    if (of->end == YAK_END_DOUBT)
+        return false;
     return of->is_hung || of->end == YAK_END_DEADLOCK || of->end == YAK_END_STEPS ||
            of->status != 0;
 }
@@ -196,6 +198,9 @@ static char *describe(const yak_explored *of, const run *result)
     if (result->is_hung) {
         fprintf(to, "hang\n");
         write_last_step(to, of);
+    } else if (result->end == YAK_END_DOUBT) {
+        fprintf(to, "%s\n", of->doubt);
+        write_waits(to, of);
     } else if (result->end == YAK_END_DEADLOCK) {
         fprintf(to, "deadlock\n");
         write_waits(to, of);
@@ -234,6 +239,7 @@ static void keep_choices(outcome *to, const yak_explored *of)
     free(to->choices);
     to->choices = need(calloc(to->length + 1, sizeof *to->choices));
     to->is_each = of->is_each;
+    to->is_begun = of->is_begun;
     for (step it; next_step(&all, &it);)
         if (!it.is_by_rule)
             to->choices[count++] = (choice){.step = it.choice->step,
@@ -265,6 +271,8 @@ bool outcomes_keep(outcomes *all, const yak_explored *of, const run *result, uns
         return false;
     it = find_outcome(all, describe(of, result), fails, number);
     ++it->runs;
+    it->searched += !of->is_random;
+    it->is_open = result->end == YAK_END_DOUBT;
     if (preemptions < it->preemptions || (preemptions == it->preemptions && length < it->length)) {
         it->preemptions = preemptions;
         it->length = length;
@@ -273,12 +281,23 @@ bool outcomes_keep(outcomes *all, const yak_explored *of, const run *result, uns
     return fails;
 }
 
-char *schedule_of(const outcome *it, bool is_last)
+const outcome *outcome_not_searched(const outcomes *all)
+{
+    for (unsigned i = 0; i < all->count; ++i)
+        if (all->them[i].searched == 0)
+            return &all->them[i];
+    return 0;
+}
+
+char *schedule_of(const outcome *it, const options *options)
 {
     char *text = 0;
     size_t size = 0;
     FILE *to = need(open_memstream(&text, &size));
-    fprintf(to, "%s%s", is_last ? "last " : "", it->is_each ? "each " : "");
+    fprintf(to, "%s%s%s", options->is_last ? "last " : "", it->is_each ? "each " : "",
+            it->is_begun ? "begun " : "");
+    if (options->polls != YAK_POLLS)
+        fprintf(to, "polls:%lu ", options->polls);
     for (unsigned i = 0; i < it->length; ++i) {
         fprintf(to, "%u:%u", it->choices[i].step, it->choices[i].thread);
         if (it->choices[i].variant != 0)
@@ -297,6 +316,7 @@ void ask_for(const outcome *it, yak_explored *to)
     to->choices = to->leads = to->sleepers = 0;
     to->is_random = false;
     to->is_each = it->is_each;
+    to->is_begun = it->is_begun;
     for (unsigned i = 0; i < it->length; ++i) {
         while (to->choices < it->choices[i].step)
             to->choice[to->choices++] = 0;

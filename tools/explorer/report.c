@@ -31,9 +31,9 @@ static void write_words(FILE *to, char *const *words)
     }
 }
 
-static void write_command(FILE *to, const outcome *of, const program *it)
+void write_command(FILE *to, const outcome *of, const program *it)
 {
-    char *schedule = schedule_of(of, it->options->is_last);
+    char *schedule = schedule_of(of, it->options);
     fprintf(to, "YAK_SCHEDULE=\"%s\"", schedule);
     if (it->library != 0)
         fprintf(to, " LD_PRELOAD=%s", it->library);
@@ -60,11 +60,14 @@ static void write_outcome(FILE *to, const outcome *of, const program *it)
 {
     const char *rest = strchrnul(of->what, '\n');
     fprintf(to, "%s: %.*s, %lu run%s, first in run %lu, %u preemption%s\n",
-            of->fails ? "failure" : "outcome", (int)(rest - of->what), of->what, of->runs,
-            plural(of->runs), of->first, of->preemptions, plural(of->preemptions));
+            of->fails     ? "failure"
+            : of->is_open ? "undecided"
+                          : "outcome",
+            (int)(rest - of->what), of->what, of->runs, plural(of->runs), of->first,
+            of->preemptions, plural(of->preemptions));
     if (*rest != 0)
         write_indented(to, rest + 1);
-    if (of->fails) {
+    if (of->fails || of->is_open) {
         fprintf(to, "  repeat it: ");
         write_command(to, of, it);
     }
@@ -169,7 +172,7 @@ static void make_folder(const char *path)
 
 static void write_folder(const char *folder, const outcome *of, program *it)
 {
-    char *schedule = schedule_of(of, it->options->is_last), *printed = path_in(folder, "output"),
+    char *schedule = schedule_of(of, it->options), *printed = path_in(folder, "output"),
          *journal = path_in(folder, "journal"), *threads = path_in(folder, "threads");
     FILE *to;
     run again;

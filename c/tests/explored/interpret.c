@@ -1,15 +1,34 @@
 /* interpret ROOM WORD..: a thread for each word, which makes the operations of its letters, each on
  * the object of the digit behind it. Prints what each thread was told, and what the queues hold.
- * checks/explored makes such words at random. */
+ * checks/explored makes such words at random (checks/random_programs.py has the letters). With C11
+ * defined, threads, mutexes and conditions are those of <threads.h>. */
 #include "short.h"
 
 #include <semaphore.h>
+
+#ifdef C11
+#include <threads.h>
+#define pthread_t thrd_t
+#define pthread_mutex_t mtx_t
+#define pthread_mutex_init(it, none) mtx_init(it, mtx_timed)
+#define pthread_mutex_lock mtx_lock
+#define pthread_mutex_trylock mtx_trylock
+#define pthread_mutex_timedlock mtx_timedlock
+#define pthread_mutex_unlock mtx_unlock
+#define pthread_cond_t cnd_t
+#define pthread_cond_init(it, none) cnd_init(it)
+#define pthread_cond_wait cnd_wait
+#define pthread_cond_timedwait cnd_timedwait
+#define pthread_cond_signal cnd_signal
+#define pthread_cond_broadcast cnd_broadcast
+#endif
 
 enum { THREADS = 8, OBJECTS = 2 };
 
 static mqd_t queues[OBJECTS], shy[OBJECTS]; /* the same queues, by descriptions that do not block */
 static pthread_mutex_t locks[OBJECTS];
 static pthread_cond_t conds[OBJECTS];
+static pthread_rwlock_t shared[OBJECTS];
 static sem_t sems[OBJECTS];
 static char **words;
 
@@ -54,6 +73,57 @@ static char try_lock(int i)
     return 'y';
 }
 
+static char lock_until(int i)
+{
+    const struct timespec until = in_a_second();
+    if (pthread_mutex_timedlock(&locks[i], &until) != 0)
+        return '-';
+    pthread_mutex_unlock(&locks[i]);
+    return 'm';
+}
+
+/* A read lock or a write lock that is given back at once, if there is one. */
+static char lock_shared(char letter, int i)
+{
+    const struct timespec until = in_a_second();
+    int error;
+    if (letter == 'i')
+        error = pthread_rwlock_tryrdlock(&shared[i]);
+    else if (letter == 'j')
+        error = pthread_rwlock_trywrlock(&shared[i]);
+    else if (letter == 'h')
+        error = pthread_rwlock_timedrdlock(&shared[i], &until);
+    else
+        error = pthread_rwlock_timedwrlock(&shared[i], &until);
+    if (error != 0)
+        return '-';
+    pthread_rwlock_unlock(&shared[i]);
+    return letter;
+}
+
+static char await_until(int i)
+{
+    const struct timespec until = in_a_second();
+    int error;
+    pthread_mutex_lock(&locks[0]);
+    error = pthread_cond_timedwait(&conds[i], &locks[0], &until);
+    pthread_mutex_unlock(&locks[0]);
+    return error != 0 ? '-' : 'C';
+}
+
+static char await_semaphore(int i)
+{
+    const struct timespec until = in_a_second();
+    return sem_timedwait(&sems[i], &until) == 0 ? 'z' : '-';
+}
+
+static void set_flags(int i, long flags)
+{
+    const struct mq_attr attr = {.mq_flags = flags};
+    if (mq_setattr(queues[i], &attr, 0) != 0)
+        abort();
+}
+
 static char await(int i)
 {
     pthread_mutex_lock(&locks[0]);
@@ -85,6 +155,16 @@ static char use_queue(char letter, int i, telling *of)
     case 't':
         until = in_a_second();
         return receive_from(queues[i], &until);
+    case 'f':
+        set_flags(i, O_NONBLOCK);
+        return 0;
+    case 'F':
+        set_flags(i, 0);
+        return 0;
+    case 'x':
+        if (held(queues[i]) != 0)
+            abort();
+        return 0;
     default:
         return (char)('0' + held(queues[i]));
     }
@@ -102,6 +182,26 @@ static char use_other(char letter, int i)
         return 0;
     case 'y':
         return try_lock(i);
+    case 'm':
+        return lock_until(i);
+    case 'R':
+        pthread_rwlock_rdlock(&shared[i]);
+        return 0;
+    case 'W':
+        pthread_rwlock_wrlock(&shared[i]);
+        return 0;
+    case 'U':
+        pthread_rwlock_unlock(&shared[i]);
+        return 0;
+    case 'i':
+    case 'j':
+    case 'h':
+    case 'v':
+        return lock_shared(letter, i);
+    case 'C':
+        return await_until(i);
+    case 'z':
+        return await_semaphore(i);
     case 'w':
         sem_wait(&sems[i]);
         return 0;
@@ -126,12 +226,42 @@ static void *work(void *of)
     telling *it = &tellings[(long)of];
     it->next = (char)('a' + 6 * (long)of);
     for (const char *at = words[(long)of]; *at != 0; at += 2) {
-        const char told = strchr("sSNTrntg", *at) != 0 ? use_queue(*at, at[1] - '0', it)
-                                                       : use_other(*at, at[1] - '0');
+        const char told = strchr("sSNTrntgfFx", *at) != 0 ? use_queue(*at, at[1] - '0', it)
+                                                          : use_other(*at, at[1] - '0');
         if (told != 0)
             it->said[it->count++] = told;
     }
     return 0;
+}
+
+#ifdef C11
+static int work_too(void *of)
+{
+    work(of);
+    return 0;
+}
+#endif
+
+static pthread_t begin(long i)
+{
+#ifdef C11
+    thrd_t it;
+    if (thrd_create(&it, work_too, (void *)i) != thrd_success)
+        abort();
+    return it;
+#else
+    return go(work, i);
+#endif
+}
+
+static void await_all(pthread_t *them, int threads)
+{
+#ifdef C11
+    for (int i = 0; i < threads; ++i)
+        thrd_join(them[i], 0);
+#else
+    join(them, threads);
+#endif
 }
 
 int main(int count, char **arguments)
@@ -145,12 +275,13 @@ int main(int count, char **arguments)
         shy[i] = mq_open(name, O_RDWR | O_NONBLOCK);
         pthread_mutex_init(&locks[i], 0);
         pthread_cond_init(&conds[i], 0);
+        pthread_rwlock_init(&shared[i], 0);
         sem_init(&sems[i], 0, 1);
     }
     words = arguments + 2;
     for (int i = 0; i < threads && i < THREADS; ++i)
-        them[i] = go(work, i);
-    join(them, threads);
+        them[i] = begin(i);
+    await_all(them, threads);
     for (int i = 0; i < threads; ++i)
         printf("%s,", tellings[i].said);
     for (int i = 0; i < OBJECTS; ++i) {

@@ -177,23 +177,6 @@ static void await_word(void)
     say('t');
 }
 
-/* The explorer does not see a pipe: whoever reads first waits for ever. */
-static int ends[2];
-
-static void *write_pipe(void *of)
-{
-    say('w');
-    (void)!write(ends[1], "p", 1);
-    return of;
-}
-
-static void read_pipe(void)
-{
-    char byte;
-    (void)!read(ends[0], &byte, 1);
-    say(byte);
-}
-
 static void *yield_to_all(void *of)
 {
     while (__atomic_load_n(&word, __ATOMIC_SEQ_CST) == 0)
@@ -252,7 +235,6 @@ static const struct way {
     {"sleep", sleep_and_say, say_m},
     {"futex", wake_word, await_word},
     {"exit", end_program, say_m},
-    {"pipe", write_pipe, read_pipe},
     {"yield", yield_to_all, yield_and_tell},
     {"twice", hold_for_a_while, lock_twice},
     {"recursive", sleep_and_say, lock_recursively},
@@ -282,8 +264,6 @@ int main(int count, char **words)
     pthread_t them[2];
     queue = fresh("/said", 8);
     sem_init(&semaphore, 0, 0);
-    if (pipe(ends) != 0)
-        abort();
     pthread_barrier_init(&barrier, 0, 2);
     for (unsigned i = 0; i < sizeof ways / sizeof ways[0]; ++i)
         if (strcmp(ways[i].name, name) == 0)
