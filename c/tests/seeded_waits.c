@@ -2,9 +2,11 @@
  * argument names one. A run that the machine can decide prints well; one that it can't ends with
  * status 2; none ends with status 5, since none comes to a deadlock. */
 #define _GNU_SOURCE
+#include <aio.h>
 #include <errno.h>
 #include <fcntl.h>
 #include <mqueue.h>
+#include <poll.h>
 #include <pthread.h>
 #include <semaphore.h>
 #include <signal.h>
@@ -283,14 +285,13 @@ static void names(void)
     }
 }
 
-/* ---- what it can't decide ---- */
-
 static int send_from_c11(void *of)
 {
     (void)of;
     return mq_send(queue, "a", 1, 0);
 }
 
+/* A thread of <threads.h> is one as any other. */
 static void c11(void)
 {
     char buf[8];
@@ -299,8 +300,38 @@ static void c11(void)
     WANT(mq_receive(queue, buf, sizeof buf, 0) == 1 && thrd_join(thread, 0) == thrd_success);
 }
 
+/* ---- what it can't decide ---- */
+
+/* A thread that the C library starts by itself: it says that a read is done. */
+static void start_stranger(void (*run)(union sigval value))
+{
+    static struct aiocb control;
+    static char byte;
+    control.aio_fildes = open("/dev/zero", O_RDONLY);
+    control.aio_buf = &byte;
+    control.aio_nbytes = 1;
+    control.aio_sigevent.sigev_notify = SIGEV_THREAD;
+    control.aio_sigevent.sigev_notify_function = run;
+    WANT(control.aio_fildes >= 0 && aio_read(&control) == 0);
+}
+
+static void send_as_stranger(union sigval value)
+{
+    (void)value;
+    mq_send(queue, "a", 1, 0);
+}
+
+static void stranger(void)
+{
+    char buf[8];
+    start_stranger(send_as_stranger);
+    WANT(mq_receive(queue, buf, sizeof buf, 0) == 1);
+}
+
 /* A thread that the machine does not know, and that makes none of its calls, lets one go on by a
  * signal. */
+static pthread_t first;
+
 static void post_from_handler(int number)
 {
     (void)number;
@@ -316,20 +347,18 @@ static void handle(int number)
     WANT(sigaction(number, &action, 0) == 0);
 }
 
-static int signal_from_c11(void *of)
+static void signal_as_stranger(union sigval value)
 {
-    struct timespec t = {0, 200000000};
-    thrd_sleep(&t, 0);
-    return pthread_sigqueue(*(pthread_t *)of, SIGUSR1, (union sigval){0});
+    poll(0, 0, 200);
+    pthread_sigqueue(first, SIGUSR1, value);
 }
 
-static void c11_quiet(void)
+static void quiet(void)
 {
-    pthread_t here = pthread_self();
-    thrd_t thread;
+    first = pthread_self();
     handle(SIGUSR1);
-    WANT(thrd_create(&thread, signal_from_c11, &here) == thrd_success);
-    WANT(sem_wait(&sem) == 0 && thrd_join(thread, 0) == thrd_success);
+    start_stranger(signal_as_stranger);
+    WANT(sem_wait(&sem) == 0);
 }
 
 static void *wait_for_queue(void *of)
@@ -390,7 +419,8 @@ int main(int count, char **words)
         {"cancels", cancels},
         {"names", names},
         {"c11", c11},
-        {"quiet", c11_quiet},
+        {"stranger", stranger},
+        {"quiet", quiet},
         {"suspends", suspends},
         {"timer", timer},
         {"shared", shared},
