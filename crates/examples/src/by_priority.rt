@@ -52,6 +52,7 @@ fn consume<L: Look<Guarded>, R: Wait + Clock>(
     Ok(urgent)
 }
 
+/// Threads take work by priority from one queue.
 pub fn run(rt: &(impl Print + Wait + Clock + Threads + Sync), alloc: Global) -> anyhow::Result<()> {
     let (mq, mut processes) = FastMq::new(alloc, 3)?;
     let two = processes.pop().unwrap();

@@ -10,6 +10,7 @@ use std::io::Print;
 use std::sync::Wait;
 use std::time::{Clock, Duration};
 
+/// Calls that wait until a deadline, by a clock that the program lends.
 pub fn run(rt: &(impl Print + Wait + Clock), alloc: Global) -> anyhow::Result<()> {
     let (mq, mut processes) = FastMq::new(alloc, 1)?;
     let mut process = processes.pop().unwrap();

@@ -10,6 +10,7 @@ use std::io::Print;
 use std::sync::Wait;
 use std::time::Clock;
 
+/// A journal that is read and checked.
 pub fn run(rt: &(impl Print + Wait + Clock), alloc: Global) -> anyhow::Result<()> {
     let (mq, processes) = FastMq::new(alloc, 2)?;
     let journal = journal_of(rt, mq, processes)?;

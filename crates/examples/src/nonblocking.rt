@@ -9,6 +9,7 @@ use std::io::Print;
 use std::sync::Wait;
 use std::time::Clock;
 
+/// Calls that never wait.
 pub fn run(rt: &(impl Print + Wait + Clock), alloc: Global) -> anyhow::Result<()> {
     let (mq, mut processes) = FastMq::new(alloc, 1)?;
     let mut process = processes.pop().unwrap();

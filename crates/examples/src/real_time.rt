@@ -238,6 +238,7 @@ fn print(rt: &impl Print, alloc: Global, journal: &Journal) -> anyhow::Result<()
     Ok(())
 }
 
+/// A real-time system in virtual time.
 pub fn run(rt: &(impl Print + Wait), alloc: Global) -> anyhow::Result<()> {
     let (mq, processes) = FastMq::new(alloc, 4)?;
     let journal = journal_of(rt, mq, processes)?;

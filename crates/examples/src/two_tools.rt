@@ -34,6 +34,7 @@ processes 2
 /// More steps than the search takes.
 const BUDGET: u64 = 10_000;
 
+/// All interleavings of a script of two tools, and its deadlock.
 pub fn run(rt: &impl Print, alloc: Global) -> anyhow::Result<()> {
     let script = read_script(alloc, WRITERS)?;
     let mut play = play_of(alloc, &script, WRITERS)?;

@@ -9,6 +9,7 @@ use std::io::Print;
 use std::sync::Wait;
 use std::time::Clock;
 
+/// Waits that are collected later.
 pub fn run(rt: &(impl Print + Wait + Clock), alloc: Global) -> anyhow::Result<()> {
     let (mq, mut processes) = FastMq::new(alloc, 2)?;
     let mut sender = processes.pop().unwrap();

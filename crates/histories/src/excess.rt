@@ -42,6 +42,7 @@ fn sends(prio: u32, message: &[u8], operation: &Operation) -> bool
         && operation.given.as_slice() == message
 }
 
+/// Whether a receive got this message, with this priority.
 pub fn has_got(prio: u32, message: &[u8], outcome: &Outcome) -> bool
     ensures { result ≡ has_got prio message.now outcome.now }
 {
@@ -71,7 +72,7 @@ fn first_after(time: u64, operations: &[Operation]) -> Option<usize>
         .position(|operation| returns_after(time, operation))
 }
 
-// The operations of a process before the first that had not returned by this time.
+/// The operations of a process before the first that had not returned by this time.
 pub fn returned_by(time: u64, operations: &[Operation]) -> &[Operation]
     ensures { result.now ≡ returned_by time operations.now }
 {

@@ -13,6 +13,7 @@ pub struct Names<'h> {
 }
 
 impl<'h> Names<'h> {
+    /// The names in these histories, with the unlinks of each. Fails if memory was refused.
     pub fn of(alloc: Global, histories: &'h Vec<Vec<Operation>>) -> Result<Names<'h>, AllocError> {
         let mut names: Vec<&'h [u8]> = Vec::new(alloc);
         for operations in histories {

@@ -22,8 +22,8 @@ use std::thread;
 use std::thread::{Promise, PromisedHandle, Threads};
 use std::time::Clock;
 
-// A thread promises to return the process of its share, which has made its calls or waits in one of
-// them.
+/// A thread promises to return the process of its share, which has made its calls or waits in one of
+/// them.
 #[derive(Drop)]
 pub struct Works<'s, L: Look<Guarded>>(Snapshot<Share<'s, Process<L>>>);
 

@@ -5,6 +5,7 @@ use crate::seats::About;
 use atomic_table::{Play, TableRule};
 use std::marker::PhantomData;
 
+/// The rule of Lamport's lock: `KeepsRule` of its words, its slot and its views.
 pub struct FastRule<S> {
     of: PhantomData<S>,
 }

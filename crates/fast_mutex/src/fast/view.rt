@@ -14,6 +14,7 @@ pub struct Plan<I> {
     pub told: bool,
 }
 
+/// What the proof knows of a seat of Lamport's lock. Nothing of it exists at run time.
 pub struct View<I> {
     pub at: At,
     /// In the critical section: the list found.

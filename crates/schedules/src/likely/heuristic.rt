@@ -80,6 +80,7 @@ struct Move {
 }
 
 impl Heuristic {
+    /// The heuristic for these tasks, before its first choice. Fails if memory was refused.
     pub fn new(alloc: Global, tasks: Tasks) -> Result<Heuristic, AllocError> {
         let Tasks {
             tasks,
