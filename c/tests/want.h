@@ -9,6 +9,11 @@
 #include <time.h>
 #include <unistd.h>
 
+/* musl has no names of errors. */
+#ifndef __GLIBC__
+#define strerrorname_np strerror
+#endif
+
 /* Ends the process, also a forked child, if the condition is false. */
 #define WANT(what)                                                                        \
     do                                                                                    \
