@@ -319,23 +319,113 @@ static int error_of(outcome it)
     }
 }
 
+/* Acquires the lock for a send or a receive, and finds its description. Nobody who is dead may be
+ * served by it. */
+static inline __attribute__((always_inline)) int enter_transfer(int mqdes, uint32_t *d)
+{
+    const int error = program_enter();
+    if (error != 0)
+        return error;
+    if (__builtin_expect(the_program.is_logged, false) &&
+        the_program.tables.waiters != the_program.tables.idle)
+        program_end_dead_waits();
+    *d = program_number(mqdes);
+    return 0;
+}
+
+/* ---- tries before a wait ---- */
+
+enum {
+    RETRIES = 8,
+    /* Turns of a loop before the first: some 1.5 microseconds. Before the others twice as many. */
+    RETRY_PAUSE = 4096,
+    MOST_IN_VAIN = 16, /* after so many calls in a row for which that was in vain, */
+    SKIPS = 64         /* so many don't do it */
+};
+
+/* What the tries of this thread came to. */
+static _Thread_local struct {
+    unsigned in_vain; /* so often in a row */
+    unsigned left;    /* so many more calls don't try again */
+} retrying;
+
+/* Whether a call that would wait is one to try again. A stored journal is to have each wait, and a
+ * registration is to be told as before. A receive behind a send polls for its reply instead. */
+static bool may_try_again(uint32_t d, const request *asked)
+{
+    const yak_moment now = asked->is_timed ? yak_now() : (yak_moment){0};
+    return !the_program.nonblock[d] && !the_program.is_stored &&
+           the_program.tables.registered == 0 && !program_is_apart && !asked->is_reply &&
+           program_is_before(&now, &asked->until);
+}
+
+static void note_empty(uint32_t d, const request *asked)
+{
+    if (!asked->is_send)
+        the_program.is_empty[the_program.tables.descriptions[d].queue] = !the_program.is_stored;
+}
+
+/* What a try came to: an error without the lock, or the answer of the library. */
+typedef struct tried {
+    int error;
+    uint32_t answer;
+    uint32_t d;
+} tried;
+
+/* Makes a call that would wait again, some times, outside the lock between: others go on meanwhile.
+ * A queue that a crowd uses is seldom full or empty for long, and a wait costs a sleep, a wake and
+ * three calls of the library. The processor is not yielded: beside busy programs it would be gone
+ * for milliseconds. */
+static __attribute__((noinline)) tried try_again(uint32_t d, const request *asked,
+                                                 yak_message *message)
+{
+    tried it = {.answer = YAK_AGAIN, .d = d};
+    if (!may_try_again(d, asked))
+        return it;
+    if (retrying.left != 0) {
+        --retrying.left;
+        return it;
+    }
+    for (unsigned tries = 0; tries < RETRIES && it.answer == YAK_AGAIN; ++tries) {
+        note_empty(it.d, asked);
+        program_leave();
+        yak_pause_(tries == 0 ? RETRY_PAUSE : 2 * RETRY_PAUSE);
+        if ((it.error = enter_transfer(asked->number, &it.d)) != 0)
+            return it;
+        it.answer =
+            program_try(asked->is_send, it.d, asked->bytes, asked->len, asked->prio, message);
+    }
+    retrying.in_vain = it.answer == YAK_AGAIN ? retrying.in_vain + 1 : 0;
+    if (retrying.in_vain >= MOST_IN_VAIN)
+        retrying.left = SKIPS;
+    return it;
+}
+
 /* What is left of a send or a receive that the dispatcher has tried: its record, or the receive
  * that waited alone for it; a wait; the wakes and notices for others, and a warning. Leaves the
  * lock. */
 YAK_HOT static __attribute__((noinline)) outcome go_on(uint32_t d, const request *asked,
                                                        yak_message *message, uint32_t answer)
 {
-    outcome end = {.answer = answer};
+    outcome end = {.fate = ANSWERED};
     unsigned process = DISPATCHER;
     uint32_t answered = 0, handed = 0;
     int cancelling = -1;
     bool warns = false;
     notices found;
     found.count = 0;
+    if (answer == YAK_AGAIN) {
+        const tried again = try_again(d, asked, message);
+        if (again.error != 0)
+            return (outcome){.fate = REFUSED, .error = again.error};
+        answer = again.answer;
+        d = again.d;
+    }
+    end.answer = answer;
     if (answer == YAK_DONE)
         handed = program_record(d, asked);
-    if (answer == YAK_AGAIN && !asked->is_send)
-        the_program.is_empty[the_program.tables.descriptions[d].queue] = !the_program.is_stored;
+    if (answer == YAK_AGAIN)
+        note_empty(d, asked);
     if (answer == YAK_AGAIN && (!the_program.nonblock[d] || explored_has_begun()))
         end = program_wait(&process, d, asked, message, &cancelling);
     if (end.fate < LOST) {
@@ -359,74 +449,6 @@ YAK_HOT static __attribute__((noinline)) outcome go_on(uint32_t d, const request
     return end;
 }
 
-/* How a call that would wait tries again before it waits. */
-enum {
-    RETRIES = 8,
-    /* Turns of a loop before the first: some 1.5 microseconds. Before the others twice as many. */
-    RETRY_PAUSE = 4096,
-    MOST_IN_VAIN = 16, /* after so many calls in a row for which that was in vain, */
-    SKIPS = 64         /* so many don't do it */
-};
-
-/* What the retries of this thread came to. */
-static _Thread_local struct {
-    bool was_in_vain; /* the last time */
-    unsigned in_vain; /* how often in a row */
-    unsigned left;    /* how many more calls don't retry */
-} retrying;
-
-static bool begins_to_retry(void)
-{
-    if (retrying.left != 0) {
-        --retrying.left;
-        return false;
-    }
-    if (!retrying.was_in_vain)
-        retrying.in_vain = 0;
-    retrying.was_in_vain = false;
-    return true;
-}
-
-static void learn_that_in_vain(void)
-{
-    retrying.was_in_vain = true;
-    if (++retrying.in_vain >= MOST_IN_VAIN)
-        retrying.left = SKIPS;
-}
-
-/* Whether a call that would wait is one to try again. A stored journal is to have each wait, and a
- * registration is to be told as before. A receive behind a send polls for its reply instead. */
-static bool may_try_again(uint32_t d, bool is_send, const yak_moment *until)
-{
-    yak_moment now;
-    if (the_program.nonblock[d] || the_program.is_stored || the_program.tables.registered != 0 ||
-        program_is_apart || (!is_send && program_thread.has_sent))
-        return false;
-    if (until == &program_never)
-        return true;
-    now = yak_now();
-    return program_is_before(&now, until);
-}
-
-/* Leaves the lock to try a call again that would wait. Others go on meanwhile: a queue that a crowd
- * uses is seldom full or empty for long, and a wait costs a sleep, a wake and three calls of the
- * library. The processor is not yielded, which beside busy programs would be gone for milliseconds.
- */
-static __attribute__((noinline)) bool tries_again(uint32_t d, bool is_send, const yak_moment *until,
-                                                  unsigned *tries)
-{
-    if (*tries == 0 && (!may_try_again(d, is_send, until) || !begins_to_retry()))
-        return false;
-    if (*tries == RETRIES) {
-        learn_that_in_vain();
-        return false;
-    }
-    program_leave();
-    yak_pause_(*tries == 0 ? RETRY_PAUSE : 2 * RETRY_PAUSE);
-    ++*tries;
-    return true;
-}
-
 /* A send or a receive: 0, or -1 with errno. */
 static inline __attribute__((always_inline)) int
 make(const char *call, bool is_send, mqd_t mqdes, uint8_t *bytes, size_t len, uint32_t prio,
@@ -435,7 +457,6 @@ make(const char *call, bool is_send, mqd_t mqdes, uint8_t *bytes, size_t len, ui
     yak_moment moment = {0};
     outcome end;
     uint32_t answer, d;
-    unsigned tries = 0;
     int error;
     /* A pointer that is no good is met outside the lock. */
     if (until != 0) {
@@ -444,12 +465,8 @@ make(const char *call, bool is_send, mqd_t mqdes, uint8_t *bytes, size_t len, ui
     }
     explored_transfer(is_send, mqdes, len, prio, until);
     do {
-        if ((error = program_enter()) != 0)
+        if ((error = enter_transfer(mqdes, &d)) != 0)
             return fails(error);
-        if (__builtin_expect(the_program.is_logged, false) &&
-            the_program.tables.waiters != the_program.tables.idle)
-            program_end_dead_waits();
-        d = program_number(mqdes);
         answer = program_try(is_send, d, bytes, len, prio, message);
         if (__builtin_expect(answer == YAK_DONE && the_program.until_large >= 0 &&
                                  (the_program.is_logged | the_program.tables.registered |
@@ -467,9 +484,6 @@ make(const char *call, bool is_send, mqd_t mqdes, uint8_t *bytes, size_t len, ui
             program_thread.has_sent = is_send;
             explored_moved(is_send, d, 0, bytes, is_send ? len : message->len);
             return 0;
-        } else if (answer == YAK_AGAIN &&
-                   tries_again(d, is_send, until != 0 ? &moment : &program_never, &tries)) {
-            end.fate = ANEW;
         } else {
             const request asked = {
                 .call = call,

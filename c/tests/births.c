@@ -98,7 +98,7 @@ static void beside_others(void)
 /* What a child that dies at its birth would have held, the next open can have at once. */
 static void killed_at_birth(void)
 {
-    for (int round = 0; round < 40; ++round) {
+    for (int round = 0; round < 80; ++round) {
         mqd_t own = fresh("/yak-births-own", 4, 8, 0);
         pid_t child;
         WANT(mq_send(own, "x", 1, 0) == 0 && mq_unlink("/yak-births-own") == 0);
