@@ -55,19 +55,34 @@ static void end_by_race(const races_access *it, const races_other *other)
 
 /* ---- accesses ---- */
 
-/* What a step depends on: the granule. */
-static uint32_t granule_object(uintptr_t granule)
+/* What a step depends on: four bytes, so that two atomics of that size do not depend on each other
+ * because they stand side by side. */
+enum { HALF = RACES_GRANULE / 2 };
+
+static const void *half_of(const volatile void *at)
 {
-    return machine_object((const void *)granule, STEP_WRITE);
+    return (const void *)((uintptr_t)at - (uintptr_t)at % HALF);
+}
+
+static uint32_t half_object(uintptr_t at)
+{
+    return machine_object(half_of((const void *)at), STEP_WRITE);
 }
 
 static void see_granule(const races_access *it)
 {
+    const yak_kind kind = it->is_write ? STEP_WRITE : STEP_READ;
+    unsigned halves = (it->mask & 0x0f) != 0 ? 1 : 0;
     races_other other = {0};
     if (races_find(machine_number(), it, &other))
         end_by_race(it, &other);
-    if (!it->is_atomic && races_is_new(it->granule, it->is_write, the_machine.steps))
-        machine_also(it->is_write ? STEP_WRITE : STEP_READ, granule_object(it->granule));
+    if (it->is_atomic)
+        return;
+    halves |= (it->mask & 0xf0) != 0 ? 2 : 0;
+    halves = races_new_halves(it->granule, it->is_write, halves, the_machine.steps);
+    for (unsigned i = 0; i < 2; ++i)
+        if ((halves >> i & 1) != 0)
+            machine_also(kind, half_object(it->granule + i * HALF));
 }
 
 static void see(bool is_write, bool is_atomic, const volatile void *at, size_t size,
@@ -86,12 +101,14 @@ static void see(bool is_write, bool is_atomic, const volatile void *at, size_t s
     }
 }
 
-/* The turn of an atomic operation. */
+/* The turn of an atomic operation, which is one on each half that it touches. */
 static void act(yak_kind kind, const volatile void *at, size_t size, const void *code)
 {
-    const uintptr_t granule = (uintptr_t)at - (uintptr_t)at % RACES_GRANULE;
+    const uintptr_t from = (uintptr_t)half_of(at), end = (uintptr_t)at + size;
     if (is_seen())
-        machine_acts(kind, (const void *)granule, 0);
+        machine_acts(kind, (const void *)from, 0);
+    for (uintptr_t half = from + HALF; half < end && is_seen(); half += HALF)
+        machine_also(kind, machine_object((const void *)half, kind));
     see(kind == STEP_STORE, true, at, size, code);
 }
 
@@ -263,9 +280,8 @@ void __tsan_atomic_signal_fence(int order)
  */
 void __cxa_guard_release(uint64_t *guard)
 {
-    const uintptr_t granule = (uintptr_t)guard - (uintptr_t)guard % RACES_GRANULE;
     if (is_seen())
-        machine_also(STEP_STORE, granule_object(granule));
+        machine_also(STEP_STORE, half_object((uintptr_t)guard));
     YAK_REAL(__cxa_guard_release)(guard);
 }
 

@@ -17,8 +17,8 @@ typedef struct mark {
 
 typedef struct cell {
     uintptr_t granule;
-    unsigned step; /* in which it was read or written at last */
-    bool is_written;
+    unsigned step;          /* in which it was read or written at last */
+    unsigned read, written; /* its halves in that step */
     mark reads[YAK_SEATS + 1], writes[YAK_SEATS + 1];
 } cell;
 
@@ -109,16 +109,21 @@ bool races_find(unsigned thread, const races_access *it, races_other *other)
     return false;
 }
 
-bool races_is_new(uintptr_t granule, bool is_write, unsigned step)
+unsigned races_new_halves(uintptr_t granule, bool is_write, unsigned halves, unsigned step)
 {
     cell *at = cell_of(granule);
+    unsigned known;
     if (at == 0)
-        return true;
-    if (at->step == step && (at->is_written || !is_write))
-        return false;
+        return halves;
+    if (at->step != step)
+        at->read = at->written = 0;
     at->step = step;
-    at->is_written = is_write;
-    return true;
+    known = is_write ? at->written : at->read | at->written;
+    if (is_write)
+        at->written |= halves;
+    else
+        at->read |= halves;
+    return halves & ~known;
 }
 
 void races_forget(uintptr_t from, size_t size)

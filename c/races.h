@@ -41,8 +41,9 @@ void races_join(unsigned thread, unsigned ended);
 /* Whether another thread has made an access that conflicts with this one, and that nothing orders
  * before it. Keeps this one, unless it is atomic. */
 bool races_find(unsigned thread, const races_access *it, races_other *other);
-/* Whether the granule is new in this step, as read or as written, which is kept. */
-bool races_is_new(uintptr_t granule, bool is_write, unsigned step);
+/* Which of these halves of a granule are new in this step, as read or as written, which is kept. A
+ * half that was written is not new as read. */
+unsigned races_new_halves(uintptr_t granule, bool is_write, unsigned halves, unsigned step);
 /* Memory that is given back, or begins to be used anew. */
 void races_forget(uintptr_t from, size_t size);
 
