@@ -21,6 +21,10 @@ simulated_programs.py simulates some of them:
   z     a wait on a semaphore with a deadline
   c k b a wait on a condition variable, a signal, and a broadcast
   C     a wait on a condition variable with a deadline
+  o M   a post that is made once by all, and a barrier for two threads
+  P D   a thread that posts, and a notice of a queue that does
+  d Y   a sleep, and a yield
+  e     the end of the program with a status
 """
 # What a thread may do while it holds a mutex, but lock the other one.
 HELD = ["s0", "r0", "s1", ""]

@@ -4,7 +4,10 @@
  * defined, threads, mutexes and conditions are those of <threads.h>. */
 #include "short.h"
 
+#include <sched.h>
 #include <semaphore.h>
+#include <signal.h>
+#include <unistd.h>
 
 #ifdef C11
 #include <threads.h>
@@ -29,6 +32,8 @@ static mqd_t queues[OBJECTS], shy[OBJECTS]; /* the same queues, by descriptions 
 static pthread_mutex_t locks[OBJECTS];
 static pthread_cond_t conds[OBJECTS];
 static pthread_rwlock_t shared[OBJECTS];
+static pthread_barrier_t barriers[OBJECTS];
+static pthread_once_t onces[OBJECTS];
 static sem_t sems[OBJECTS];
 static char **words;
 
@@ -124,6 +129,70 @@ static void set_flags(int i, long flags)
         abort();
 }
 
+/* ---- threads that do one thing, and what else can be done ---- */
+
+static void *post(void *of)
+{
+    sem_post(of);
+    return 0;
+}
+
+static void post_at_notice(union sigval value)
+{
+    sem_post(value.sival_ptr);
+}
+
+static char ask_for_notice(int i)
+{
+    struct sigevent event = {
+        .sigev_notify = SIGEV_THREAD,
+        .sigev_notify_function = post_at_notice,
+        .sigev_value.sival_ptr = &sems[i],
+    };
+    return mq_notify(queues[i], &event) == 0 ? 'D' : '-';
+}
+
+static void post_once(void)
+{
+    sem_post(&sems[0]);
+}
+
+#ifdef C11
+static void start(void *(*run)(void *), void *with)
+{
+    run(with);
+}
+#else
+static void start(void *(*run)(void *), void *with)
+{
+    pthread_detach(go(run, (long)with));
+}
+#endif
+
+static char use_rest(char letter, int i)
+{
+    switch (letter) {
+    case 'e':
+        exit(3);
+    case 'o':
+        pthread_once(&onces[i], post_once);
+        return 0;
+    case 'Y':
+        sched_yield();
+        return 0;
+    case 'M':
+        return pthread_barrier_wait(&barriers[i]) != 0 ? 'M' : 'B';
+    case 'd':
+        usleep(1000);
+        return 0;
+    case 'P':
+        start(post, &sems[i]);
+        return 0;
+    default:
+        return ask_for_notice(i);
+    }
+}
+
 static char await(int i)
 {
     pthread_mutex_lock(&locks[0]);
@@ -182,6 +251,14 @@ static char use_other(char letter, int i)
         return 0;
     case 'y':
         return try_lock(i);
+    case 'e':
+    case 'o':
+    case 'Y':
+    case 'M':
+    case 'd':
+    case 'P':
+    case 'D':
+        return use_rest(letter, i);
     case 'm':
         return lock_until(i);
     case 'R':
@@ -276,6 +353,7 @@ int main(int count, char **arguments)
         pthread_mutex_init(&locks[i], 0);
         pthread_cond_init(&conds[i], 0);
         pthread_rwlock_init(&shared[i], 0);
+        pthread_barrier_init(&barriers[i], 0, 2);
         sem_init(&sems[i], 0, 1);
     }
     words = arguments + 2;
