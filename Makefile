@@ -101,6 +101,8 @@ install: $(foreach it,$(PROGRAMS),crates/$(it)/out/$(it)) $(LIB)/$(RECORDER)
 	  $(INSTALL) -m 644 tools/completions/tools $(DESTDIR)$(COMPLETIONSDIR)/$$program || exit 1; \
 	done
 
+	@[ -n "$(DESTDIR)" ] || echo "run ldconfig once, so that programs find what is in $(LIBDIR)"
+
 uninstall:
 	rm -f $(PROGRAMS:%=$(DESTDIR)$(BINDIR)/%) $(TOOLS:%=$(DESTDIR)$(BINDIR)/yak-%) \
 	  $(DESTDIR)$(BINDIR)/mqbench \
