@@ -100,7 +100,6 @@ install: $(foreach it,$(PROGRAMS),crates/$(it)/out/$(it)) $(LIB)/$(RECORDER)
 	for program in $(COMPLETED); do \
 	  $(INSTALL) -m 644 tools/completions/tools $(DESTDIR)$(COMPLETIONSDIR)/$$program || exit 1; \
 	done
-
 	@[ -n "$(DESTDIR)" ] || echo "run ldconfig once, so that programs find what is in $(LIBDIR)"
 
 uninstall:
