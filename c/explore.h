@@ -18,16 +18,19 @@ enum {
     YAK_MOST_SLEEPS = 1 << 10,
     YAK_OBJECT_NAME = 256,
     YAK_DOUBT = 256,
+    YAK_FRAMES = 6,
+    YAK_THREAD_NAME = 16,
     YAK_POLLS = 20, /* in a row and in vain, if nothing else is asked for */
     YAK_EXPLORE_VERSION = 2
 };
 
 /* What a program can do that is not seen, for the last line of a report. */
-#define YAK_UNSEEN(X)                            \
-    X(HANDLERS, "handlers of signals")           \
-    X(TIMERS, "timers")                          \
-    X(CHILDREN, "forked children")               \
-    X(CANCELS, "a cancellation that interrupts") \
+#define YAK_UNSEEN(X)                       \
+    X(HANDLERS, "handlers of signals")      \
+    X(TIMERS, "timers")                     \
+    X(CHILDREN, "forked children")          \
+    X(PIPES, "pipes and sockets")           \
+    X(CANCELS, "when a cancellation comes") \
     X(NOTICES, "that a receiver keeps a notice back")
 
 enum {
@@ -197,6 +200,14 @@ typedef struct yak_explored {
     bool gives_way;   /* a thread polled in vain, until others went on */
     bool child_calls; /* a forked child made calls on queues */
     char doubt[YAK_DOUBT];
+    /* Where in the program each step of a run was asked for, and the last one of each thread, as
+     * addresses to which calls return; and the names of threads. */
+    bool wants_places;
+    uint64_t place[YAK_MOST_STEPS][YAK_FRAMES];
+    uint64_t last_place[YAK_SEATS][YAK_FRAMES];
+    char thread_name[YAK_SEATS][YAK_THREAD_NAME];
+    uint64_t race[2]; /* the code of the last data race: this access, and the one before */
+    uint8_t race_thread[2];
     uint32_t objects;
     yak_object object[YAK_MOST_OBJECTS];
     uint32_t records;

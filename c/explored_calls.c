@@ -122,6 +122,9 @@ void explored_transfer(bool is_send, int mqdes, size_t len, unsigned prio,
     } else if (queue_of(d)->object != 0 && the_machine.seed == 0) {
         op.with = (void *)(uintptr_t)queue_of(d);
         op.nonblock = &the_program.nonblock[d];
+        if (!is_send && the_program.tables.registered != 0 && !*op.nonblock &&
+            !machine_can_move(&op))
+            machine_misses(UNSEEN_NOTICES);
         if (the_machine.shared->is_begun && (has_begun = begins_to_wait(&op)) == false)
             return;
     } else if (the_program.nonblock[d]) {
@@ -279,6 +282,7 @@ void explored_journal(void)
 
 void explored_cancels(pthread_t thread)
 {
+    machine_misses(UNSEEN_CANCELS);
     machine_cancels(thread);
 }
 

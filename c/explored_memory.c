@@ -47,6 +47,10 @@ static void end_by_race(const races_access *it, const races_other *other)
     write_place(where, sizeof where, (const void *)it->granule);
     write_place(here, sizeof here, it->code);
     write_place(there, sizeof there, other->code);
+    the_machine.shared->race[0] = (uint64_t)(uintptr_t)it->code;
+    the_machine.shared->race[1] = (uint64_t)(uintptr_t)other->code;
+    the_machine.shared->race_thread[0] = (uint8_t)machine_number();
+    the_machine.shared->race_thread[1] = (uint8_t)other->thread;
     fprintf(stderr, "yakyrombe: data race on %s: thread %u %s in %s, and thread %u %s in %s\n",
             where, machine_number(), it->is_write ? "writes" : "reads", here, other->thread,
             other->is_write ? "wrote" : "read", there);

@@ -6,6 +6,8 @@
 
 #include <linux/futex.h>
 #include <stdarg.h>
+#include <sys/eventfd.h>
+#include <sys/socket.h>
 #include <sys/syscall.h>
 #include <sys/time.h>
 #include <unistd.h>
@@ -95,6 +97,32 @@ unsigned alarm(unsigned seconds)
 {
     machine_misses(UNSEEN_TIMERS);
     return YAK_REAL(alarm)(seconds);
+}
+
+/* ---- what is not seen, but known to be there ---- */
+
+int pipe(int ends[2])
+{
+    machine_misses(UNSEEN_PIPES);
+    return YAK_REAL(pipe)(ends);
+}
+
+int pipe2(int ends[2], int flags)
+{
+    machine_misses(UNSEEN_PIPES);
+    return YAK_REAL(pipe2)(ends, flags);
+}
+
+int socketpair(int family, int type, int protocol, int ends[2])
+{
+    machine_misses(UNSEEN_PIPES);
+    return YAK_REAL(socketpair)(family, type, protocol, ends);
+}
+
+int eventfd(unsigned value, int flags)
+{
+    machine_misses(UNSEEN_PIPES);
+    return YAK_REAL(eventfd)(value, flags);
 }
 
 /* ---- the end of the program ---- */

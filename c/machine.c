@@ -4,6 +4,8 @@
 #include "machine.h"
 #include "races.h"
 
+#include <dlfcn.h>
+#include <execinfo.h>
 #include <limits.h>
 #include <linux/futex.h>
 #include <signal.h>
@@ -19,6 +21,8 @@ enum { HAS_LEFT = MACHINE_SEATS + 1 };
 static __thread unsigned number_here;
 /* Whether the thread is parked, where a signal handler may interrupt it. */
 static __thread volatile bool is_parked;
+/* Whether the thread looks for its place, by functions that lock mutexes of their own. */
+static __thread bool is_aside;
 
 /* ThreadSanitizer, if it is there, is told that a turn comes after the one before it. */
 extern void __tsan_acquire(void *at) __attribute__((weak));
@@ -42,7 +46,7 @@ void machine_stop(const char *why)
 
 bool machine_decides(void)
 {
-    if (!the_machine.is_on || number_here == HAS_LEFT)
+    if (!the_machine.is_on || number_here == HAS_LEFT || is_aside)
         return false;
     if (number_here == 0 && the_machine.is_inner)
         return false;
@@ -486,6 +490,8 @@ static void begin_step(seat *it, unsigned able, unsigned variant)
 
 static void note_choice(const seat *it, unsigned variant)
 {
+    if (the_machine.shared->wants_places && the_machine.steps < YAK_MOST_STEPS)
+        memcpy(the_machine.shared->place[the_machine.steps], it->frames, sizeof it->frames);
     ++the_machine.steps;
     the_machine.is_noted = true;
     note((yak_record){
@@ -571,6 +577,29 @@ static bool goes_on_alone(seat *it)
     return true;
 }
 
+/* Keeps where this thread asked for its operation: the calls outside this library, the last first;
+ * and what it is called. */
+static void note_place(seat *it)
+{
+    yak_explored *all = the_machine.shared;
+    const unsigned at = number_of(it) - 1;
+    void *frames[YAK_FRAMES + 16];
+    unsigned kept = 0;
+    int count;
+    Dl_info here, there;
+    memset(it->frames, 0, sizeof it->frames);
+    if (at >= YAK_SEATS || dladdr((void *)&the_machine, &here) == 0)
+        return;
+    is_aside = true;
+    count = backtrace(frames, YAK_FRAMES + 16);
+    is_aside = false;
+    for (int i = 0; i < count && kept < YAK_FRAMES; ++i)
+        if (dladdr(frames[i], &there) != 0 && there.dli_fbase != here.dli_fbase)
+            it->frames[kept++] = (uint64_t)(uintptr_t)frames[i];
+    memcpy(all->last_place[at], it->frames, sizeof it->frames);
+    pthread_getname_np(pthread_self(), all->thread_name[at], YAK_THREAD_NAME);
+}
+
 bool machine_act(const machine_op *op)
 {
     static const struct timespec moment = {.tv_nsec = 1000};
@@ -579,6 +608,8 @@ bool machine_act(const machine_op *op)
         machine_stop("a signal handler, which interrupted a thread that is parked, made a call");
     if (the_machine.seed != 0)
         the_machine.now = machine_later(&moment);
+    if (the_machine.shared->wants_places)
+        note_place(it);
     it->op = *op;
     it->state = SEAT_PARKED;
     it->is_late = false;
@@ -755,12 +786,18 @@ static void say_who_waits(void)
 {
     for (unsigned i = 0; i < the_machine.used; ++i) {
         const seat *it = &the_machine.seats[i];
-        const uint32_t object = it->op.object;
-        const char *name = object != 0 ? the_machine.shared->object[object - 1].name : "";
+        const yak_object *object =
+            it->op.object != 0 ? &the_machine.shared->object[it->op.object - 1] : 0;
+        const char *name = object != 0 ? object->name : "";
         const char *call = the_machine.seed != 0 && it->op.what != 0
                                ? it->op.what
                                : yak_call_name(it->op.kind, it->op.flags, it->op.mutex != 0);
-        if (it->state == SEAT_PARKED)
+        if (it->state != SEAT_PARKED)
+            continue;
+        /* Of waits that have begun, only those at a barrier are for an object. */
+        if (it->op.kind == STEP_COLLECT && it->op.at != 0)
+            fprintf(stderr, "yakyrombe: thread %u waits at a barrier\n", i + 1);
+        else
             fprintf(stderr, "yakyrombe: thread %u waits in %s%s%s\n", i + 1, call,
                     *name != 0 ? " on " : "", name);
     }

@@ -56,15 +56,16 @@ typedef struct seat {
     pid_t tid;
     bool is_joined;
     bool is_cancelled;
-    bool is_late;     /* its deadline has passed */
-    unsigned told;    /* by which step its wait was ended; 0 if none has */
-    unsigned variant; /* of its step */
-    unsigned ran;     /* at which step it ran last */
-    unsigned reads;   /* of the clock */
-    unsigned vain;    /* how often it polled in vain since another thread went on */
-    unsigned before;  /* the same before its last step */
-    uint32_t rank;    /* by which a run at random prefers it */
-    unsigned asleep;  /* how many objects wake it, if it sleeps */
+    bool is_late;                /* its deadline has passed */
+    unsigned told;               /* by which step its wait was ended; 0 if none has */
+    unsigned variant;            /* of its step */
+    unsigned ran;                /* at which step it ran last */
+    unsigned reads;              /* of the clock */
+    unsigned vain;               /* how often it polled in vain since another thread went on */
+    unsigned before;             /* the same before its last step */
+    uint32_t rank;               /* by which a run at random prefers it */
+    uint64_t frames[YAK_FRAMES]; /* where its operation was asked for */
+    unsigned asleep;             /* how many objects wake it, if it sleeps */
     uint32_t wakes[MACHINE_ASLEEP];
     machine_op op;
     uint32_t go; /* a futex word */

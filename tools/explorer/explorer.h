@@ -44,6 +44,7 @@ typedef struct program {
     pid_t server;
     int link, printed; /* files */
     off_t before;      /* what was printed before the first run */
+    unsigned placed;   /* how many outcomes were repeated for places */
     bool is_gone;      /* it ended before its first run, with this status */
     int status;
     yak_explored *shared;
@@ -135,6 +136,8 @@ void ask_for(const outcome *it, yak_explored *to);
 /* The name of an object in a report. */
 const char *object_name(const yak_explored *of, uint32_t object, char *text, size_t size);
 const char *call_name(const yak_record *of);
+/* Writes where a thread waits: a call, on an object. */
+void write_wait(FILE *to, const yak_explored *of, const yak_record *it);
 
 /* ---- what a program contains that is not seen (atomics.c) ---- */
 
@@ -143,12 +146,34 @@ typedef enum atomics { ATOMICS_NONE, ATOMICS_SOME, ATOMICS_UNKNOWN } atomics;
 /* Whether the code of a program has atomic operations, by its instructions. */
 atomics atomics_in(const char *program);
 
+/* ---- places in the source (places.c) ---- */
+
+typedef struct place {
+    uint64_t address; /* to which a call returns */
+    char *text;       /* or null */
+} place;
+
+/* The places of the program's code that a run came by. */
+typedef struct places {
+    char *path; /* of the program's file, which lies in memory from `begin` to `end` */
+    uint64_t begin, end, base;
+    place *them;
+    unsigned count;
+} places;
+
+/* Finds those of the run that was made last with it->shared->wants_places. */
+void places_find(places *all, const program *it);
+/* The first of these addresses that has a place: FILE:LINE in FUNCTION; null if none has. */
+const char *place_of(const places *all, const uint64_t *frames, unsigned count);
+void places_free(places *all);
+
 /* ---- the report (report.c) ---- */
 
 /* The command that repeats a run, as a line. */
 void write_command(FILE *to, const outcome *of, const program *it);
 
-void write_report(const outcomes *all, const program *it);
+/* Prints the outcomes. Repeats those that fail, to say where the threads are. */
+void write_report(const outcomes *all, program *it);
 /* Writes a folder for each failure. */
 void write_folders(const outcomes *all, program *it);
 

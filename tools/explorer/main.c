@@ -507,8 +507,8 @@ int main(int count, char **words)
     show_progress(&it, true);
     if (options.output != 0 && it.outcomes.failing != 0)
         write_folders(&it.outcomes, &it.program);
-    program_stop(&it.program);
     write_report(&it.outcomes, &it.program);
+    program_stop(&it.program);
     printf("%lu run%s in %.2f seconds, %u outcome%s, %u failing: ", it.runs,
            it.runs == 1 ? "" : "s", seconds, it.outcomes.count, it.outcomes.count == 1 ? "" : "s",
            it.outcomes.failing);

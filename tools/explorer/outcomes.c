@@ -47,10 +47,11 @@ static const char *noun_of(const yak_object *it)
 
 const char *object_name(const yak_explored *of, uint32_t object, char *text, size_t size)
 {
-    const yak_object *it = &of->object[object - 1];
+    const yak_object *it;
     unsigned number = 1;
     if (object == 0 || object > of->objects)
         return "";
+    it = &of->object[object - 1];
     if (it->name[0] != 0)
         return it->name;
     for (const yak_object *other = of->object; other != it; ++other)
@@ -146,20 +147,29 @@ static const yak_record *last_of(const yak_explored *of, unsigned what)
     return 0;
 }
 
+void write_wait(FILE *to, const yak_explored *of, const yak_record *it)
+{
+    char text[64];
+    const char *name = object_name(of, it->object, text, sizeof text);
+    const bool is_barrier = it->kind == STEP_COLLECT && it->object != 0 &&
+                            of->object[it->object - 1].kind == STEP_BARRIER;
+    if (is_barrier)
+        fprintf(to, "thread %u waits at %s", it->thread, name);
+    else if (it->kind == STEP_JOIN)
+        fprintf(to, "thread %u waits in %s for thread %u", it->thread, call_name(it), it->arg);
+    else
+        fprintf(to, "thread %u waits in %s%s%s", it->thread, call_name(it),
+                *name != 0 ? " on " : "", name);
+}
+
 static void write_waits(FILE *to, const yak_explored *of)
 {
     char text[64];
     for (uint32_t i = 0; i < of->records; ++i) {
         const yak_record *it = &of->record[i], *holds = it + 1;
-        const char *name;
         if (it->what != YAK_LEFT)
             continue;
-        name = object_name(of, it->object, text, sizeof text);
-        fprintf(to, "thread %u waits in %s", it->thread, call_name(it));
-        if (it->kind == STEP_JOIN)
-            fprintf(to, " for thread %u", it->arg);
-        else if (*name != 0)
-            fprintf(to, " on %s", name);
+        write_wait(to, of, it);
         if (it->kind == STEP_SEND || it->kind == STEP_RECEIVE)
             fprintf(to, ", which is %s", it->kind == STEP_SEND ? "full" : "empty");
         if (i + 1 < of->records && holds->what == YAK_HOLDS)

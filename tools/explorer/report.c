@@ -7,7 +7,8 @@
 #include <string.h>
 #include <sys/stat.h>
 
-enum { MOST_LINES = 20, MOST_OUTCOMES = 20 };
+/* The outcomes for which the places of the threads are looked up are fewer, since it takes time. */
+enum { MOST_LINES = 20, MOST_OUTCOMES = 20, MOST_PLACED = 5 };
 
 static const char *plural(unsigned long count)
 {
@@ -56,7 +57,71 @@ static void write_indented(FILE *to, const char *text)
     }
 }
 
-static void write_outcome(FILE *to, const outcome *of, const program *it)
+/* ---- where the threads of a run were ---- */
+
+/* Makes a run again, and keeps where its steps were asked for. */
+static void repeat(const outcome *of, program *it, places *found)
+{
+    run again;
+    ask_for(of, it->shared);
+    it->shared->wants_places = true;
+    memset(it->shared->last_place, 0, sizeof it->shared->last_place);
+    memset(it->shared->race, 0, sizeof it->shared->race);
+    program_run(it, &again);
+    it->shared->wants_places = false;
+    free(again.printed);
+    places_find(found, it);
+}
+
+/* The name of a thread, if it has one of its own. */
+static const char *name_of(const yak_explored *of, unsigned thread)
+{
+    const char *name = of->thread_name[thread - 1];
+    return thread > 1 && *name != 0 && strcmp(name, of->thread_name[0]) != 0 ? name : "";
+}
+
+static void write_thread(FILE *to, const yak_explored *of, unsigned thread, const char *place)
+{
+    const char *name = name_of(of, thread);
+    if (place != 0)
+        fprintf(to, "  thread %u%s%s%s: %s\n", thread, *name != 0 ? " (" : "", name,
+                *name != 0 ? ")" : "", place);
+}
+
+/* Whether a thread had not ended when the run did. */
+static bool is_there(const yak_explored *of, unsigned thread)
+{
+    uint32_t last = 0;
+    for (uint32_t i = 0; i < of->records; ++i)
+        if (of->record[i].what == YAK_AT || of->record[i].what == YAK_LEFT)
+            last = of->record[i].what == YAK_LEFT ? UINT32_MAX : of->record[i].step;
+    for (uint32_t i = 0; i < of->records; ++i) {
+        const yak_record *it = &of->record[i];
+        if (it->thread == thread && ((it->what == YAK_LEFT && last == UINT32_MAX) ||
+                                     (it->what == YAK_AT && it->step == last)))
+            return true;
+    }
+    return false;
+}
+
+/* Where the threads were at the end, and what two accesses of a data race are. */
+static void write_places(FILE *to, const outcome *of, program *it)
+{
+    const yak_explored *shared = it->shared;
+    places found;
+    repeat(of, it, &found);
+    if (shared->race[0] != 0)
+        for (unsigned i = 0; i < 2; ++i)
+            write_thread(to, shared, shared->race_thread[i], place_of(&found, &shared->race[i], 1));
+    else
+        for (unsigned thread = 1; thread <= YAK_SEATS; ++thread)
+            if (is_there(shared, thread))
+                write_thread(to, shared, thread,
+                             place_of(&found, shared->last_place[thread - 1], YAK_FRAMES));
+    places_free(&found);
+}
+
+static void write_outcome(FILE *to, const outcome *of, program *it)
 {
     const char *rest = strchrnul(of->what, '\n');
     fprintf(to, "%s: %.*s, %lu run%s, first in run %lu, %u preemption%s\n",
@@ -70,10 +135,12 @@ static void write_outcome(FILE *to, const outcome *of, const program *it)
     if (of->fails || of->is_open) {
         fprintf(to, "  repeat it: ");
         write_command(to, of, it);
+        if (it->server > 0 && of->fails && it->placed++ < MOST_PLACED)
+            write_places(to, of, it);
     }
 }
 
-void write_report(const outcomes *all, const program *it)
+void write_report(const outcomes *all, program *it)
 {
     unsigned others = 0;
     for (unsigned i = 0; i < all->count; ++i)
@@ -104,8 +171,11 @@ static void write_result(FILE *to, const yak_explored *of, const step *it)
     }
 }
 
-static void write_step(FILE *to, const yak_explored *of, const step *it, unsigned threads)
+static void write_step(FILE *to, const yak_explored *of, const step *it, unsigned threads,
+                       const places *found)
 {
+    const char *place =
+        place_of(found, of->place[(it->choice->step - 1u) % YAK_MOST_STEPS], YAK_FRAMES);
     char text[64];
     fprintf(to, "%5u%s", it->choice->step, it->preempts ? "*" : " ");
     for (unsigned i = 1; i <= threads; ++i)
@@ -120,6 +190,8 @@ static void write_step(FILE *to, const yak_explored *of, const step *it, unsigne
              it->chosen->kind != STEP_UNLINK)
         fprintf(to, " %s", object_name(of, it->chosen->object, text, sizeof text));
     write_result(to, of, it);
+    if (place != 0)
+        fprintf(to, "  [%s]", place);
     fputc('\n', to);
 }
 
@@ -133,14 +205,18 @@ static unsigned count_threads(const yak_explored *of)
 }
 
 /* A lane for each thread, downwards. */
-static void write_lanes(FILE *to, const yak_explored *of, const outcome *outcome)
+static void write_lanes(FILE *to, const yak_explored *of, const outcome *outcome,
+                        const places *found)
 {
     const unsigned threads = count_threads(of);
     steps all = steps_of(of);
     fprintf(to, "A line is a step: its number, the thread that makes it in the lane of its number, "
                 "and the call.\nA * marks a preemption.\n\n");
+    for (unsigned thread = 2; thread <= threads; ++thread)
+        if (*name_of(of, thread) != 0)
+            fprintf(to, "Thread %u is %s.\n", thread, name_of(of, thread));
     for (step it; next_step(&all, &it);)
-        write_step(to, of, &it, threads);
+        write_step(to, of, &it, threads, found);
     fprintf(to, "\n%s", outcome->what);
 }
 
@@ -175,17 +251,16 @@ static void write_folder(const char *folder, const outcome *of, program *it)
     char *schedule = schedule_of(of, it->options), *printed = path_in(folder, "output"),
          *journal = path_in(folder, "journal"), *threads = path_in(folder, "threads");
     FILE *to;
-    run again;
+    places found;
     make_folder(folder);
     to = create(folder, "schedule");
     fprintf(to, "%s\n", schedule);
     fclose(to);
-    ask_for(of, it->shared);
-    program_run(it, &again);
+    repeat(of, it, &found);
     to = create(folder, "lanes");
-    write_lanes(to, it->shared, of);
+    write_lanes(to, it->shared, of, &found);
     fclose(to);
-    free(again.printed);
+    places_free(&found);
     if (program_run_alone(it, schedule, printed, journal, threads) == 0)
         fprintf(stderr, "yak-explore: %s: outside the explorer this run did not fail\n", folder);
     free(schedule);

@@ -110,6 +110,17 @@ static void *meet(void *of)
     return of;
 }
 
+static void *meet_nobody(void *of)
+{
+    pthread_setname_np(pthread_self(), "lonely");
+    pthread_barrier_wait(&barrier);
+    return of;
+}
+
+static void say_nothing(void)
+{
+}
+
 static void begin_once(void)
 {
     ++value;
@@ -237,6 +248,7 @@ static const struct way {
     {"exit", end_program, say_m},
     {"yield", yield_to_all, yield_and_tell},
     {"twice", hold_for_a_while, lock_twice},
+    {"alone", meet_nobody, say_nothing},
     {"recursive", sleep_and_say, lock_recursively},
 };
 
