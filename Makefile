@@ -4,13 +4,14 @@
 #                                          headers for C, the manual, the pages, and the completion for bash
 # make uninstall PREFIX=/usr/local         removes what install has installed
 # make bench                               builds lib/mqbench, which measures calls
-# make dist                                writes dist/yakyrombe-VERSION-linux-x86_64.tar.gz
-# make deb                                 writes Debian packages into dist
+# make page                                writes playground.html, which runs scripts in a browser
+# make dist MACHINE=x86_64                 writes dist/yakyrombe-VERSION-linux-MACHINE.tar.gz
+# make deb MACHINE=x86_64                  writes Debian packages into dist
 # make clean                               removes what make has built, but not the proved libraries
 #
 # BINDIR, LIBDIR, LIBEXECDIR, INCLUDEDIR, MANDIR, DOCDIR and COMPLETIONSDIR are as usual. The proved
 # files have to be built before: ./test builds all of them. With PROGRAMS= no program is installed,
-# and only checks/c_library has to be run before.
+# and only checks/c_library has to be run before. MACHINE=aarch64 takes a cross compiler.
 CC ?= cc
 INSTALL ?= install
 CFLAGS ?= -O2 -g
@@ -23,13 +24,17 @@ MANDIR ?= $(PREFIX)/share/man
 DOCDIR ?= $(PREFIX)/share/doc/yakyrombe
 COMPLETIONSDIR ?= $(PREFIX)/share/bash-completion/completions
 DESTDIR ?=
+MACHINE ?= x86_64
 LIB ?= $(CURDIR)/lib
 VERSION := $(shell cat VERSION)
 PROGRAMS = mqrun mqlog
 TOOLS = run seeds record
 RECORDER = libyakyrombe-record.so
+# The folder of the programs for another machine (tools/packing/cross), and each program.
+CROSS =
+program = $(if $(CROSS),$(CROSS)/$(1),crates/$(1)/out/$(1))
 # The engine that tells yak-explore what to run next, if it is built.
-ENGINE = $(wildcard crates/mqexplore/out/mqexplore)
+ENGINE = $(wildcard $(call program,mqexplore))
 ENGINEDIR = $(LIBEXECDIR)/yakyrombe
 MANUAL = $(PROGRAMS:%=%.1) $(TOOLS:%=yak-%.1) yak-explore.1 mqbench.1
 COMPLETED = mqbench $(TOOLS:%=yak-%) yak-explore
@@ -46,7 +51,7 @@ ENGINE_NEAR = $(shell realpath -m --relative-to='$(BINDIR)' '$(ENGINEDIR)')
 help:
 	@sed -n '/^#/!q;s/^# \{0,1\}//p' Makefile
 
-$(foreach it,$(PROGRAMS),crates/$(it)/out/$(it)):
+$(foreach it,$(PROGRAMS),$(call program,$(it))):
 	@echo "$@ is not there: run ./test, or (cd crates/$(@F) && rt run -- --help < stdin)" >&2 && false
 
 $(LIB)/$(RECORDER): tools/recorder/record.c
@@ -61,14 +66,14 @@ $(LIB)/mqbench: $(wildcard tools/bench/*.[ch]) $(LIB)/libyakyrombe.a
 $(LIB)/libyakyrombe.a:
 	$(MAKE) -C c $@ LIB='$(LIB)'
 
-install: $(foreach it,$(PROGRAMS),crates/$(it)/out/$(it)) $(LIB)/$(RECORDER)
+install: $(foreach it,$(PROGRAMS),$(call program,$(it))) $(LIB)/$(RECORDER)
 	$(MAKE) -C c install LIB='$(LIB)'
 	$(MAKE) $(LIB)/mqbench LIB='$(LIB)'
 	$(INSTALL) -d $(DESTDIR)$(BINDIR) $(DESTDIR)$(LIBDIR) $(DESTDIR)$(MANDIR)/man1 \
 	  $(DESTDIR)$(DOCDIR)/docs $(DESTDIR)$(DOCDIR)/examples/c $(DESTDIR)$(COMPLETIONSDIR) \
 	  $(DESTDIR)$(DOCDIR)/examples/journals
-	for program in $(PROGRAMS); do \
-	  $(INSTALL) -m 755 crates/$$program/out/$$program $(DESTDIR)$(BINDIR) || exit 1; \
+	for program in $(foreach it,$(PROGRAMS),$(call program,$(it))); do \
+	  $(INSTALL) -m 755 $$program $(DESTDIR)$(BINDIR) || exit 1; \
 	done
 	$(INSTALL) -m 755 $(LIB)/mqbench $(DESTDIR)$(BINDIR)
 	for tool in $(TOOLS); do \
@@ -120,14 +125,18 @@ uninstall:
 
 bench: $(LIB)/mqbench
 
+page:
+	tools/playground/build
+
 dist:
-	tools/dist
+	MACHINE='$(MACHINE)' tools/dist
 
 deb:
-	tools/deb
+	MACHINE='$(MACHINE)' tools/deb
 
 clean:
 	$(MAKE) -C c clean LIB='$(LIB)'
-	rm -rf $(LIB)/$(RECORDER) $(LIB)/mqbench dist
+	rm -rf $(LIB)/$(RECORDER) $(LIB)/mqbench $(LIB)/playground $(LIB)/aarch64 \
+	  playground.html dist
 
-.PHONY: help install uninstall bench dist deb clean
+.PHONY: help install uninstall bench page dist deb clean

@@ -4,6 +4,11 @@ export LC_ALL=C
 umask 022
 # shellcheck disable=SC2034
 version=$(cat VERSION)
+# The machine for which is packed, as uname names it, what precedes the names of its tools, and the
+# compiler.
+machine=${MACHINE:-x86_64}
+tool_prefix=
+compiler=${CC:-cc}
 room=$(mktemp -d)
 trap 'rm -rf "$room"' EXIT
 
@@ -11,6 +16,15 @@ stop() {
   echo "$(basename "$0"): $1" >&2
   exit 1
 }
+
+case $machine in
+  x86_64) ;;
+  aarch64)
+    tool_prefix=$machine-linux-gnu-
+    compiler=${tool_prefix}gcc
+    ;;
+  *) stop "MACHINE is x86_64 or aarch64, not $machine" ;;
+esac
 
 # The logic by which a file was proved. The kit writes it into the file.
 logic_of() {
@@ -21,13 +35,20 @@ logic_of() {
 # parts without folders of this machine in their debugging information. Each proved file must have
 # been proved by the logic that README.md names.
 install_to_room() {
-  local prefix=$1 libraries=$2 file
+  local prefix=$1 libraries=$2 file words=()
   [ "$(uname -sm)" = "Linux x86_64" ] || stop "this is not Linux on x86-64"
   [ -z "$(git status --porcelain)" ] || stop "files differ from the commit: git status"
   [ -f lib/libyakyrombe.a ] || stop "lib/libyakyrombe.a is not there: run ./test"
   mkdir "$room/lib"
-  cp lib/libyakyrombe.a "$room/lib"
+  if [ "$machine" = x86_64 ]; then
+    cp lib/libyakyrombe.a "$room/lib"
+  else
+    tools/packing/cross "$machine" >&2
+    words=(LD="${tool_prefix}ld" AR="${tool_prefix}ar" OBJCOPY="${tool_prefix}objcopy"
+      CROSS="$PWD/lib/$machine" PROVED="$PWD/lib/$machine/libc_exports.a")
+  fi
   make -s install DESTDIR="$room/tree" PREFIX="$prefix" LIBDIR="$libraries" LIB="$room/lib" \
+    CC="$compiler" "${words[@]}" \
     CFLAGS="-O2 -g -ffile-prefix-map=$PWD=. -ffile-prefix-map=$room=." \
     LDFLAGS="-Wl,-z,relro,-z,now" >&2
   logic=$(logic_of "$room/tree$libraries/libyakyrombe.a")
