@@ -109,13 +109,15 @@ export class Player {
     }
 }
 
-/** Numbers below n, by a seed. */
+/** Numbers below n, by a seed: the generator is SplitMix64. */
 export function chooser(seed) {
     const MASK = (1n << 64n) - 1n;
-    let state = BigInt(seed) * 0x9e3779b97f4a7c15n & MASK;
+    let state = BigInt(seed);
     return (n) => {
-        state = state * 6364136223846793005n + 1442695040888963407n & MASK;
-        return Number((state >> 33n) % BigInt(n));
+        state = state + 0x9e3779b97f4a7c15n & MASK;
+        let bits = (state ^ state >> 30n) * 0xbf58476d1ce4e5b9n & MASK;
+        bits = (bits ^ bits >> 27n) * 0x94d049bb133111ebn & MASK;
+        return Number((bits ^ bits >> 31n) % BigInt(n));
     };
 }
 
