@@ -124,6 +124,11 @@ def note(out, wanted, logic):
         file.write(f"{wanted} {logic}\n")
 
 
+def is_kept(crate, out):
+    """Whether a build proves nothing that an earlier one has proved."""
+    return made_of(out)[0] == sum_of(crate) or os.path.exists(f"{TOP}/crates/{crate}/out/incremental")
+
+
 def build(crate, target, out, is_module=False):
     """Builds a crate for a target, unless that is there; returns the logic that has proved it."""
     out = os.path.abspath(out)
