@@ -1,7 +1,8 @@
 # make                                     prints this
 # make install PREFIX=/usr/local DESTDIR=  installs the programs, the tools yak-run, yak-seeds,
 #                                          yak-explore and yak-record, mqbench, the libraries and
-#                                          headers for C, the manual, the pages, and the completion for bash
+#                                          headers for C, the manual, the pages, and completion for bash,
+#                                          zsh and fish
 # make uninstall PREFIX=/usr/local         removes what install has installed
 # make bench                               builds lib/mqbench, which measures calls
 # make page                                writes playground.html, which runs scripts in a browser
@@ -9,9 +10,10 @@
 # make deb MACHINE=x86_64                  writes Debian packages into dist
 # make clean                               removes what make has built, but not the proved libraries
 #
-# BINDIR, LIBDIR, LIBEXECDIR, INCLUDEDIR, MANDIR, DOCDIR and COMPLETIONSDIR are as usual. The proved
-# files have to be built before: ./test builds all of them. With PROGRAMS= no program is installed,
-# and only checks/c_library has to be run before. MACHINE=aarch64 takes a cross compiler.
+# BINDIR, LIBDIR, LIBEXECDIR, INCLUDEDIR, MANDIR, DOCDIR, DATADIR, COMPLETIONSDIR, ZSHDIR and
+# FISHDIR are as usual. The proved files have to be built before: ./test builds all of them. With
+# PROGRAMS= no program is installed, and only checks/c_library has to be run before. MACHINE=aarch64
+# takes a cross compiler.
 CC ?= cc
 INSTALL ?= install
 CFLAGS ?= -O2 -g
@@ -23,6 +25,9 @@ LIBEXECDIR ?= $(PREFIX)/libexec
 MANDIR ?= $(PREFIX)/share/man
 DOCDIR ?= $(PREFIX)/share/doc/yakyrombe
 COMPLETIONSDIR ?= $(PREFIX)/share/bash-completion/completions
+ZSHDIR ?= $(PREFIX)/share/zsh/site-functions
+FISHDIR ?= $(PREFIX)/share/fish/vendor_completions.d
+DATADIR ?= $(PREFIX)/share/yakyrombe
 DESTDIR ?=
 MACHINE ?= x86_64
 LIB ?= $(CURDIR)/lib
@@ -39,6 +44,9 @@ ENGINEDIR = $(LIBEXECDIR)/yakyrombe
 MANUAL = $(PROGRAMS:%=%.1) $(TOOLS:%=yak-%.1) yak-explore.1 mqbench.1
 COMPLETED = mqbench $(TOOLS:%=yak-%) yak-explore
 COMPLETIONS = $(filter mqlog,$(PROGRAMS)) $(COMPLETED)
+# The paths from the completions for zsh and fish to that of both, and from there to those for bash.
+offer_near = $(shell realpath -m --relative-to='$(1)' '$(DATADIR)/offer')
+BASH_NEAR = $(shell realpath -m --relative-to='$(DATADIR)' '$(COMPLETIONSDIR)')
 DOCS = $(wildcard docs/*)
 EXAMPLES = $(wildcard examples/c/*.c)
 JOURNALS = $(wildcard examples/journals/*.journal)
@@ -105,6 +113,17 @@ install: $(foreach it,$(PROGRAMS),$(call program,$(it))) $(LIB)/$(RECORDER)
 	for program in $(COMPLETED); do \
 	  $(INSTALL) -m 644 tools/completions/tools $(DESTDIR)$(COMPLETIONSDIR)/$$program || exit 1; \
 	done
+	$(INSTALL) -d $(DESTDIR)$(ZSHDIR) $(DESTDIR)$(FISHDIR) $(DESTDIR)$(DATADIR)
+	sed 's|^completions=.*|completions=$$here/$(BASH_NEAR)|; /^# `make install` writes/d' \
+	  tools/completions/offer > $(DESTDIR)$(DATADIR)/offer
+	chmod 755 $(DESTDIR)$(DATADIR)/offer
+	sed 's|@OFFER@|$(call offer_near,$(ZSHDIR))|' tools/completions/zsh > $(DESTDIR)$(ZSHDIR)/_yakyrombe
+	chmod 644 $(DESTDIR)$(ZSHDIR)/_yakyrombe
+	for program in $(COMPLETIONS); do \
+	  sed -e "s|@PROGRAM@|$$program|" -e 's|@OFFER@|$(call offer_near,$(FISHDIR))|' \
+	    tools/completions/fish > $(DESTDIR)$(FISHDIR)/$$program.fish && \
+	  chmod 644 $(DESTDIR)$(FISHDIR)/$$program.fish || exit 1; \
+	done
 	@[ -n "$(DESTDIR)" ] || echo "run ldconfig once, so that programs find what is in $(LIBDIR)"
 
 uninstall:
@@ -112,7 +131,8 @@ uninstall:
 	  $(DESTDIR)$(BINDIR)/mqbench \
 	  $(DESTDIR)$(BINDIR)/yak-explore $(DESTDIR)$(ENGINEDIR)/mqexplore \
 	  $(DESTDIR)$(LIBDIR)/$(RECORDER) $(MANUAL:%=$(DESTDIR)$(MANDIR)/man1/%) \
-	  $(COMPLETIONS:%=$(DESTDIR)$(COMPLETIONSDIR)/%) \
+	  $(COMPLETIONS:%=$(DESTDIR)$(COMPLETIONSDIR)/%) $(COMPLETIONS:%=$(DESTDIR)$(FISHDIR)/%.fish) \
+	  $(DESTDIR)$(ZSHDIR)/_yakyrombe $(DESTDIR)$(DATADIR)/offer \
 	  $(DESTDIR)$(DOCDIR)/README.md $(DESTDIR)$(DOCDIR)/CHANGELOG.md \
 	  $(DOCS:%=$(DESTDIR)$(DOCDIR)/%) $(EXAMPLES:%=$(DESTDIR)$(DOCDIR)/%) \
 	  $(JOURNALS:%=$(DESTDIR)$(DOCDIR)/%) $(JOURNALS:%.journal=$(DESTDIR)$(DOCDIR)/%.svg) \
