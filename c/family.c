@@ -318,6 +318,13 @@ static size_t log_in_use(char **from)
     return the_program.is_torn ? (size_t)(the_program.log_next[the_program.log] - *from) : 0;
 }
 
+/* The other log, if messages are laid aside there. */
+static size_t aside_in_use(char **from)
+{
+    *from = the_program.arena.parts[ARENA_LOG + (the_program.log ^ 1)].from;
+    return the_program.aside != 0 ? (size_t)(the_program.aside - *from) : 0;
+}
+
 static size_t kept_in_use(char **from)
 {
     const uint32_t busy = the_program.tables.waiters & ~the_program.tables.idle;
@@ -325,17 +332,19 @@ static size_t kept_in_use(char **from)
     return busy != 0 ? (size_t)(32 - __builtin_clz(busy)) * MOST_BYTES : 0;
 }
 
-/* The picture has the tables, the log, what is kept, and the blocks. */
+/* The picture has the tables, the log, what is laid aside, what is kept, and the blocks. */
 static void take_picture(void)
 {
-    char *to, *log, *kept;
-    const size_t log_size = log_in_use(&log), kept_size = kept_in_use(&kept);
-    picture_size = sizeof(program) + log_size + kept_size + arena_image_size();
+    char *to, *log, *aside, *kept;
+    const size_t log_size = log_in_use(&log), aside_size = aside_in_use(&aside),
+                 kept_size = kept_in_use(&kept);
+    picture_size = sizeof(program) + log_size + aside_size + kept_size + arena_image_size();
     picture = mmap(0, picture_size, PROT_READ | PROT_WRITE, MAP_PRIVATE | MAP_ANONYMOUS, -1, 0);
     if (picture == MAP_FAILED)
         return;
     to = mempcpy(picture, program_at, sizeof(program));
     to = mempcpy(to, log, log_size);
+    to = mempcpy(to, aside, aside_size);
     to = mempcpy(to, kept, kept_size);
     arena_save(to);
 }
@@ -361,6 +370,9 @@ static void hang_picture(void)
     memcpy(program_at, at, sizeof(program));
     at += sizeof(program);
     size = log_in_use(&to);
+    memcpy(to, at, size);
+    at += size;
+    size = aside_in_use(&to);
     memcpy(to, at, size);
     at += size;
     size = kept_in_use(&to);

@@ -243,11 +243,12 @@ static bool may_be_child(const owner *it, uint64_t start)
     return then + OFF >= it->forked && (made == 0 || then <= made + OFF);
 }
 
-static bool has_place(pid_t pid)
+/* The number of a process that has a place and is dead may have been given to another one. */
+static bool has_place(pid_t pid, uint64_t start)
 {
     for (unsigned i = 0; i < the_program.owners_used; ++i)
         if (atomic_load(&the_program.owners[i].state) == OWNER_LIVE &&
-            the_program.owners[i].pid == pid)
+            the_program.owners[i].pid == pid && the_program.owners[i].start == start)
             return true;
     return false;
 }
@@ -263,7 +264,7 @@ static bool look_at(pid_t pid, pid_t unused)
         return false;
     for (unsigned i = 0; i < the_program.owners_used && !may_be_one; ++i)
         may_be_one = is_missed[i] && may_be_child(&the_program.owners[i], it.start);
-    if (!may_be_one || has_place(pid) || !has_arena(pid))
+    if (!may_be_one || has_place(pid, it.start) || !has_arena(pid))
         return false;
     for (unsigned i = 0; i < the_program.owners_used; ++i)
         is_missed[i] = is_missed[i] && !may_be_child(&the_program.owners[i], it.start);

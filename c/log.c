@@ -569,70 +569,6 @@ uint32_t did_end(unsigned process, uint8_t *buf, size_t len, yak_message *messag
 
 static uint8_t room[MOST_BYTES];
 
-/* A message that waits for its way back, in the log that is not in use. Its bytes follow. */
-typedef struct kept_back {
-    uint32_t prio;
-    uint32_t len;
-} kept_back;
-
-static uint32_t send_by(unsigned process, uint32_t d, const void *bytes, size_t len, uint32_t prio)
-{
-    uint32_t answer;
-    MADE(answer, yak_proved_start_send(at(process), d, bytes, len, prio));
-    program_count(answer == YAK_DONE ? len : 0);
-    return answer;
-}
-
-/* Receives all messages of a queue: the end of where they are, in order. */
-static char *take_all(unsigned process, uint32_t d, int64_t count, char *to)
-{
-    for (; count > 0; --count) {
-        kept_back *it = (kept_back *)(void *)to;
-        yak_message message = {0};
-        uint32_t answer;
-        MADE(answer, yak_proved_start_receive(at(process), d, (uint8_t *)(it + 1),
-                                              (size_t)MOST_BYTES, &message));
-        if (answer != YAK_DONE)
-            return 0;
-        *it = (kept_back){.prio = message.prio, .len = (uint32_t)message.len};
-        to += (sizeof *it + message.len + 7) & ~(size_t)7;
-    }
-    return to;
-}
-
-/* Sends a message in front of those of its priority: all others are received before and sent again,
- * in their order. There is room for one more, and for all of them in the other log. */
-static uint32_t send_in_front(unsigned process, uint32_t d, const void *bytes, size_t len,
-                              uint32_t prio, int64_t count)
-{
-    char *const from = the_program.arena.parts[ARENA_LOG + (the_program.log ^ 1)].from,
-                *const end = take_all(process, d, count, from);
-    uint32_t answer = end != 0 ? YAK_DONE : YAK_NOMEMORY;
-    bool is_sent = false;
-    for (char *it = from; answer == YAK_DONE && (it != end || !is_sent);) {
-        const kept_back *next = (const kept_back *)(void *)it;
-        if (!is_sent && (it == end || next->prio <= prio)) {
-            answer = send_by(process, d, bytes, len, prio);
-            is_sent = true;
-        } else {
-            answer = send_by(process, d, next + 1, next->len, next->prio);
-            it += (sizeof *next + next->len + 7) & ~(size_t)7;
-        }
-    }
-    return answer;
-}
-
-/* Whether the messages of a queue can be received and sent again: a process that is registered
- * there would be told, though the queue was not empty. */
-static bool has_registration(unsigned slot)
-{
-    for (uint32_t d = 0; d < DESCRIPTIONS && the_program.tables.registered != 0; ++d)
-        if (the_program.tables.registrations[d].is_set &&
-            the_program.tables.descriptions[d].queue == slot)
-            return true;
-    return false;
-}
-
 /* Keeps the message of a wait that the library has answered: false if memory is refused. */
 static bool keep(unsigned process, uint8_t *kept)
 {
@@ -645,36 +581,14 @@ static bool keep(unsigned process, uint8_t *kept)
     return answer == YAK_DONE;
 }
 
-/* Sends the message that a waiter keeps, in front of those of its priority or behind them, and ends
- * its wait. */
+/* Sends the message that a waiter keeps back to its queue, and ends its wait. */
 static uint32_t go_back(unsigned process, bool is_in_front)
 {
     const pending *it = &the_program.tables.waits[process];
-    const uint8_t *bytes = program_kept_from(process);
-    yak_attributes now = {0};
-    uint32_t answer;
-    READ(answer, yak_proved_getattr(at(process), it->d, &now));
-    if (answer == YAK_DONE && is_in_front)
-        answer =
-            send_in_front(process, it->d, bytes, it->message.len, it->message.prio, now.curmsgs);
-    else if (answer == YAK_DONE)
-        answer = send_by(process, it->d, bytes, it->message.len, it->message.prio);
+    const uint32_t answer = log_send_back(process, is_in_front);
     the_program.is_empty[it->queue] = false;
     apply_end(process);
     return answer;
-}
-
-/* Whether the queue of a wait has room, and the other log for all that is in it. */
-static bool has_room(const pending *it, unsigned process, bool *is_in_front)
-{
-    yak_attributes now = {0};
-    uint32_t answer;
-    READ(answer, yak_proved_getattr(at(process), it->d, &now));
-    *is_in_front =
-        !has_registration(it->queue) &&
-        arena_reaches(ARENA_LOG + (the_program.log ^ 1),
-                      (size_t)now.curmsgs * ((size_t)now.msgsize + 2 * sizeof(kept_back)));
-    return answer == YAK_DONE && now.curmsgs < now.maxmsg;
 }
 
 bool did_return(unsigned process, bool *is_returned)
@@ -694,7 +608,7 @@ bool did_return(unsigned process, bool *is_returned)
         return answer == YAK_DONE || answer == YAK_TIMEDOUT;
     }
     /* One that waits alone for a message is to find it. */
-    if (!has_room(it, process, &head.is_on) || did_enter(it->queue) != YAK_DONE)
+    if (!log_has_room(process, &head.is_on) || did_enter(it->queue) != YAK_DONE)
         return false;
     atomic_store(&the_program.hands[process].state, 0);
     if (go_back(process, head.is_on) != YAK_DONE) {
@@ -879,6 +793,7 @@ bool log_replay(void)
     const int64_t until_large = the_program.until_large;
     uint32_t answer = YAK_DONE;
     the_program.is_torn = true;
+    the_program.aside = 0;
     memset(the_program.is_empty, 0, sizeof the_program.is_empty);
     if (!log_load_image() && !begin_anew())
         return false;

@@ -78,6 +78,10 @@ bool did_take(unsigned process);
  * this goes back to its place in the queue, and `is_returned` is set. False, and nothing is
  * changed, if the queue has no room for it, or memory is refused. */
 bool did_return(unsigned process, bool *is_returned);
+/* Whether the queue of a wait has room for a message that goes back (returns.c), and whether it can
+ * go in front of those of its priority. Then how it is sent. */
+bool log_has_room(unsigned process, bool *is_in_front);
+uint32_t log_send_back(unsigned process, bool is_in_front);
 /* Takes the next notice of a dispatcher. log_take_notice commits it. */
 uint32_t did_next_notice(unsigned process, uint64_t *value);
 void log_take_notice(unsigned process, uint32_t d);

@@ -265,7 +265,8 @@ typedef struct program {
     unsigned log;      /* which of the two logs is in use */
     char *log_from[2]; /* its first record, which an image may precede */
     char *log_next[2];
-    size_t log_limit;                 /* in bytes: at this size a checkpoint is made */
+    char *aside;      /* the end of what is laid aside in the other log; null if nothing is */
+    size_t log_limit; /* in bytes: at this size a checkpoint is made */
     _Atomic uint32_t news[PROCESSES]; /* how often there was news for the wait of a waiter; that of
                                          the dispatcher is for overflow calls */
     unsigned seen_closes[PROCESSES];  /* `closes` when a waiter last released what nobody holds */

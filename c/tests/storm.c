@@ -217,7 +217,7 @@ int main(int count, char **words)
         "after a kill took %.0f ms\n",
         kills, receivers, accepted, atomic_load(&all->received), lost, slowest * 1000);
     /* An orphan may have received one, too. */
-    WANT(lost <= receivers && slowest < 2);
+    WANT(lost <= receivers && slowest < 5);
     puts("well");
     return 0;
 }
