@@ -4,9 +4,9 @@
  * is linked with --wrap, and stands in for two exports of the proved library and for the system
  * calls of c/wait.c. */
 #define _GNU_SOURCE
-#include <errno.h>
 #include <linux/futex.h>
 #include <pthread.h>
+#include <signal.h>
 #include <stdarg.h>
 #include <stdatomic.h>
 #include <stdio.h>
@@ -25,7 +25,7 @@ enum { FLAG = 1, POLLED = 1, WOKEN, ANNOUNCED, SLEEPS };
 
 static uint64_t words[128];
 static yak_process them[4];
-static atomic_int turn, is_down, is_late;
+static atomic_int turn, is_down;
 static _Thread_local int me;
 
 static void await(int wanted)
@@ -61,7 +61,7 @@ uint32_t __wrap_yak_proved_futex_word(yak_process *process, uint32_t *futex_word
 /* The system calls of c/wait.c. */
 long __wrap_syscall(long number, ...)
 {
-    long a[6], slept;
+    long a[6];
     va_list rest;
     va_start(rest, number);
     for (int i = 0; i < 6; ++i)
@@ -72,11 +72,17 @@ long __wrap_syscall(long number, ...)
         atomic_store(&turn, POLLED);
         await(ANNOUNCED);
         atomic_store(&turn, SLEEPS);
+        a[3] = 0; /* it sleeps until it is woken */
     }
-    slept = __real_syscall(number, a[0], a[1], a[2], a[3], a[4], a[5]);
-    if (slept < 0 && errno == ETIMEDOUT && me == 2)
-        atomic_store(&is_late, 1);
-    return slept;
+    return __real_syscall(number, a[0], a[1], a[2], a[3], a[4], a[5]);
+}
+
+static void tell_late(int number)
+{
+    (void)number;
+    puts("late");
+    fflush(stdout);
+    _exit(1);
 }
 
 static void *close_as(void *of)
@@ -92,6 +98,8 @@ int main(void)
     for (unsigned i = 1; i < 4; ++i)
         them[i] = (yak_process){.number = i, .futex_words = words};
     me = 1;
+    signal(SIGALRM, tell_late);
+    alarm(20);
     pthread_create(&second, 0, close_as, &them[2]);
     await(POLLED);
     /* Process 1 lowers its flag with the end of its call, and wakes those at it. */
@@ -101,6 +109,6 @@ int main(void)
     pthread_create(&third, 0, close_as, &them[3]);
     pthread_join(third, 0);
     pthread_join(second, 0);
-    puts(atomic_load(&is_late) ? "late" : "well");
+    puts("well");
     return 0;
 }

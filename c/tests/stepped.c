@@ -1,8 +1,10 @@
-/* A child is killed behind each instruction of a call, as far as time goes: a tracer lets it make
- * so many single steps, at random, and kills it. Then the queues are as if the call had been made,
- * or as if it had not. What others send is not lost; what the child had received is, at most.
+/* What happens behind a random instruction of a call: a tracer lets a child make so many single
+ * steps, and kills it, or lets a handler interrupt it that makes calls or forks. If it was killed,
+ * the queues are as if the call had been made, or as if it had not; what others send is not lost,
+ * and what the child had received is, at most. If it was interrupted, the call comes to its end,
+ * and no message is lost or comes twice. Over the kernel's queues it prints the same.
  *
- * usage: stepped [KILLS [SEED]] */
+ * usage: stepped [TIMES [SEED]] */
 #define _GNU_SOURCE
 #include <signal.h>
 #include <stdatomic.h>
@@ -19,45 +21,45 @@ static _Atomic int *reached;
 static mqd_t queue, other;
 static char buf[8];
 
-static void send_one(void)
+/* Each returns by how many messages more are in the queue. */
+static int send_one(void)
 {
-    mq_send(queue, "c", 1, 1);
+    return mq_send(queue, "c", 1, 1) == 0;
 }
 
-static void receive_one(void)
+static int receive_one(void)
 {
-    mq_receive(queue, buf, sizeof buf, 0);
+    return -(mq_receive(queue, buf, sizeof buf, 0) >= 0);
 }
 
-static void receive_until(void)
+static int receive_until(void)
 {
     struct timespec soon = after(1);
-    mq_timedreceive(queue, buf, sizeof buf, 0, &soon);
+    return -(mq_timedreceive(queue, buf, sizeof buf, 0, &soon) >= 0);
 }
 
-static void fork_one(void)
+static int fork_one(void)
 {
     if (fork() == 0)
         _exit(0);
+    return 0;
 }
 
-static void open_and_close(void)
-{
-    mq_close(mq_open("/yak-stepped-other", O_RDWR));
-}
-
-static void register_it(void)
+static int register_it(void)
 {
     struct sigevent event;
     memset(&event, 0, sizeof event);
     event.sigev_notify = SIGEV_NONE;
     mq_notify(queue, &event);
+    return 0;
 }
+
+static int open_and_close(void);
 
 /* A call: how many messages of the parent are in the queue before, by how many the killed child may
  * have changed that, and whether the parent sends one more while the child waits. */
 typedef struct call {
-    void (*make)(void);
+    int (*make)(void);
     int before, least, most;
     bool is_answered;
     unsigned steps; /* some more than it takes */
@@ -72,16 +74,54 @@ static call calls[] = {
 };
 enum { CALLS = sizeof calls / sizeof calls[0] };
 
+/* What becomes of the child: a handler makes calls, or forks. */
+enum { KILL, CALL, FORK, WAYS };
+static int way;
+/* Whether this is the child of the handler; and what both came to. */
+static bool is_second;
+static _Atomic int *results, *ended;
+
+/* What is opened on a copy is not there when the copy is gone. */
+static int open_and_close(void)
+{
+    WANT(mq_close(mq_open("/yak-stepped-other", O_RDWR)) == 0 || is_second);
+    return 0;
+}
+
+static void handle(int number)
+{
+    char own[8];
+    const int error = errno;
+    (void)number;
+    if (way == FORK)
+        is_second = fork() == 0;
+    else if (mq_send(other, "h", 1, 0) == 0)
+        WANT(mq_receive(other, own, sizeof own, 0) == 1);
+    else
+        WANT(errno == EDEADLK);
+    errno = error;
+}
+
 static void run(const call *it)
 {
+    struct sigaction action;
+    int result;
+    memset(&action, 0, sizeof action);
+    action.sa_handler = handle;
+    action.sa_flags = SA_RESTART;
+    WANT(sigaction(SIGUSR1, &action, 0) == 0);
     ptrace(PTRACE_TRACEME, 0, 0, 0);
     /* So that the step of a new process is not part of the call. */
     messages_in(other);
     atomic_store(reached, AT_START);
     raise(SIGSTOP);
-    it->make();
+    result = it->make();
     atomic_store(reached, IS_BACK);
-    pause_for(60000);
+    if (way == KILL)
+        pause_for(60000);
+    atomic_store(&results[is_second], result);
+    atomic_fetch_add(ended, 1);
+    _exit(0);
 }
 
 /* Waits until a step is done: false if the child sleeps. */
@@ -140,21 +180,31 @@ static void wait_in_vain(void)
 
 static unsigned lost;
 
+static pid_t begin(const call *it)
+{
+    int status;
+    pid_t child;
+    for (int i = 0; i < it->before; ++i)
+        WANT(mq_send(queue, "p", 1, 1) == 0);
+    wait_in_vain();
+    atomic_store(reached, 0);
+    atomic_store(ended, 0);
+    atomic_store(&results[0], 0);
+    atomic_store(&results[1], 0);
+    child = fork();
+    if (child == 0)
+        run(it);
+    WANT(waitpid(child, &status, __WALL) == child && WIFSTOPPED(status));
+    return child;
+}
+
 static void kill_in(call *it, unsigned most)
 {
     unsigned made;
     bool sleeps, was_answered = false;
     int status;
     long left;
-    pid_t child;
-    for (int i = 0; i < it->before; ++i)
-        WANT(mq_send(queue, "p", 1, 1) == 0);
-    wait_in_vain();
-    atomic_store(reached, 0);
-    child = fork();
-    if (child == 0)
-        run(it);
-    WANT(waitpid(child, &status, __WALL) == child && WIFSTOPPED(status));
+    const pid_t child = begin(it);
     made = make_steps(child, most, &sleeps);
     if (it->is_answered && sleeps) {
         /* It wakes, and goes on by steps. */
@@ -177,6 +227,51 @@ static void kill_in(call *it, unsigned most)
     WANT(mq_send(other, "o", 1, 0) == 0 && mq_receive(other, buf, sizeof buf, 0) == 1);
 }
 
+/* Lets an interrupted call come to its end: what it waits for comes, and is counted. */
+static int help(const call *it, int wanted)
+{
+    int helped = 0;
+    for (int i = 0; i < 20000 && atomic_load(ended) < wanted; ++i) {
+        usleep(i < 20 ? 50 : 500);
+        if (i % 10 != 9)
+            continue;
+        if (it->make == send_one && messages_in(queue) == ROOM) {
+            struct timespec past = {0, 0};
+            helped -= mq_timedreceive(queue, buf, sizeof buf, 0, &past) >= 0;
+        } else if (it->make == receive_one && messages_in(queue) == 0) {
+            WANT(mq_send(queue, "p", 1, 1) == 0);
+            ++helped;
+        }
+    }
+    WANT(atomic_load(ended) == wanted);
+    return helped;
+}
+
+/* A handler interrupts the child behind so many steps. If it forks, the second child may complete
+ * the call on a copy, of which the queue knows nothing. */
+static void interrupt_in(const call *it, unsigned most)
+{
+    const pid_t child = begin(it);
+    int helped, status, first, second;
+    bool sleeps;
+    long left;
+    make_steps(child, most, &sleeps);
+    if (sleeps)
+        WANT(kill(child, SIGSTOP) == 0 && waitpid(child, &status, __WALL) == child);
+    WANT(ptrace(PTRACE_DETACH, child, 0, (void *)(long)SIGUSR1) == 0);
+    if (sleeps)
+        kill(child, SIGCONT);
+    helped = help(it, way == FORK ? 2 : 1);
+    WANT(waitpid(child, &status, __WALL) == child && WIFEXITED(status) && WEXITSTATUS(status) == 0);
+    first = atomic_load(&results[0]);
+    second = atomic_load(&results[1]);
+    left = count_left() - it->before - helped - first;
+    if (left != 0 && left != second)
+        printf("way %d, call %d, %u steps: %ld messages more\n", way, (int)(it - calls), most,
+               left);
+    WANT(left == 0 || left == second);
+}
+
 static unsigned random_state;
 
 static unsigned random_below(unsigned most)
@@ -187,10 +282,12 @@ static unsigned random_below(unsigned most)
 
 int main(int count, char **words)
 {
-    const unsigned kills = count > 1 ? (unsigned)atoi(words[1]) : 200;
+    const unsigned times = count > 1 ? (unsigned)atoi(words[1]) : 200;
     unsigned steps = 0;
     random_state = count > 2 ? (unsigned)atoi(words[2]) : 1;
     reached = shared_memory(sizeof *reached);
+    results = shared_memory(2 * sizeof *results);
+    ended = shared_memory(sizeof *ended);
     queue = fresh("/yak-stepped", ROOM, 8, 0);
     other = fresh("/yak-stepped-other", ROOM, 8, 0);
     WANT(mq_unlink("/yak-stepped") == 0);
@@ -199,11 +296,14 @@ int main(int count, char **words)
         steps += calls[i].steps;
     }
     lost = 0;
-    for (unsigned i = 0; i < kills; ++i) {
+    for (unsigned i = 0; i < times; ++i) {
         call *it = &calls[i % CALLS];
+        way = KILL;
         kill_in(it, random_below(it->steps));
+        for (way = CALL; way < WAYS; ++way)
+            interrupt_in(it, random_below(it->steps));
     }
-    printf("%u kills in calls of %u steps: %u times a receiver had its message\n", kills, steps,
+    printf("%u times in calls of %u steps: %u times a receiver had its message\n", times, steps,
            lost);
     WANT(mq_unlink("/yak-stepped-other") == 0);
     puts("well");
