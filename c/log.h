@@ -105,7 +105,7 @@ bool log_load_image(void);
  * are whole, and are written elsewhere. Null if an allocation fails. */
 uint8_t *log_kept_again(unsigned process);
 /* A checkpoint is made when the records have this many bytes. */
-enum { LOG_LIMIT = 1 << 20 };
+enum { LOG_LIMIT = 1 << 18 };
 
 #pragma GCC visibility pop
 
