@@ -1,7 +1,7 @@
 //! A pool of workers, and a control message that overtakes the jobs that are still in the queue.
 
 use std::thread;
-use yakyrombe::{Error, OpenOptions, Process, Queue, System};
+use yakyrombe::{Error, OpenOptions, Process, System};
 
 const QUEUE: OpenOptions = OpenOptions::read_write().create().limits(64, 16);
 const JOB: u32 = 1;
@@ -13,34 +13,42 @@ fn main() -> Result<(), Error> {
     let (_, mut workers) = System::builder().processes(1 + WORKERS).build()?;
     let control = workers.remove(0);
     let pool = control.open("/pool", QUEUE)?;
+    let results = control.open("/results", QUEUE)?;
+    let threads: Vec<_> =
+        workers.into_iter().map(|process| thread::spawn(move || work(&process))).collect();
+
     for job in 0..JOBS {
         pool.send(job.to_string().as_bytes(), JOB)?;
     }
-    // The pool gets the order to stop before it starts, so the jobs stay in the queue.
+    for _ in 0..JOBS / 2 {
+        results.receive_vec()?;
+    }
+    // These overtake the jobs that nobody has begun.
     for _ in 0..WORKERS {
         pool.send(b"stop", CONTROL)?;
     }
 
-    let workers = workers
-        .into_iter()
-        .map(|process| Queue::open(process, "/pool", QUEUE))
-        .collect::<Result<Vec<_>, _>>()?;
-    let threads: Vec<_> =
-        workers.into_iter().map(|jobs| thread::spawn(move || work(&jobs))).collect();
     let done: usize = threads
         .into_iter()
         .map(|thread| thread.join().expect("no worker panics"))
         .sum::<Result<_, _>>()?;
-    println!("{done} jobs were done, {} are left", pool.attr()?.curmsgs);
+    let left = pool.try_iter().count();
+    println!("each of {JOBS} jobs is done or left: {}", done + left == JOBS);
+    println!("half of them are done: {}", done >= JOBS / 2);
     Ok(())
 }
 
-fn work(jobs: &Queue<Process>) -> Result<usize, Error> {
+/// Does jobs until a control message comes.
+fn work(process: &Process) -> Result<usize, Error> {
+    let jobs = process.open("/pool", QUEUE)?;
+    let results = process.open("/results", QUEUE)?;
     let mut done = 0;
-    for job in jobs {
-        if job?.priority == CONTROL {
+    for job in &jobs {
+        let job = job?;
+        if job.priority == CONTROL {
             break;
         }
+        results.send(&job, JOB)?;
         done += 1;
     }
     Ok(done)

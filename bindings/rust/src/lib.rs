@@ -154,7 +154,9 @@
 //!
 //! # What to keep in mind
 //!
-//! - A wait without a deadline that no other call answers never ends, as with a channel.
+//! - A wait without a deadline that no other call answers never ends. Queues are not channels: a
+//!   `receive` does not fail when nobody is left who could send. Wait with a deadline, or let the
+//!   last sender send a message that says so.
 //! - The library allocates with C's `malloc`.
 //! - No call may be made from a signal handler, or in a forked child of a program with threads.
 #![deny(missing_docs)]
