@@ -83,11 +83,14 @@ def words_for(crate, target, out):
 
 
 def toolchain(folder, module):
-    """A copy of the kit's toolchain whose compiler keeps the module."""
-    shutil.copytree(f"{kit()}/toolchain", folder, symlinks=True, copy_function=os.symlink)
-    os.remove(f"{folder}/bin/clang")
+    """The kit's toolchain, but for its compiler, which keeps the module."""
+    tools = f"{kit()}/toolchain"
+    os.makedirs(f"{folder}/bin")
+    os.symlink(f"{tools}/lib", f"{folder}/lib")
+    for name in set(os.listdir(f"{tools}/bin")) - {"clang"}:
+        os.symlink(f"{tools}/bin/{name}", f"{folder}/bin/{name}")
     with open(f"{folder}/bin/clang", "w", encoding="utf-8") as script:
-        script.write(KEEPS.format(module=module, clang=f"{kit()}/toolchain/bin/clang"))
+        script.write(KEEPS.format(module=module, clang=f"{tools}/bin/clang"))
     os.chmod(f"{folder}/bin/clang", 0o755)
     return folder
 

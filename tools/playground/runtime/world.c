@@ -91,11 +91,6 @@ int32_t EXPORT(host_run)(void)
 
 /* ---- arguments and environment ---- */
 
-size_t rattle_arg_count(void)
-{
-    return argument_count;
-}
-
 int64_t rattle_arg(size_t i, uint8_t *buf, size_t room)
 {
     if (i >= argument_count)
@@ -150,20 +145,9 @@ int64_t write(int32_t number, const uint8_t *from, size_t size)
     return (int64_t)size;
 }
 
-int64_t rattle_write_no_sigpipe(int32_t number, const uint8_t *from, size_t size)
+int64_t __write(int32_t number, const uint8_t *from, size_t size)
 {
     return write(number, from, size);
-}
-
-int64_t rattle_write_parts(int32_t number, uint32_t is_socket, const uint8_t *a, size_t a_len,
-                           const uint8_t *b, size_t b_len, const uint8_t *c, size_t c_len,
-                           const uint8_t *d, size_t d_len)
-{
-    (void)is_socket;
-    if (write(number, a, a_len) < 0 || write(number, b, b_len) < 0 || write(number, c, c_len) < 0 ||
-        write(number, d, d_len) < 0)
-        return -1;
-    return (int64_t)(a_len + b_len + c_len + d_len);
 }
 
 int64_t read(int32_t number, uint8_t *to, size_t size)
@@ -221,12 +205,6 @@ int32_t close(int32_t number)
     return 0;
 }
 
-int32_t isatty(int32_t number)
-{
-    (void)number;
-    return 0;
-}
-
 int64_t lseek(int32_t number, int64_t offset, int32_t from)
 {
     (void)number, (void)offset, (void)from;
@@ -264,19 +242,6 @@ int32_t clock_gettime(int32_t clock, moment *at)
     return 0;
 }
 
-int32_t nanosleep(const moment *wanted, moment *left)
-{
-    (void)wanted;
-    if (left != 0)
-        *left = (moment){0, 0};
-    return 0;
-}
-
-_Noreturn void exit(int32_t status)
-{
-    env_exit(status);
-}
-
 _Noreturn void _exit(int32_t status)
 {
     env_exit(status);
@@ -285,6 +250,15 @@ _Noreturn void _exit(int32_t status)
 _Noreturn void abort(void)
 {
     __builtin_trap();
+}
+
+/* A proved program begins by asking what an x86-64 processor can do. WebAssembly has instructions
+ * for all that its module contains, so the answer is yes. */
+const uint32_t *__x86_get_cpuid_feature_leaf(uint32_t leaf)
+{
+    static const uint32_t all[] = {~0U, ~0U, ~0U, ~0U, ~0U, ~0U, ~0U, ~0U};
+    (void)leaf;
+    return all;
 }
 
 /* ---- what fails here: threads, signals and other calls of a system ---- */
@@ -345,12 +319,6 @@ size_t __sysv_signal(int32_t number, size_t handler)
 {
     (void)number, (void)handler;
     return 0;
-}
-
-int32_t fcntl(int32_t number, int32_t command, ...)
-{
-    (void)number, (void)command;
-    return (int32_t)fails(ENOSYS);
 }
 
 int32_t statx(int32_t folder, const uint8_t *name, int32_t flags, uint32_t mask, void *to)
