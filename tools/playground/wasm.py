@@ -1,6 +1,6 @@
 """Compiles the LLVM module of a proved program or library for WebAssembly.
 
-The kit makes the module for a 64-bit Linux. Layouts agree with those of wasm64 (little endian,
+The kit makes the module for Linux on x86-64. Its layouts agree with those of wasm64 (little endian,
 64-bit pointers, the same alignments), so clang compiles it for that. It is linked with `runtime`,
 which has the allocator and, for a program, the C functions of the system. Then Binaryen gives it
 32-bit addresses, for browsers that have no others.
