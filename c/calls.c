@@ -463,7 +463,8 @@ make(const char *call, bool is_send, mqd_t mqdes, uint8_t *bytes, size_t len, ui
         moment.sec = (int64_t)until->tv_sec;
         moment.nsec = (int64_t)until->tv_nsec;
     }
-    explored_transfer(is_send, mqdes, len, prio, until);
+    if (!explored_transfer(is_send, mqdes, len, prio, until))
+        return fails(EINTR);
     do {
         if ((error = enter_transfer(mqdes, &d)) != 0)
             return fails(error);

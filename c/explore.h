@@ -95,8 +95,8 @@ typedef enum yak_kind {
 } yak_kind;
 
 /* Of a step: it has a deadline; it is a try, or its description does not block; it never blocks,
- * since its arguments are wrong. */
-enum { YAK_TIMED = 1, YAK_TRY = 2, YAK_NEVER_BLOCKS = 4 };
+ * since its arguments are wrong; its wait may end by itself, which is a deadline for the engine. */
+enum { YAK_TIMED = 1, YAK_TRY = 2, YAK_NEVER_BLOCKS = 4, YAK_ODD = 8 };
 
 /* The word of a kind of steps. */
 static inline const char *yak_kind_word(unsigned kind)
@@ -183,6 +183,8 @@ typedef struct yak_explored {
         changes; /* of priorities in a run at random, as PCT makes; 0 for any thread at any step */
     uint32_t length;     /* of a run, for the places of these changes */
     uint32_t most_polls; /* in a row and in vain before others go on */
+    uint32_t spurious;   /* the most spurious wake-ups of a thread */
+    uint32_t signals;    /* the most waits of a thread that a signal interrupts */
     uint32_t choices;    /* the thread, and the variant times 256; 0 leaves the step to the rule */
     uint32_t leads;
     uint32_t sleepers;

@@ -105,14 +105,14 @@ static bool is_wrong(bool is_send, uint32_t d, size_t len, unsigned prio)
     return is_send ? (int64_t)len > msgsize || prio > 32767 : (int64_t)len < msgsize;
 }
 
-void explored_transfer(bool is_send, int mqdes, size_t len, unsigned prio,
+bool explored_transfer(bool is_send, int mqdes, size_t len, unsigned prio,
                        const struct timespec *until)
 {
     machine_op op;
     uint32_t d;
     has_begun = false;
     if (!is_step())
-        return;
+        return true;
     op = machine_op_on(is_send ? STEP_SEND : STEP_RECEIVE, 0, until);
     op.object = object_of(mqdes);
     op.arg = is_send ? prio : 0;
@@ -121,17 +121,22 @@ void explored_transfer(bool is_send, int mqdes, size_t len, unsigned prio,
         op.flags |= YAK_NEVER_BLOCKS;
     } else if (queue_of(d)->object != 0 && the_machine.seed == 0) {
         op.with = (void *)(uintptr_t)queue_of(d);
+        op.odd = ODD_SIGNAL;
         op.nonblock = &the_program.nonblock[d];
         if (!is_send && the_program.tables.registered != 0 && !*op.nonblock &&
             !machine_can_move(&op))
             machine_misses(UNSEEN_NOTICES);
         if (the_machine.shared->is_begun && (has_begun = begins_to_wait(&op)) == false)
-            return;
+            return true;
     } else if (the_program.nonblock[d]) {
         /* By a seed the call waits in the library, where reports and notices see it. */
         op.flags |= YAK_TRY;
     }
     machine_act(&op);
+    if (!machine_was_odd())
+        return true;
+    machine_gave(EINTR, 0);
+    return false;
 }
 
 void explored_gave(int error, uint32_t value)

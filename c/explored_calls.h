@@ -11,11 +11,11 @@
 #pragma GCC visibility push(hidden)
 
 /* Before a call, outside the lock: parks in front of a call on a name, on a descriptor, or one that
- * sends or receives. */
+ * sends or receives: false if a signal interrupts it. */
 void explored_names(yak_kind kind);
 void explored_call(yak_kind kind, int mqdes);
 void explored_setattr(int mqdes, bool nonblock);
-void explored_transfer(bool is_send, int mqdes, size_t len, unsigned prio,
+bool explored_transfer(bool is_send, int mqdes, size_t len, unsigned prio,
                        const struct timespec *until);
 /* After it: 0 or its error, with a value that others can see. */
 void explored_gave(int error, uint32_t value);
@@ -43,7 +43,7 @@ void explored_signals(void);
 #define explored_names(kind) ((void)0)
 #define explored_call(kind, mqdes) ((void)0)
 #define explored_setattr(mqdes, nonblock) ((void)0)
-#define explored_transfer(is_send, mqdes, len, prio, until) ((void)0)
+#define explored_transfer(is_send, mqdes, len, prio, until) true
 #define explored_gave(error, value) ((void)0)
 #define explored_moved(is_send, d, error, bytes, len) ((void)0)
 #define explored_queue(slot, name, len, opening) ((void)0)

@@ -160,8 +160,10 @@ static int wait_until(pthread_cond_t *cond, pthread_mutex_t *mutex, const struct
     op = machine_op_on(STEP_WAKE, cond, until);
     op.arg = object;
     op.mutex = mutex;
+    op.odd = ODD_SPURIOUS;
     here->told = 0;
     is_well = machine_act(&op) && (here->told != 0 || (op.flags & YAK_TRY) == 0);
+    is_well = is_well || here->is_odd;
     machine_also(STEP_LOCK, object);
     machine_gave(is_well ? 0 : ETIMEDOUT, here->told - 1);
     here->told = 0;
@@ -298,8 +300,12 @@ static uint32_t count_in(sem_t *sem)
 
 static int sem_until(sem_t *sem, const struct timespec *until)
 {
-    int error = machine_acts(STEP_SEMWAIT, sem, until);
-    const uint32_t count = count_in(sem);
+    machine_op op = machine_op_on(STEP_SEMWAIT, sem, until);
+    int error;
+    uint32_t count;
+    op.odd = ODD_SIGNAL;
+    error = machine_act(&op) ? 0 : machine_was_odd() ? EINTR : ETIMEDOUT;
+    count = count_in(sem);
     if (error == 0 && YAK_REAL(sem_trywait)(sem) != 0)
         error = errno == EAGAIN ? ETIMEDOUT : errno;
     machine_gave(error, count);

@@ -46,9 +46,13 @@ int gettimeofday(struct timeval *now, void *zone)
     return 0;
 }
 
-static void sleep_until(const struct timespec *until)
+/* Whether a signal has ended the sleep. */
+static bool sleep_until(const struct timespec *until)
 {
-    machine_acts(STEP_SLEEP, 0, until);
+    machine_op op = machine_op_on(STEP_SLEEP, 0, until);
+    op.odd = ODD_SIGNAL;
+    machine_act(&op);
+    return machine_was_odd();
 }
 
 int clock_nanosleep(clockid_t clock, int flags, const struct timespec *time, struct timespec *left)
@@ -57,8 +61,11 @@ int clock_nanosleep(clockid_t clock, int flags, const struct timespec *time, str
     if (!machine_decides())
         return YAK_REAL(clock_nanosleep)(clock, flags, time, left);
     until = (flags & TIMER_ABSTIME) != 0 ? *time : machine_later(time);
-    sleep_until(&until);
-    return 0;
+    if (!sleep_until(&until))
+        return 0;
+    if (left != 0 && (flags & TIMER_ABSTIME) == 0)
+        *left = *time;
+    return EINTR;
 }
 
 int nanosleep(const struct timespec *time, struct timespec *left)
@@ -67,8 +74,11 @@ int nanosleep(const struct timespec *time, struct timespec *left)
     if (!machine_decides())
         return YAK_REAL(nanosleep)(time, left);
     until = machine_later(time);
-    sleep_until(&until);
-    return 0;
+    if (!sleep_until(&until))
+        return 0;
+    if (left != 0)
+        *left = *time;
+    return machine_fails(EINTR);
 }
 
 unsigned sleep(unsigned seconds)
@@ -76,8 +86,7 @@ unsigned sleep(unsigned seconds)
     const struct timespec time = {.tv_sec = (time_t)seconds};
     if (!machine_decides())
         return YAK_REAL(sleep)(seconds);
-    nanosleep(&time, 0);
-    return 0;
+    return nanosleep(&time, 0) == 0 ? 0 : seconds;
 }
 
 int usleep(useconds_t micros)

@@ -300,6 +300,12 @@ static bool waits_for(const seat *it, const void *at)
 static unsigned variants(const seat *of)
 {
     unsigned count = 0;
+    /* At a deadline it can also end by itself. */
+    if (of->op.odd != ODD_NONE)
+        return (of->op.flags & YAK_TIMED) != 0 && machine_may_be_odd(of) &&
+                       machine_ability(of) == YAK_LATE
+                   ? 2
+                   : 1;
     if (of->op.kind != STEP_SIGNAL && (of->op.kind != STEP_FUTEXWAKE || of->op.arg != 1))
         return 1;
     for (unsigned i = 0; i < the_machine.used; ++i)
@@ -440,7 +446,8 @@ static yak_record record_of(const seat *it, yak_what what, unsigned able)
         .what = (uint8_t)what,
         .thread = (uint8_t)number_of(it),
         .kind = (uint8_t)it->op.kind,
-        .flags = (uint8_t)(it->op.flags | (machine_is_try(it) ? YAK_TRY : 0)),
+        .flags = (uint8_t)(it->op.flags | (machine_is_try(it) ? YAK_TRY : 0u) |
+                           (machine_may_be_odd(it) ? YAK_ODD : 0u)),
         .able = (uint8_t)able,
         .variants = (uint8_t)variants(it),
         .object = it->op.object,
@@ -464,6 +471,9 @@ static void begin_step(seat *it, unsigned able, unsigned variant)
     const machine_op *op = &it->op;
     it->is_late = able == YAK_LATE;
     it->variant = variant;
+    it->is_odd =
+        it->is_late && op->odd != ODD_NONE && ((op->flags & YAK_TIMED) == 0 || variant == 1);
+    it->odds[op->odd] += it->is_odd;
     it->ran = the_machine.steps;
     the_machine.shared->running = it->tid;
     if (!is_local(op->kind) || it->is_late)
@@ -473,7 +483,7 @@ static void begin_step(seat *it, unsigned able, unsigned variant)
                               (it->is_late && the_machine.shared->is_last);
     the_machine.touches_names =
         op->kind == STEP_OPEN || op->kind == STEP_CLOSE || op->kind == STEP_UNLINK;
-    if (it->is_late) {
+    if (it->is_late && !it->is_odd) {
         if (simulation_is_before(&the_machine.now, &op->until))
             the_machine.now = op->until;
         machine_also(STEP_SLEEP, machine_clock_object());
@@ -612,7 +622,7 @@ bool machine_act(const machine_op *op)
         note_place(it);
     it->op = *op;
     it->state = SEAT_PARKED;
-    it->is_late = false;
+    it->is_late = it->is_odd = false;
     is_parked = true;
     if (the_machine.chooses || !goes_on_alone(it)) {
         machine_begin_choices();
@@ -624,6 +634,11 @@ bool machine_act(const machine_op *op)
     if (machine_is_cancelled_in(it) && op->kind != STEP_WAKE)
         pthread_testcancel();
     return !it->is_late;
+}
+
+bool machine_was_odd(void)
+{
+    return machine_decides() && machine_seat()->is_odd;
 }
 
 machine_op machine_op_on(yak_kind kind, const void *at, const struct timespec *until)

@@ -31,6 +31,9 @@ enum {
     MACHINE_ASLEEP = 8
 };
 
+/* How a wait may end by itself, if that is asked for: a spurious wake-up, or a signal. */
+typedef enum yak_odd { ODD_NONE, ODD_SPURIOUS, ODD_SIGNAL } yak_odd;
+
 /* What a thread is about to do. */
 typedef struct machine_op {
     yak_kind kind;
@@ -42,6 +45,7 @@ typedef struct machine_op {
     pthread_mutex_t *mutex; /* of a wait for a condition */
     bool (*goes_on)(void *with);
     void *with;
+    yak_odd odd;          /* how it may end though what it waits for has not come */
     const bool *nonblock; /* the flag of the description of a send or a receive; null if none */
     const char *what;     /* what a run by a seed says of it; null for the name of its kind */
 } machine_op;
@@ -56,16 +60,18 @@ typedef struct seat {
     pid_t tid;
     bool is_joined;
     bool is_cancelled;
-    bool is_late;                /* its deadline has passed */
-    unsigned told;               /* by which step its wait was ended; 0 if none has */
-    unsigned variant;            /* of its step */
-    unsigned ran;                /* at which step it ran last */
-    unsigned reads;              /* of the clock */
-    unsigned vain;               /* how often it polled in vain since another thread went on */
-    unsigned before;             /* the same before its last step */
-    uint32_t rank;               /* by which a run at random prefers it */
-    uint64_t frames[YAK_FRAMES]; /* where its operation was asked for */
-    unsigned asleep;             /* how many objects wake it, if it sleeps */
+    bool is_late;                  /* its deadline has passed */
+    bool is_odd;                   /* its wait has ended by itself */
+    unsigned told;                 /* by which step its wait was ended; 0 if none has */
+    unsigned variant;              /* of its step */
+    unsigned ran;                  /* at which step it ran last */
+    unsigned reads;                /* of the clock */
+    uint32_t odds[ODD_SIGNAL + 1]; /* how often its waits have ended by themselves */
+    unsigned vain;                 /* how often it polled in vain since another thread went on */
+    unsigned before;               /* the same before its last step */
+    uint32_t rank;                 /* by which a run at random prefers it */
+    uint64_t frames[YAK_FRAMES];   /* where its operation was asked for */
+    unsigned asleep;               /* how many objects wake it, if it sleeps */
     uint32_t wakes[MACHINE_ASLEEP];
     machine_op op;
     uint32_t go; /* a futex word */
@@ -122,6 +128,8 @@ uint32_t machine_object(const void *at, yak_kind kind);
 machine_op machine_op_on(yak_kind kind, const void *at, const struct timespec *until);
 /* Parks in front of an operation until it is chosen: false if its deadline has passed. */
 bool machine_act(const machine_op *op);
+/* Whether the wait that this thread made last has ended by itself. */
+bool machine_was_odd(void);
 /* Parks, and says what the program is told of a deadline that has passed: 0, or an error. */
 int machine_acts(yak_kind kind, const void *at, const struct timespec *until);
 /* Parks until `goes_on` is true: false if its deadline, which may be null, came first. `what` says
@@ -210,6 +218,8 @@ pid_t machine_holder(const pthread_mutex_t *mutex);
 /* Why it is not certain that no thread can go on, or null if it is (doubt.c). */
 const char *machine_doubt(void);
 
+/* Whether the wait of a thread may end by itself, now. */
+bool machine_may_be_odd(const seat *it);
 /* Whether there is what a send or a receive waits for. */
 bool machine_can_move(const machine_op *op);
 /* Whether there are other threads that have not ended. */

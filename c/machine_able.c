@@ -95,6 +95,15 @@ static bool is_there(const seat *it)
     }
 }
 
+/* Each thread has its own most, so that what one can do does not depend on what others did. */
+bool machine_may_be_odd(const seat *it)
+{
+    const yak_explored *all = the_machine.shared;
+    if (it->op.odd == ODD_SPURIOUS)
+        return it->odds[ODD_SPURIOUS] < all->spurious;
+    return it->op.odd == ODD_SIGNAL && it->odds[ODD_SIGNAL] < all->signals;
+}
+
 unsigned machine_ability(const seat *it)
 {
     const machine_op *op = &it->op;
@@ -105,5 +114,5 @@ unsigned machine_ability(const seat *it)
         return YAK_CANNOT;
     if (is_there(it) || machine_is_cancelled_in(it))
         return YAK_CAN;
-    return (op->flags & YAK_TIMED) != 0 ? YAK_LATE : YAK_CANNOT;
+    return (op->flags & YAK_TIMED) != 0 || machine_may_be_odd(it) ? YAK_LATE : YAK_CANNOT;
 }

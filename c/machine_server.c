@@ -47,10 +47,12 @@ static void read_yak_seed(const char *text, yak_explored *to)
 
 static void stop_at(const char *text)
 {
-    fprintf(stderr,
-            "yakyrombe: YAK_SCHEDULE has %s, which is not STEP:THREAD or STEP:THREAD.VARIANT in "
-            "the order of the steps, each, begun, last, polls:MOST, or random:SEED\n",
-            text);
+    fprintf(
+        stderr,
+        "yakyrombe: YAK_SCHEDULE has %s, which is not STEP:THREAD or STEP:THREAD.VARIANT in "
+        "the order of the steps, each, begun, last, polls:MOST, spurious:MOST, signals:MOST, or "
+        "random:SEED\n",
+        text);
     machine_quit(2);
 }
 
@@ -90,12 +92,14 @@ static void read_seed(const char *word, yak_explored *to)
         stop_at(word);
 }
 
-static void read_polls(const char *word, yak_explored *to)
+/* The number behind so many characters of a word. */
+static unsigned read_count(const char *word, unsigned behind)
 {
-    const char *at = word + 6;
-    to->most_polls = read_number(&at, 0, INT_MAX, word);
+    const char *at = word + behind;
+    const unsigned it = read_number(&at, 0, INT_MAX, word);
     if (*at != 0)
         stop_at(word);
+    return it;
 }
 
 static void read_schedule(const char *text, yak_explored *to)
@@ -114,7 +118,11 @@ static void read_schedule(const char *text, yak_explored *to)
         else if (strncmp(word, "random:", 7) == 0)
             read_seed(word + 7, to);
         else if (strncmp(word, "polls:", 6) == 0)
-            read_polls(word, to);
+            to->most_polls = read_count(word, 6);
+        else if (strncmp(word, "spurious:", 9) == 0)
+            to->spurious = read_count(word, 9);
+        else if (strncmp(word, "signals:", 8) == 0)
+            to->signals = read_count(word, 8);
         else
             read_choice(word, to);
     }

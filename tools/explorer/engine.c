@@ -211,7 +211,8 @@ static void put_thread(FILE *to, const yak_record *it)
     putc_unlocked(':', to);
     put_number(to, it->object);
     putc_unlocked(':', to);
-    put_number(to, it->flags);
+    put_number(to, (it->flags & ~(unsigned)YAK_ODD) |
+                       ((it->flags & YAK_ODD) != 0 ? (unsigned)YAK_TIMED : 0));
     putc_unlocked(':', to);
     put_number(to, it->able);
     putc_unlocked(':', to);

@@ -13,7 +13,8 @@ enum { EVERY_ORDER = 0, WRONG_USE = 2, FAILURE = 5, NOT_EVERY_ORDER = 6 };
 typedef struct options {
     bool is_last; /* --time last */
     bool stops;   /* --stop */
-    unsigned long bounds, budget, early, check, seconds, steps, polls, step_seconds;
+    unsigned long bounds, budget, early, check, seconds, steps, polls, step_seconds, spurious,
+        signals;
     struct timespec until; /* the last moment, if there are seconds */
     const char *output;
     char **words; /* the program and its arguments */

@@ -33,6 +33,11 @@ static const char *const help =
     "  --steps MOST     the most steps of a run, 2000 if left out\n"
     "  --polls MOST     how often a thread polls in vain until others go on, 20 if left out; 0 is\n"
     "                   no limit\n"
+    "  --spurious MOST  the most waits of a thread for a condition that end by themselves, 0 if "
+    "left\n"
+    "                   out\n"
+    "  --signals MOST   the most waits of a thread that a signal interrupts (EINTR), 0 if left "
+    "out\n"
     "  --step-seconds N the most seconds that the processor computes a step, 10 if left out\n"
     "  --stop           stop at the first failure\n"
     "  --output DIR     write a folder for each failure: schedule, journal, threads, lanes, "
@@ -134,6 +139,8 @@ enum {
     STEPS,
     POLLS,
     STEP_SECONDS,
+    SPURIOUS,
+    SIGNALS,
     TIME,
     STOP,
     OUTPUT,
@@ -150,6 +157,8 @@ static const struct option names[] = {
     {"steps", required_argument, 0, STEPS},
     {"polls", required_argument, 0, POLLS},
     {"step-seconds", required_argument, 0, STEP_SECONDS},
+    {"spurious", required_argument, 0, SPURIOUS},
+    {"signals", required_argument, 0, SIGNALS},
     {"time", required_argument, 0, TIME},
     {"stop", no_argument, 0, STOP},
     {"output", required_argument, 0, OUTPUT},
@@ -181,6 +190,12 @@ static void take_option(options *to, int which, const char *text)
         break;
     case POLLS:
         to->polls = number_of("polls", text, 1000000000);
+        break;
+    case SPURIOUS:
+        to->spurious = number_of("spurious", text, 1000000);
+        break;
+    case SIGNALS:
+        to->signals = number_of("signals", text, 1000000);
         break;
     case STEP_SECONDS:
         to->step_seconds = number_of("step-seconds", text, 1000000000);

@@ -308,6 +308,10 @@ char *schedule_of(const outcome *it, const options *options)
             it->is_begun ? "begun " : "");
     if (options->polls != YAK_POLLS)
         fprintf(to, "polls:%lu ", options->polls);
+    if (options->spurious != 0)
+        fprintf(to, "spurious:%lu ", options->spurious);
+    if (options->signals != 0)
+        fprintf(to, "signals:%lu ", options->signals);
     for (unsigned i = 0; i < it->length; ++i) {
         fprintf(to, "%u:%u", it->choices[i].step, it->choices[i].thread);
         if (it->choices[i].variant != 0)

@@ -125,6 +125,8 @@ void program_start(program *it, const options *options)
     it->shared->most_steps = (uint32_t)options->steps;
     it->shared->is_last = options->is_last;
     it->shared->most_polls = (uint32_t)options->polls;
+    it->shared->spurious = (uint32_t)options->spurious;
+    it->shared->signals = (uint32_t)options->signals;
     it->link = links[0];
     fflush(0);
     if ((it->server = fork()) == 0)

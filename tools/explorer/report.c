@@ -155,10 +155,18 @@ void write_report(const outcomes *all, program *it)
 
 /* ---- the lanes of a run ---- */
 
+/* Whether a wait ended by itself: it has no deadline, or that is its second way to end. */
+static bool is_odd(const step *it)
+{
+    return (it->chosen->flags & YAK_TIMED) == 0 || it->choice->variants == 1;
+}
+
 static void write_result(FILE *to, const yak_explored *of, const step *it)
 {
     char text[64];
-    if (it->chosen->able == YAK_LATE)
+    if (it->chosen->able == YAK_LATE && is_odd(it))
+        fprintf(to, ": it ends by itself");
+    else if (it->chosen->able == YAK_LATE)
         fprintf(to, ": its deadline passes");
     for (const yak_record *at = it->follows; at != it->end; ++at) {
         if (at->what == YAK_GAVE && at->object != 0)

@@ -121,6 +121,27 @@ static void say_nothing(void)
 {
 }
 
+/* What a wait without a loop round it tells. */
+static void await_once(void)
+{
+    pthread_mutex_lock(&lock);
+    if (value == 0)
+        pthread_cond_wait(&cond, &lock);
+    say(value == 0 ? '-' : 't');
+    pthread_mutex_unlock(&lock);
+}
+
+static void await_post(void)
+{
+    say(sem_wait(&semaphore) == 0 ? 't' : '-');
+}
+
+static void *sleep_once(void *of)
+{
+    say(usleep(1000) == 0 ? 's' : '-');
+    return of;
+}
+
 static void begin_once(void)
 {
     ++value;
@@ -249,6 +270,9 @@ static const struct way {
     {"yield", yield_to_all, yield_and_tell},
     {"twice", hold_for_a_while, lock_twice},
     {"alone", meet_nobody, say_nothing},
+    {"once-waited", signal_value, await_once},
+    {"once-posted", post, await_post},
+    {"once-slept", sleep_once, say_nothing},
     {"recursive", sleep_and_say, lock_recursively},
 };
 
