@@ -85,7 +85,9 @@ enum {
     X(STORE, "setattr", "an atomic store", "an atomic store")                     \
     X(READ, "getattr", "a read", "a read")                                        \
     X(WRITE, "setattr", "a write", "a write")                                     \
-    X(HANDLE, "setattr", "a call on", "a call on")
+    X(HANDLE, "setattr", "a call on", "a call on")                                \
+    X(ALLOCATE, "sleep", "an allocation", "an allocation")                        \
+    X(SEMVALUE, "getattr", "sem_getvalue", "sem_getvalue")
 
 typedef enum yak_kind {
 #define YAK_KIND(name, word, call, timed_call) STEP_##name,
@@ -185,6 +187,7 @@ typedef struct yak_explored {
     uint32_t most_polls; /* in a row and in vain before others go on */
     uint32_t spurious;   /* the most spurious wake-ups of a thread */
     uint32_t signals;    /* the most waits of a thread that a signal interrupts */
+    uint32_t refusals;   /* the most allocations of a thread that are refused */
     uint32_t choices;    /* the thread, and the variant times 256; 0 leaves the step to the rule */
     uint32_t leads;
     uint32_t sleepers;

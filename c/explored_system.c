@@ -1,5 +1,5 @@
 /* The names that the machine takes in libyakyrombe-seed and libyakyrombe-explore alone: futexes, by
- * which Rust's threads wait, timers, and _exit. */
+ * which Rust's threads wait, looks at semaphores, timers, what is not seen, and _exit. */
 #define _GNU_SOURCE
 #include "machine.h"
 #include "the_program.h"
@@ -77,6 +77,15 @@ long syscall(long number, ...)
                          (const struct timespec *)with[3]);
     }
     return YAK_REAL(syscall)(number, with[0], with[1], with[2], with[3], with[4], with[5]);
+}
+
+/* ---- looks at semaphores ---- */
+
+int sem_getvalue(sem_t *sem, int *value)
+{
+    if (machine_decides())
+        machine_acts(STEP_SEMVALUE, sem, 0);
+    return YAK_REAL(sem_getvalue)(sem, value);
 }
 
 /* ---- timers, which run by the time of the system ---- */

@@ -294,7 +294,7 @@ int pthread_rwlock_unlock(pthread_rwlock_t *lock)
 static uint32_t count_in(sem_t *sem)
 {
     int value = 0;
-    sem_getvalue(sem, &value);
+    YAK_REAL(sem_getvalue)(sem, &value);
     return (uint32_t)value;
 }
 

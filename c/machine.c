@@ -102,7 +102,7 @@ uint32_t machine_clock_object(void)
 /* Whether a step of this kind only reads what others may change. */
 static bool only_looks(yak_kind kind)
 {
-    return kind == STEP_GETATTR || kind == STEP_LOAD || kind == STEP_SLEEP;
+    return kind == STEP_GETATTR || kind == STEP_LOAD || kind == STEP_SLEEP || kind == STEP_SEMVALUE;
 }
 
 /* Whether a step can leave all as it was. */
@@ -300,6 +300,8 @@ static bool waits_for(const seat *it, const void *at)
 static unsigned variants(const seat *of)
 {
     unsigned count = 0;
+    if (of->op.kind == STEP_ALLOCATE)
+        return 2;
     /* At a deadline it can also end by itself. */
     if (of->op.odd != ODD_NONE)
         return (of->op.flags & YAK_TIMED) != 0 && machine_may_be_odd(of) &&

@@ -67,6 +67,7 @@ typedef struct seat {
     unsigned ran;                  /* at which step it ran last */
     unsigned reads;                /* of the clock */
     uint32_t odds[ODD_SIGNAL + 1]; /* how often its waits have ended by themselves */
+    unsigned refused;              /* how many of its allocations were */
     unsigned vain;                 /* how often it polled in vain since another thread went on */
     unsigned before;               /* the same before its last step */
     uint32_t rank;                 /* by which a run at random prefers it */
@@ -180,6 +181,9 @@ extern const yak_turns_ machine_turns;
 uint64_t machine_entries(uint64_t before);
 /* This is a child that makes a run. */
 void machine_meet_child(void);
+/* Allocations of the program may be refused from now on; only libyakyrombe-explore has this. */
+#pragma weak machine_begin_refusals
+void machine_begin_refusals(void);
 
 /* ---- for the crate for Rust, which is another library (machine_server.c, explored_calls.c) ----
  */

@@ -31,7 +31,7 @@ static bool is_rwlock_free(const pthread_rwlock_t *lock, bool is_writer, const s
 static bool has_count(const void *at)
 {
     int value = 0;
-    sem_getvalue((sem_t *)(uintptr_t)at, &value);
+    YAK_REAL(sem_getvalue)((sem_t *)(uintptr_t)at, &value);
     return value > 0;
 }
 

@@ -47,12 +47,11 @@ static void read_yak_seed(const char *text, yak_explored *to)
 
 static void stop_at(const char *text)
 {
-    fprintf(
-        stderr,
-        "yakyrombe: YAK_SCHEDULE has %s, which is not STEP:THREAD or STEP:THREAD.VARIANT in "
-        "the order of the steps, each, begun, last, polls:MOST, spurious:MOST, signals:MOST, or "
-        "random:SEED\n",
-        text);
+    fprintf(stderr,
+            "yakyrombe: YAK_SCHEDULE has %s, which is not STEP:THREAD or STEP:THREAD.VARIANT in "
+            "the order of the steps, each, begun, last, polls:MOST, spurious:MOST, signals:MOST, "
+            "random:SEED\n",
+            text);
     machine_quit(2);
 }
 
@@ -123,6 +122,8 @@ static void read_schedule(const char *text, yak_explored *to)
             to->spurious = read_count(word, 9);
         else if (strncmp(word, "signals:", 8) == 0)
             to->signals = read_count(word, 8);
+        else if (strncmp(word, "refuse:", 7) == 0)
+            to->refusals = read_count(word, 7);
         else
             read_choice(word, to);
     }
@@ -145,6 +146,8 @@ static void begin_run(void)
     the_machine.chooses = true;
     the_machine.shared->sees_memory = the_machine.sees_memory;
     the_machine.first = the_machine.steps;
+    if (machine_begin_refusals != 0)
+        machine_begin_refusals();
     on_exit(end_program, 0);
     the_machine.random = simulation_state(all->seed);
     the_machine.seats[0].rank =

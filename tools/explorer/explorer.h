@@ -14,7 +14,7 @@ typedef struct options {
     bool is_last; /* --time last */
     bool stops;   /* --stop */
     unsigned long bounds, budget, early, check, seconds, steps, polls, step_seconds, spurious,
-        signals;
+        signals, refusals;
     struct timespec until; /* the last moment, if there are seconds */
     const char *output;
     char **words; /* the program and its arguments */

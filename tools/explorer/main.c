@@ -38,6 +38,7 @@ static const char *const help =
     "                   out\n"
     "  --signals MOST   the most waits of a thread that a signal interrupts (EINTR), 0 if left "
     "out\n"
+    "  --refuse MOST    the most allocations of a thread that are refused, 0 if left out\n"
     "  --step-seconds N the most seconds that the processor computes a step, 10 if left out\n"
     "  --stop           stop at the first failure\n"
     "  --output DIR     write a folder for each failure: schedule, journal, threads, lanes, "
@@ -141,6 +142,7 @@ enum {
     STEP_SECONDS,
     SPURIOUS,
     SIGNALS,
+    REFUSE,
     TIME,
     STOP,
     OUTPUT,
@@ -159,6 +161,7 @@ static const struct option names[] = {
     {"step-seconds", required_argument, 0, STEP_SECONDS},
     {"spurious", required_argument, 0, SPURIOUS},
     {"signals", required_argument, 0, SIGNALS},
+    {"refuse", required_argument, 0, REFUSE},
     {"time", required_argument, 0, TIME},
     {"stop", no_argument, 0, STOP},
     {"output", required_argument, 0, OUTPUT},
@@ -196,6 +199,9 @@ static void take_option(options *to, int which, const char *text)
         break;
     case SIGNALS:
         to->signals = number_of("signals", text, 1000000);
+        break;
+    case REFUSE:
+        to->refusals = number_of("refuse", text, 1000000);
         break;
     case STEP_SECONDS:
         to->step_seconds = number_of("step-seconds", text, 1000000000);
@@ -289,15 +295,27 @@ static void show_progress(const exploration *it, bool is_last)
             it->outcomes.count, it->outcomes.failing, seconds, is_last ? "\n" : "");
 }
 
-/* Whether somebody tried for what another thread held or may give: then unlocks and posts have to
- * be steps of their own. */
+/* Whether a step that is no choice also unlocks or posts. */
+static bool has_local_post(const yak_explored *of)
+{
+    steps all = steps_of(of);
+    for (step it; next_step(&all, &it);)
+        for (const yak_record *at = it.follows; it.is_local && at != it.end; ++at)
+            if (at->what == YAK_ALSO && (at->kind == STEP_UNLOCK || at->kind == STEP_POST))
+                return true;
+    return false;
+}
+
+/* Whether somebody tried for what another thread held or may give, or looked at it: then unlocks
+ * and posts have to be steps of their own. */
 static bool has_tries(const yak_explored *of)
 {
     for (uint32_t i = 0; i < of->records; ++i) {
         const yak_record *it = &of->record[i];
         const bool is_wait = it->kind == STEP_LOCK || it->kind == STEP_SEMWAIT;
-        if (it->what == YAK_AT && (it->kind == STEP_TRYLOCK || it->kind == STEP_SEMTRY ||
-                                   (is_wait && (it->flags & (YAK_TIMED | YAK_TRY)) != 0)))
+        if (it->what == YAK_AT &&
+            (it->kind == STEP_TRYLOCK || it->kind == STEP_SEMTRY || it->kind == STEP_SEMVALUE ||
+             (is_wait && (it->flags & (YAK_TIMED | YAK_TRY)) != 0)))
             return true;
     }
     return false;
@@ -350,7 +368,7 @@ static bool run_early(exploration *it)
  * calls that wait. */
 static bool begins_again(yak_explored *shared)
 {
-    const bool is_each = !shared->is_each && has_tries(shared),
+    const bool is_each = !shared->is_each && (has_tries(shared) || has_local_post(shared)),
                is_begun = !shared->is_begun && shared->sets_flags;
     shared->is_each = shared->is_each || is_each;
     shared->is_begun = shared->is_begun || is_begun;

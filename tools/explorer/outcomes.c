@@ -25,6 +25,7 @@ static const char *noun_of(const yak_object *it)
         [STEP_BROADCAST] = "condition",
         [STEP_SEMWAIT] = "semaphore",
         [STEP_SEMTRY] = "semaphore",
+        [STEP_SEMVALUE] = "semaphore",
         [STEP_POST] = "semaphore",
         [STEP_RDLOCK] = "rwlock",
         [STEP_WRLOCK] = "rwlock",
@@ -312,6 +313,8 @@ char *schedule_of(const outcome *it, const options *options)
         fprintf(to, "spurious:%lu ", options->spurious);
     if (options->signals != 0)
         fprintf(to, "signals:%lu ", options->signals);
+    if (options->refusals != 0)
+        fprintf(to, "refuse:%lu ", options->refusals);
     for (unsigned i = 0; i < it->length; ++i) {
         fprintf(to, "%u:%u", it->choices[i].step, it->choices[i].thread);
         if (it->choices[i].variant != 0)

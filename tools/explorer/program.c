@@ -127,6 +127,7 @@ void program_start(program *it, const options *options)
     it->shared->most_polls = (uint32_t)options->polls;
     it->shared->spurious = (uint32_t)options->spurious;
     it->shared->signals = (uint32_t)options->signals;
+    it->shared->refusals = (uint32_t)options->refusals;
     it->link = links[0];
     fflush(0);
     if ((it->server = fork()) == 0)

@@ -142,6 +142,15 @@ static void *sleep_once(void *of)
     return of;
 }
 
+/* Whether there was memory. */
+static void *allocate(void *of)
+{
+    char *volatile memory = malloc(8);
+    say(memory != 0 ? 'm' : '-');
+    free(memory);
+    return of;
+}
+
 static void begin_once(void)
 {
     ++value;
@@ -273,6 +282,7 @@ static const struct way {
     {"once-waited", signal_value, await_once},
     {"once-posted", post, await_post},
     {"once-slept", sleep_once, say_nothing},
+    {"allocates", allocate, say_nothing},
     {"recursive", sleep_and_say, lock_recursively},
 };
 
