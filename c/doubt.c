@@ -71,6 +71,9 @@ static bool is_shared(const void *object)
 static const char *doubt_of_threads(void)
 {
     int strangers = count_strangers();
+    /* A part of a program that is explored has others beside it. */
+    if (the_machine.is_inner)
+        strangers = 0;
     if (strangers == -1)
         return "/proc does not tell whether other threads do";
     if (strangers > (__tsan_acquire != 0))

@@ -30,6 +30,7 @@ enum {
     X(TIMERS, "timers")                     \
     X(CHILDREN, "forked children")          \
     X(PIPES, "pipes and sockets")           \
+    X(FUTEXES, "futexes of some kinds")     \
     X(CANCELS, "when a cancellation comes") \
     X(NOTICES, "that a receiver keeps a notice back")
 
@@ -87,7 +88,10 @@ enum {
     X(WRITE, "setattr", "a write", "a write")                                     \
     X(HANDLE, "setattr", "a call on", "a call on")                                \
     X(ALLOCATE, "sleep", "an allocation", "an allocation")                        \
-    X(SEMVALUE, "getattr", "sem_getvalue", "sem_getvalue")
+    X(SEMVALUE, "getattr", "sem_getvalue", "sem_getvalue")                        \
+    X(SPINLOCK, "lock", "pthread_spin_lock", "pthread_spin_lock")                 \
+    X(SPINTRY, "trylock", "pthread_spin_trylock", "pthread_spin_trylock")         \
+    X(SPINUNLOCK, "unlock", "pthread_spin_unlock", "pthread_spin_unlock")
 
 typedef enum yak_kind {
 #define YAK_KIND(name, word, call, timed_call) STEP_##name,

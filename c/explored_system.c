@@ -10,6 +10,7 @@
 #include <sys/socket.h>
 #include <sys/syscall.h>
 #include <sys/time.h>
+#include <sys/timerfd.h>
 #include <unistd.h>
 
 /* A word of the library itself is none of the program's. */
@@ -72,11 +73,40 @@ long syscall(long number, ...)
     va_end(rest);
     if (number == SYS_futex && the_machine.is_on && !is_own((void *)with[0])) {
         const int how = (int)with[1] & ~(FUTEX_PRIVATE_FLAG | FUTEX_CLOCK_REALTIME);
+        if (!is_known_futex(how))
+            machine_misses(UNSEEN_FUTEXES);
         if (is_known_futex(how) && machine_decides())
             return futex((uint32_t *)with[0], how, (uint32_t)with[2],
                          (const struct timespec *)with[3]);
     }
     return YAK_REAL(syscall)(number, with[0], with[1], with[2], with[3], with[4], with[5]);
+}
+
+/* ---- locks that spin, which here wait as others ---- */
+
+int pthread_spin_lock(pthread_spinlock_t *lock)
+{
+    if (!machine_decides())
+        return YAK_REAL(pthread_spin_lock)(lock);
+    machine_acts(STEP_SPINLOCK, (const void *)lock, 0);
+    return YAK_REAL(pthread_spin_trylock)(lock);
+}
+
+int pthread_spin_trylock(pthread_spinlock_t *lock)
+{
+    int error;
+    if (machine_decides())
+        machine_acts(STEP_SPINTRY, (const void *)lock, 0);
+    error = YAK_REAL(pthread_spin_trylock)(lock);
+    machine_gave(error, 0);
+    return error;
+}
+
+int pthread_spin_unlock(pthread_spinlock_t *lock)
+{
+    if (machine_decides())
+        machine_acts(STEP_SPINUNLOCK, (const void *)lock, 0);
+    return YAK_REAL(pthread_spin_unlock)(lock);
 }
 
 /* ---- looks at semaphores ---- */
@@ -109,6 +139,12 @@ unsigned alarm(unsigned seconds)
 }
 
 /* ---- what is not seen, but known to be there ---- */
+
+int timerfd_create(int clock, int flags)
+{
+    machine_misses(UNSEEN_TIMERS);
+    return YAK_REAL(timerfd_create)(clock, flags);
+}
 
 int pipe(int ends[2])
 {

@@ -110,6 +110,7 @@ static bool may_be_vain(const seat *it)
 {
     const yak_kind kind = it->op.kind;
     return only_looks(kind) || kind == STEP_TRYLOCK || kind == STEP_SEMTRY ||
+           kind == STEP_SPINTRY ||
            (machine_is_try(it) &&
             (kind == STEP_SEND || kind == STEP_RECEIVE || kind == STEP_LOCK ||
              kind == STEP_SEMWAIT || kind == STEP_RDLOCK || kind == STEP_WRLOCK));
@@ -839,7 +840,9 @@ static void look_for_handlers(void)
 {
     for (int number = 1; number < SIGRTMIN; ++number) {
         struct sigaction action;
-        if (sigaction(number, 0, &action) == 0 && action.sa_handler != SIG_DFL &&
+        const bool is_crash = number == SIGSEGV || number == SIGBUS || number == SIGFPE ||
+                              number == SIGILL || number == SIGABRT;
+        if (!is_crash && sigaction(number, 0, &action) == 0 && action.sa_handler != SIG_DFL &&
             action.sa_handler != SIG_IGN)
             machine_misses(UNSEEN_HANDLERS);
     }

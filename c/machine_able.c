@@ -28,6 +28,17 @@ static bool is_rwlock_free(const pthread_rwlock_t *lock, bool is_writer, const s
     return !is_writer || lock->__data.__readers >> 3 == 0;
 }
 
+/* A lock that spins is 1 on x86-64 if it is free, and else 0. */
+static bool is_spin_free(const void *at)
+{
+#ifdef __x86_64__
+    const int free_value = 1;
+#else
+    const int free_value = 0;
+#endif
+    return __atomic_load_n((const int *)at, __ATOMIC_SEQ_CST) == free_value;
+}
+
 static bool has_count(const void *at)
 {
     int value = 0;
@@ -74,6 +85,8 @@ static bool is_there(const seat *it)
         return the_machine.seats[op->arg - 1].state == SEAT_OUT;
     case STEP_LOCK:
         return is_free(op->at, it);
+    case STEP_SPINLOCK:
+        return is_spin_free(op->at);
     case STEP_WAKE:
         return it->told != 0;
     case STEP_SEMWAIT:

@@ -142,6 +142,34 @@ static void *sleep_once(void *of)
     return of;
 }
 
+/* One thread holds a lock that spins, and another takes it, or tries. */
+static pthread_spinlock_t spinning;
+
+static void *hold_spinning(void *of)
+{
+    pthread_spin_lock(&spinning);
+    say('h');
+    pthread_spin_unlock(&spinning);
+    return of;
+}
+
+static void take_spinning(void)
+{
+    pthread_spin_lock(&spinning);
+    say('t');
+    pthread_spin_unlock(&spinning);
+}
+
+static void try_spinning(void)
+{
+    if (pthread_spin_trylock(&spinning) == 0) {
+        pthread_spin_unlock(&spinning);
+        say('t');
+    } else {
+        say('-');
+    }
+}
+
 /* Whether there was memory. */
 static void *allocate(void *of)
 {
@@ -283,6 +311,8 @@ static const struct way {
     {"once-posted", post, await_post},
     {"once-slept", sleep_once, say_nothing},
     {"allocates", allocate, say_nothing},
+    {"spin", hold_spinning, take_spinning},
+    {"spintry", hold_spinning, try_spinning},
     {"recursive", sleep_and_say, lock_recursively},
 };
 
@@ -311,6 +341,7 @@ int main(int count, char **words)
     queue = fresh("/said", 8);
     sem_init(&semaphore, 0, 0);
     pthread_barrier_init(&barrier, 0, 2);
+    pthread_spin_init(&spinning, PTHREAD_PROCESS_PRIVATE);
     for (unsigned i = 0; i < sizeof ways / sizeof ways[0]; ++i)
         if (strcmp(ways[i].name, name) == 0)
             return run_two(&ways[i]);
