@@ -212,6 +212,28 @@ void machine_keep_journal(void);
 /* Writes which entries this thread has made since somebody did this, by its last step. */
 void machine_note_entries(void);
 
+/* ---- the choice (machine_choice.c) ---- */
+
+/* What no other thread can see is done at once, and is no choice. */
+bool machine_is_local(yak_kind kind);
+/* Whether a parked thread waits to be woken at an object. */
+bool machine_waits_for(const seat *it, const void *at);
+/* In how many ways a thread can make its step. */
+unsigned machine_variants(const seat *of);
+/* The rank of a new thread in a run at random. */
+uint32_t machine_new_rank(void);
+/* Wakes sleepers by what the step before has touched. */
+void machine_wake_sleepers(void);
+/* Who can go on, by seats. If one has a step to make at once, it is that one alone, which is
+ * returned; else MACHINE_NONE. */
+unsigned machine_look(uint8_t *able);
+/* How many seats have this ability. */
+unsigned machine_count(const uint8_t *able, unsigned ability);
+/* The seat that goes on, and the variant of its step. */
+unsigned machine_decide(const uint8_t *able, unsigned local, unsigned *variant);
+
+/* ---- the ability of threads, and the end of a run ---- */
+
 /* Whether a parked thread can go on, as YAK_CANNOT and its kin say (machine_able.c); whether a
  * cancellation lets it; and the kernel's number of the thread that holds a mutex, 0 if none does.
  */

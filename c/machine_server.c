@@ -150,8 +150,7 @@ static void begin_run(void)
         machine_begin_refusals();
     on_exit(end_program, 0);
     the_machine.random = simulation_state(all->seed);
-    the_machine.seats[0].rank =
-        (uint32_t)(simulation_number(&the_machine.random) >> 33) + YAK_MOST_STEPS;
+    the_machine.seats[0].rank = machine_new_rank();
     for (uint32_t i = 0; i < all->sleepers && i < YAK_MOST_SLEEPS; ++i) {
         seat *it = &the_machine.seats[(all->sleeper[i].thread - 1) % YAK_SEATS];
         if (it->asleep < MACHINE_ASLEEP)
