@@ -229,14 +229,16 @@ int mq_unlink(const char *name)
 
 static int fill(uint32_t answer, const yak_attributes *from, struct mq_attr *attr)
 {
+    const struct mq_attr now = {
+        .mq_flags = from->nonblock ? O_NONBLOCK : 0,
+        .mq_maxmsg = (long)from->maxmsg,
+        .mq_msgsize = (long)from->msgsize,
+        .mq_curmsgs = (long)from->curmsgs,
+    };
     if (answer == YAK_DONE && attr != 0) {
         if (!is_good(attr, true))
             return fails(EFAULT);
-        memset(attr, 0, sizeof *attr);
-        attr->mq_flags = from->nonblock ? O_NONBLOCK : 0;
-        attr->mq_maxmsg = (long)from->maxmsg;
-        attr->mq_msgsize = (long)from->msgsize;
-        attr->mq_curmsgs = (long)from->curmsgs;
+        memcpy((char *)attr, &now, sizeof now);
     }
     return result(answer);
 }

@@ -8,6 +8,7 @@
 #include <semaphore.h>
 #include <signal.h>
 #include <stdatomic.h>
+#include <stdbool.h>
 #include <stdio.h>
 #include <stdlib.h>
 #include <string.h>
@@ -580,6 +581,27 @@ static void notifying(void)
     SAY(mq_unlink("/yak-notify"));
 }
 
+/* Attributes are written where they are asked for, and nothing beside them. */
+static void anywhere(void)
+{
+    static const size_t size = sizeof(struct mq_attr);
+    char bytes[2 * sizeof(struct mq_attr)];
+    mqd_t queue = fresh("/yak-anywhere", O_RDWR, 2, 8);
+    for (size_t at = 1; at < size; at += 3) {
+        struct mq_attr attr;
+        bool is_whole = true;
+        memset(bytes, '.', sizeof bytes);
+        SAY(mq_getattr(queue, (struct mq_attr *)(void *)(bytes + at)));
+        memcpy(&attr, bytes + at, size);
+        for (size_t i = 0; i < sizeof bytes; ++i)
+            is_whole = is_whole && ((i >= at && i < at + size) || bytes[i] == '.');
+        printf("%ld messages of %ld, nothing beside: %d\n", attr.mq_maxmsg, attr.mq_msgsize,
+               is_whole);
+    }
+    SAY(mq_close(queue));
+    SAY(mq_unlink("/yak-anywhere"));
+}
+
 int main(void)
 {
     setvbuf(stdout, 0, _IOLBF, 0);
@@ -591,5 +613,6 @@ int main(void)
     cancelling();
     interrupting();
     notifying();
+    anywhere();
     return 0;
 }
