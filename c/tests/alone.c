@@ -493,7 +493,6 @@ static void deaths(void)
     const pid_t receiver = child_that(waits_for_ever);
     await_waits(1);
     kill_it(receiver);
-    pause_for(100); /* deaths are looked for every 50 milliseconds */
     send_to(queue, "stays", 0);
     WANT(present() == 1 && takes("stays"));
     begun = mmap(0, 4096, PROT_READ | PROT_WRITE, MAP_SHARED | MAP_ANONYMOUS, -1, 0);

@@ -45,6 +45,13 @@ static int fork_one(void)
     return 0;
 }
 
+/* What the dead hold is looked for. */
+static int unlink_nothing(void)
+{
+    mq_unlink("/yak-stepped-nothing");
+    return 0;
+}
+
 static int register_it(void)
 {
     struct sigevent event;
@@ -57,20 +64,27 @@ static int register_it(void)
 static int open_and_close(void);
 
 /* A call: how many messages of the parent are in the queue before, by how many the killed child may
- * have changed that, and whether the parent sends one more while the child waits. */
+ * have changed that. The parent sends one more while the child waits; or a receiver has died before
+ * to which the first message was handed, and which the call finds. */
+enum { ALONE, ANSWERED, BEHIND_DEAD };
 typedef struct call {
     int (*make)(void);
-    int before, least, most;
-    bool is_answered;
+    int before, least, most, how;
     unsigned steps; /* some more than it takes */
 } call;
 
 static call calls[] = {
-    {send_one, 0, 0, 1, false, 0},     {send_one, ROOM, 0, 0, false, 0},
-    {receive_one, 2, -1, 0, false, 0}, {receive_one, 0, 0, 0, false, 0},
-    {receive_one, 0, -1, 0, true, 0},  {receive_until, 0, 0, 0, false, 0},
-    {fork_one, 1, 0, 0, false, 0},     {open_and_close, 1, 0, 0, false, 0},
-    {register_it, 0, 0, 0, false, 0},
+    {send_one, 0, 0, 1, ALONE, 0},
+    {send_one, ROOM, 0, 0, ALONE, 0},
+    {receive_one, 2, -1, 0, ALONE, 0},
+    {receive_one, 0, 0, 0, ALONE, 0},
+    {receive_one, 0, -1, 0, ANSWERED, 0},
+    {receive_until, 0, 0, 0, ALONE, 0},
+    {fork_one, 1, 0, 0, ALONE, 0},
+    {open_and_close, 1, 0, 0, ALONE, 0},
+    {register_it, 0, 0, 0, ALONE, 0},
+    {receive_one, 3, -1, 0, BEHIND_DEAD, 0},
+    {unlink_nothing, 3, 0, 0, BEHIND_DEAD, 0},
 };
 enum { CALLS = sizeof calls / sizeof calls[0] };
 
@@ -112,7 +126,8 @@ static void run(const call *it)
     WANT(sigaction(SIGUSR1, &action, 0) == 0);
     ptrace(PTRACE_TRACEME, 0, 0, 0);
     /* So that the step of a new process is not part of the call. */
-    messages_in(other);
+    if (it->how != BEHIND_DEAD)
+        messages_in(other);
     atomic_store(reached, AT_START);
     raise(SIGSTOP);
     result = it->make();
@@ -180,13 +195,25 @@ static void wait_in_vain(void)
 
 static unsigned lost;
 
+static void receive_for_dead(void)
+{
+    receive_one();
+}
+
 static pid_t begin(const call *it)
 {
     int status;
-    pid_t child;
+    pid_t child, dead = 0;
+    if (it->how == BEHIND_DEAD) {
+        dead = begin_child(receive_for_dead);
+        pause_for(2);
+        WANT(kill(dead, SIGSTOP) == 0 && waitpid(dead, &status, WUNTRACED) == dead);
+    }
     for (int i = 0; i < it->before; ++i)
         WANT(mq_send(queue, "p", 1, 1) == 0);
     wait_in_vain();
+    if (dead != 0)
+        WANT(kill(dead, SIGKILL) == 0 && waitpid(dead, &status, 0) == dead);
     atomic_store(reached, 0);
     atomic_store(ended, 0);
     atomic_store(&results[0], 0);
@@ -206,7 +233,7 @@ static void kill_in(call *it, unsigned most)
     long left;
     const pid_t child = begin(it);
     made = make_steps(child, most, &sleeps);
-    if (it->is_answered && sleeps) {
+    if (it->how == ANSWERED && sleeps) {
         /* It wakes, and goes on by steps. */
         WANT(mq_send(queue, "p", 1, 1) == 0);
         was_answered = true;
@@ -216,13 +243,13 @@ static void kill_in(call *it, unsigned most)
     if (made + 16 > it->steps)
         it->steps = made + 16;
     WANT(kill(child, SIGKILL) == 0 && waitpid(child, &status, __WALL) == child);
-    if (it->is_answered && !was_answered)
+    if (it->how == ANSWERED && !was_answered)
         WANT(mq_send(queue, "p", 1, 1) == 0);
-    left = count_left() - it->before - (it->is_answered ? 1 : 0);
-    if (left < it->least || left > it->most || (it->is_answered && !was_answered && left != 0))
+    left = count_left() - it->before - (it->how == ANSWERED ? 1 : 0);
+    if (left < it->least || left > it->most || (it->how == ANSWERED && !was_answered && left != 0))
         printf("call %d, %u of %u steps: %ld messages more\n", (int)(it - calls), made, most, left);
     WANT(left >= it->least && left <= it->most);
-    WANT(!it->is_answered || was_answered || left == 0);
+    WANT(it->how != ANSWERED || was_answered || left == 0);
     lost += left < 0;
     WANT(mq_send(other, "o", 1, 0) == 0 && mq_receive(other, buf, sizeof buf, 0) == 1);
 }
