@@ -40,7 +40,7 @@ static __attribute__((constructor)) void begin(void)
 
 /* ThreadSanitizer knows the lock by one of these addresses. If another thread is in a call below at
  * a fork, then in the child this address stays taken for ever, so the child uses the next one. */
-static char addresses[1 << 16];
+static char addresses[64];
 static unsigned address;
 
 void program_tell_locked(void)
