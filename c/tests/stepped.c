@@ -279,14 +279,15 @@ static void interrupt_in(const call *it, unsigned most)
 {
     const pid_t child = begin(it);
     int helped, status, first, second;
-    bool sleeps;
+    bool sleeps, is_sent = false;
     long left;
     make_steps(child, most, &sleeps);
-    if (sleeps)
-        WANT(kill(child, SIGSTOP) == 0 && waitpid(child, &status, __WALL) == child);
-    WANT(ptrace(PTRACE_DETACH, child, 0, (void *)(long)SIGUSR1) == 0);
-    if (sleeps)
-        kill(child, SIGCONT);
+    if (sleeps) {
+        /* It stops for the signal, or its step ends by now. */
+        WANT(kill(child, SIGUSR1) == 0 && waitpid(child, &status, __WALL) == child);
+        is_sent = WSTOPSIG(status) != SIGUSR1;
+    }
+    WANT(ptrace(PTRACE_DETACH, child, 0, (void *)(long)(is_sent ? 0 : SIGUSR1)) == 0);
     helped = help(it, way == FORK ? 2 : 1);
     if (atomic_load(ended) != (way == FORK ? 2 : 1))
         printf("way %d, call %d, %u steps: it has not ended\n", way, (int)(it - calls), most);
