@@ -55,7 +55,7 @@ static void crowd(message_queue &queue, long count, long rounds) {
 int main(int count, char **words) {
   const std::string workload = count > 2 ? words[1] : "";
   const long size = count == 4 ? std::stol(words[2]) : 1, rounds = count > 2 ? std::stol(words[count - 1]) : 0;
-  if (workload != "pair" && count != 4) {
+  if (count == 4 ? workload != "deep" && workload != "crowd" : workload != "pair") {
     std::fputs("pair N, deep D N or crowd P N\n", stderr);
     return 2;
   }

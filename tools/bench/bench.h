@@ -95,6 +95,8 @@ void bench_memory(const workload *of, measured *to);
 void bench_pingpong(const workload *of, measured *to);
 void bench_stream(const workload *of, measured *to);
 void bench_crowd(const workload *of, measured *to);
+void bench_queues(const workload *of, measured *to);
+void bench_systems(const workload *of, measured *to);
 void bench_idle(const workload *of, measured *to);
 void bench_storm(const workload *of, measured *to);
 void bench_soak(const workload *of, measured *to);

@@ -32,6 +32,9 @@ static const char USAGE[] =
     "  stream N    two processes in two threads: one sends N messages, one receives them\n"
     "  crowd P N   P processes in P threads on one queue: half of them send N messages each, half"
     " receive N each\n"
+    "  queues P N  P processes in P threads, each with a queue of its own: a send and a receive in"
+    " turn, N times each\n"
+    "  systems P N the same, each with a system of its own\n"
     "  idle P T    P processes in P threads: one works alone for T milliseconds, on a queue of its"
     " own, while the others are blocked in a receive\n"
     "  storm S N   32 processes in 32 threads: N calls of every kind at random from the seed S,"
@@ -48,7 +51,7 @@ static const char USAGE[] =
     "  busy C and one of these lines: the same beside C threads that do nothing but count until it"
     " ends, C up to 32\n"
     "N and S from 1 to 10000000, M to 1000000000, D from 1 to 4096, D times N at most 10000000\n"
-    "P from 2 to 32, even for a crowd, P times N at most 10000000 there, T from 1 to 60000\n";
+    "P from 2 to 32, even for a crowd, P times N at most 10000000, T from 1 to 60000\n";
 
 /* ---- what the workloads share ---- */
 
@@ -187,6 +190,8 @@ static const struct {
     {"pair", {&ROUNDS, 0}, bench_pair},      {"deep", {&DEPTH, &ROUNDS}, bench_deep},
     {"wide", {&ROUNDS, 0}, bench_wide},      {"pingpong", {&ROUNDS, 0}, bench_pingpong},
     {"stream", {&ROUNDS, 0}, bench_stream},  {"crowd", {&SHARERS, &ROUNDS}, bench_crowd},
+    {"queues", {&SHARERS, &ROUNDS}, bench_queues},
+    {"systems", {&SHARERS, &ROUNDS}, bench_systems},
     {"idle", {&SHARERS, &TIME}, bench_idle}, {"storm", {&SEED, &ROUNDS}, bench_storm},
     {"memory", {&CALLS, 0}, bench_memory},   {"soak", {&TIME, 0}, bench_soak},
 };
@@ -257,7 +262,8 @@ static size_t read_line(workload *to, char **words)
                 bench_stop(BAD_LINE, "line 1: D times N must be at most 10000000");
             if (strcmp(to->name, "crowd") == 0 && to->processes % 2 != 0)
                 bench_stop(BAD_LINE, "line 1: P must be even");
-            if (strcmp(to->name, "crowd") == 0 && to->processes * to->size > 10000000)
+            if (WORKLOADS[i].sizes[0] == &SHARERS && WORKLOADS[i].sizes[1] == &ROUNDS &&
+                to->processes * to->size > 10000000)
                 bench_stop(BAD_LINE, "line 1: P times N must be at most 10000000");
             if (strcmp(to->name, "soak") == 0 && rest == words)
                 to->storage = UNSTORED;

@@ -9,7 +9,7 @@
 enum { REFUSED = 4 };
 
 /* What a thread does in each round. */
-typedef enum part { SENDS, RECEIVES, ASKS, REPLIES } part;
+typedef enum part { SENDS, RECEIVES, ASKS, REPLIES, PAIRS } part;
 
 typedef struct member {
     pthread_t thread;
@@ -38,8 +38,24 @@ static void *take_part(void *of)
             bench_receive(me->process, me->to);
             bench_send(me->process, me->back, 0);
             break;
+        case PAIRS:
+            bench_send(me->process, me->to, 0);
+            bench_receive(me->process, me->to);
+            break;
         }
     return 0;
+}
+
+/* Lets each member take its part in a thread of its own, and returns how long that takes. */
+static double run_members(member *members, uint64_t count)
+{
+    const double start = bench_now();
+    for (uint64_t i = 0; i < count; ++i)
+        if (pthread_create(&members[i].thread, 0, take_part, &members[i]) != 0)
+            bench_stop(REFUSED, "no thread");
+    for (uint64_t i = 0; i < count; ++i)
+        pthread_join(members[i].thread, 0);
+    return bench_now() - start;
 }
 
 /* Processes that take the two parts in turn, each in a thread of its own. */
@@ -47,7 +63,6 @@ static void in_threads(const workload *of, measured *to, uint64_t count, part ev
 {
     yak_process processes[MOST_PROCESSES];
     member members[MOST_PROCESSES];
-    double start;
     bench_make(of, processes, count);
     for (uint64_t i = 0; i < count; ++i)
         members[i] = (member){.process = &processes[i],
@@ -55,14 +70,39 @@ static void in_threads(const workload *of, measured *to, uint64_t count, part ev
                               .rounds = of->size,
                               .to = bench_open(&processes[i], "/members", USUAL_DEPTH),
                               .back = bench_open(&processes[i], "/back", USUAL_DEPTH)};
-    start = bench_now();
-    for (uint64_t i = 0; i < count; ++i)
-        if (pthread_create(&members[i].thread, 0, take_part, &members[i]) != 0)
-            bench_stop(REFUSED, "no thread");
-    for (uint64_t i = 0; i < count; ++i)
-        pthread_join(members[i].thread, 0);
-    to->nanoseconds = bench_now() - start;
+    to->nanoseconds = run_members(members, count);
     bench_want(yak_finish(processes, count, 0, 0));
+}
+
+/* Threads with a queue of their own each: in systems of so many processes. */
+static void in_own_queues(const workload *of, measured *to, uint64_t together)
+{
+    yak_process processes[MOST_PROCESSES];
+    member members[MOST_PROCESSES];
+    const uint64_t count = of->processes;
+    for (uint64_t i = 0; i < count; i += together)
+        bench_make(of, &processes[i], together);
+    for (uint64_t i = 0; i < count; ++i) {
+        const char name[] = {'/', (char)('A' + i), 0};
+        members[i] = (member){.process = &processes[i],
+                              .part = PAIRS,
+                              .rounds = of->size,
+                              .to = bench_open(&processes[i], name, USUAL_DEPTH)};
+    }
+    to->operations = 2 * count * of->size;
+    to->nanoseconds = run_members(members, count);
+    for (uint64_t i = 0; i < count; i += together)
+        bench_want(yak_finish(&processes[i], together, 0, 0));
+}
+
+void bench_queues(const workload *of, measured *to)
+{
+    in_own_queues(of, to, of->processes);
+}
+
+void bench_systems(const workload *of, measured *to)
+{
+    in_own_queues(of, to, 1);
 }
 
 void bench_pingpong(const workload *of, measured *to)

@@ -1,5 +1,5 @@
 //! The cost of an operation from Rust: `pair N` and `crowd P N`, as in
-//! `experiments/peers/yak_queue.c`. With `unstored` before them, no journal is stored.
+//! `mqbench`. With `unstored` before them, no journal is stored.
 
 use std::env;
 use std::process::exit;
