@@ -183,6 +183,12 @@ class Reader:
         self.type("processes 1\n1 open /q bc 4 8\n1 opan\n")
         self.click("run-seed")
         self.expect("a malformed script is not run", self.marked("bad") == [3])
+        sends = f"1 send 0 0 {'x' * 900_000}\n1 send 0 0 Grüße\n1 recv 0 16\n"
+        self.type(f"processes 1\n1 open /q bc 4 16\n{sends}")
+        self.click("run-seed")
+        wanted = "1 fd 0\n1 EMSGSIZE\n1 ok\n1 got 0 7 Grüße\nhistory ok"
+        self.expect("a message that is too long, and other letters", self.shows("replies", wanted))
+        self.expect("the same by every order", self.shows("found", wanted[:-len("\nhistory ok")]))
 
     def see_attack(self):
         """Texts that would end an element, in messages and in names, are shown as texts."""
