@@ -62,7 +62,7 @@ enum {
     X(SEMTRY, "semtry", "sem_trywait", "sem_trywait")                             \
     X(POST, "post", "sem_post", "sem_post")                                       \
     X(SLEEP, "sleep", "a sleep", "a sleep")                                       \
-    X(YIELD, "yield", "sched_yield", "sched_yield")                               \
+    X(YIELD, "sleep", "sched_yield", "sched_yield")                               \
     X(EXIT, "exit", "exit", "exit")                                               \
     X(OPEN, "open", "mq_open", "mq_open")                                         \
     X(CLOSE, "close", "mq_close", "mq_close")                                     \

@@ -102,7 +102,8 @@ uint32_t machine_clock_object(void)
 /* Whether a step of this kind only reads what others may change. */
 static bool only_looks(yak_kind kind)
 {
-    return kind == STEP_GETATTR || kind == STEP_LOAD || kind == STEP_SLEEP || kind == STEP_SEMVALUE;
+    return kind == STEP_GETATTR || kind == STEP_LOAD || kind == STEP_SLEEP || kind == STEP_YIELD ||
+           kind == STEP_SEMVALUE;
 }
 
 /* Whether a step can leave all as it was. */
@@ -229,8 +230,7 @@ static void begin_step(seat *it, unsigned able, unsigned variant)
     if (!machine_is_local(op->kind) || it->is_late)
         count_polls(it);
     touch(op->object);
-    the_machine.touches_all = op->kind == STEP_EXIT || op->kind == STEP_YIELD ||
-                              (it->is_late && the_machine.shared->is_last);
+    the_machine.touches_all = op->kind == STEP_EXIT || (it->is_late && the_machine.shared->is_last);
     the_machine.touches_names =
         op->kind == STEP_OPEN || op->kind == STEP_CLOSE || op->kind == STEP_UNLINK;
     if (it->is_late && !it->is_odd) {

@@ -41,28 +41,6 @@ static unsigned first_late(const uint8_t *able)
     return first;
 }
 
-/* By a seed a yield is a choice as any other. */
-static bool yields(const seat *it)
-{
-    return it->state == SEAT_PARKED && it->op.kind == STEP_YIELD && the_machine.seed == 0;
-}
-
-/* Threads that yield run only if no other thread can, in the order in which they did. */
-static void hold_back_yields(uint8_t *able)
-{
-    bool others = !the_machine.shared->is_last && machine_count(able, YAK_LATE) != 0;
-    unsigned first = MACHINE_NONE;
-    for (unsigned i = 0; i < the_machine.used; ++i) {
-        const seat *it = &the_machine.seats[i];
-        others = others || (able[i] == YAK_CAN && !yields(it));
-        if (yields(it) && (first == MACHINE_NONE || it->ran < the_machine.seats[first].ran))
-            first = i;
-    }
-    for (unsigned i = 0; i < the_machine.used; ++i)
-        if (yields(&the_machine.seats[i]) && (others || i != first))
-            able[i] = YAK_CANNOT;
-}
-
 /* A thread that has polled in vain often enough gives way until another has gone on. */
 static void hold_back_polls(uint8_t *able)
 {
@@ -101,7 +79,6 @@ unsigned machine_look(uint8_t *able)
             return i;
         }
     }
-    hold_back_yields(able);
     hold_back_deadlines(able);
     hold_back_polls(able);
     return MACHINE_NONE;

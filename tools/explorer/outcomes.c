@@ -98,7 +98,7 @@ static uint8_t rule_of(const step *it, uint8_t last)
 static bool can_go_on(const step *it, uint8_t thread)
 {
     const yak_record *at = record_of(it, thread);
-    return at != 0 && at->able == YAK_CAN && at->kind != STEP_YIELD;
+    return at != 0 && at->able == YAK_CAN;
 }
 
 /* A deadline that passes while somebody can go on is a preemption too. */

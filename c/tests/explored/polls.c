@@ -1,9 +1,10 @@
 /* polls WAY: a thread polls without a pause until another has sent a message (queue) or stored a
- * value (word), or takes a lock by tries (try). Each ends under every fair schedule. With `never`
- * nobody sends. */
+ * value (word, yield), or takes a lock by tries (try, flag). Each ends under every fair schedule.
+ * With `never` nobody sends; `hasty` takes it that a yield lets the other send. */
 #include "short.h"
 
 #include <errno.h>
+#include <sched.h>
 #include <stdatomic.h>
 
 static mqd_t queue;
@@ -69,6 +70,14 @@ int main(int count, char **words)
         other = go(store, 0);
         while (atomic_load(&word) == 0)
             ;
+    } else if (strcmp(way, "yield") == 0) {
+        other = go(store, 0);
+        while (atomic_load(&word) == 0)
+            sched_yield();
+    } else if (strcmp(way, "hasty") == 0) {
+        other = go(send_one, 0);
+        sched_yield();
+        get(queue);
     } else if (strcmp(way, "flag") == 0) {
         other = go(spin, 0);
         spin(0);
