@@ -147,6 +147,8 @@ static bool is_awake(const uint8_t *able, unsigned i)
  * others, below all that a change of priorities gives. */
 uint32_t machine_new_rank(void)
 {
+    if (the_machine.shared->changes == 0)
+        return 0;
     return (uint32_t)(simulation_number(&the_machine.random) >> 33) + YAK_MOST_STEPS;
 }
 
