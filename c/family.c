@@ -298,8 +298,10 @@ static bool begin_arena(void)
 
 /* ---- forks ---- */
 
-/* The place of the child that is being made. */
+/* The place of the child that is being made, and the number of the fork. */
 static _Thread_local owner *coming;
+static _Thread_local unsigned coming_life;
+static _Thread_local uint64_t fork_number;
 
 /* What a handler needs that forks inside a call: its child goes on with that call, and is not to
  * write where its parent does. So it does that on a picture of the arena, and comes back to the
@@ -403,7 +405,9 @@ static void make_place(void)
     memcpy(coming->numbers, program_here->me->numbers, sizeof coming->numbers);
     coming->pid = program_here->me->pid;
     coming->start = program_here->me->start;
-    atomic_store(&coming->is_made, 0);
+    coming_life = coming->life;
+    fork_number = 2 * ++the_program.serials + 1;
+    atomic_store(&coming->is_made, fork_number);
     if (the_program.inode == 0)
         the_program.inode = lives_inode();
     atomic_store(&coming->state, OWNER_COMING);
@@ -464,8 +468,9 @@ static void in_parent(void)
     if (is_held_for_fork)
         leave_for(place_before);
     is_held_for_fork = false;
+    /* By now the child may have come and gone, and the place be that of another fork. */
     if (coming != 0)
-        atomic_store(&coming->is_made, lives_now());
+        atomic_compare_exchange_strong(&coming->is_made, &fork_number, 2 * lives_now());
     drop_picture();
     if (again != 0)
         munmap(again, the_program.arena.size);
@@ -492,7 +497,8 @@ static void take_part_in_family(void)
     uint32_t was = OWNER_COMING;
     program_here->seen = 0;
     program_here->me = 0;
-    if (!atomic_compare_exchange_strong(&coming->state, &was, OWNER_JOINING))
+    if (coming->life != coming_life ||
+        !atomic_compare_exchange_strong(&coming->state, &was, OWNER_JOINING))
         return;
     come(coming);
     program_here->me = coming;

@@ -225,10 +225,17 @@ static bool is_coming(const owner *it)
     return state == OWNER_COMING || state == OWNER_JOINING;
 }
 
+/* When a fork was over; 0 if it is not known to be. */
+static uint64_t made_at(const owner *it)
+{
+    const uint64_t made = atomic_load(&it->is_made);
+    return made % 2 == 0 ? made / 2 : 0;
+}
+
 /* Whether a fork is over, so that its child exists or never will. */
 static bool is_made(const owner *it, uint64_t least)
 {
-    const uint64_t made = atomic_load(&it->is_made);
+    const uint64_t made = made_at(it);
     stat_line parent;
     if (made != 0)
         return lives_now() - made >= least;
@@ -238,7 +245,7 @@ static bool is_made(const owner *it, uint64_t least)
 /* Whether a process with this start may be the child of a place. */
 static bool may_be_child(const owner *it, uint64_t start)
 {
-    const uint64_t made = atomic_load(&it->is_made);
+    const uint64_t made = made_at(it);
     const uint64_t then = start * 1000 / (uint64_t)sysconf(_SC_CLK_TCK);
     return then + OFF >= it->forked && (made == 0 || then <= made + OFF);
 }

@@ -177,8 +177,9 @@ typedef struct owner {
     pid_t pid;      /* while it is coming, that of its parent */
     pid_t holder;   /* the thread that holds `alive` */
     uint64_t start; /* when the operating system started the process with that pid */
-    /* For a child that is coming, in milliseconds: when its parent forked; and when the fork was
-       over, so that the child exists or never will; 0 before. */
+    /* For a child that is coming: when its parent forked, in milliseconds; and twice the time at
+       which the fork was over, so that the child exists or never will. Before that an odd number
+       which no other fork has. */
     uint64_t forked;
     _Atomic uint64_t is_made;
     /* Held by a thread of the process, mostly its first. The kernel marks it when that thread ends,
