@@ -167,6 +167,7 @@ static pid_t stopped_with(const char *text, unsigned with)
     const pid_t child = begin_child(receive_one);
     int status;
     pause_for(50);
+    await_sleep(child);
     WANT(kill(child, SIGSTOP) == 0 && waitpid(child, &status, WUNTRACED) == child);
     WANT(mq_send(queue, text, strlen(text), with) == 0);
     WANT(messages_in(queue) == 0);

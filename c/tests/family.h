@@ -65,6 +65,21 @@ static inline pid_t begin_child(void (*run)(void))
     _exit(0);
 }
 
+/* Waits until a process sleeps: then it is in no call but one that waits. */
+static inline void await_sleep(pid_t process)
+{
+    char path[64], state = 0;
+    snprintf(path, sizeof path, "/proc/%d/stat", (int)process);
+    for (int i = 0; i < 10000 && state != 'S'; ++i) {
+        FILE *from = fopen(path, "r");
+        WANT(from != 0 && fscanf(from, "%*d %*s %c", &state) == 1);
+        fclose(from);
+        if (state != 'S')
+            pause_for(1);
+    }
+    WANT(state == 'S');
+}
+
 /* Memory that parent and children share. */
 static inline void *shared_memory(size_t size)
 {

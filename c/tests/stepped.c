@@ -207,6 +207,7 @@ static pid_t begin(const call *it)
     if (it->how == BEHIND_DEAD) {
         dead = begin_child(receive_for_dead);
         pause_for(2);
+        await_sleep(dead);
         WANT(kill(dead, SIGSTOP) == 0 && waitpid(dead, &status, WUNTRACED) == dead);
     }
     for (int i = 0; i < it->before; ++i)
