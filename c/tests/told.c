@@ -139,6 +139,8 @@ static void stopped_is_told_all(void)
     child = begin_child(be_told);
     for (int round = 0; round < ROUNDS; ++round) {
         await_said();
+        /* So that no thread of the library is in a call when the child stops. */
+        pause_for(100);
         WANT(kill(child, SIGSTOP) == 0 && waitpid(child, &status, WUNTRACED) == child);
         for (int i = 0; i < QUEUES; ++i)
             WANT(mq_send(queues[i], "x", 1, 0) == 0);
