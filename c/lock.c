@@ -15,10 +15,10 @@
 
 enum {
     /* So often a thread tries before it sleeps, and passes so many turns of a loop before the next
-       try: the first time, and then twice as many, up to so many. All are some 50 microseconds. */
-    TRIES = 14,
-    SHORTEST_PAUSE = 256,
-    LONGEST_PAUSE = 16384,
+       try: the first time, and then twice as many, up to so many. All are some 16 microseconds. */
+    TRIES = 24,
+    SHORTEST_PAUSE = 128,
+    LONGEST_PAUSE = 2048,
     /* So many nanoseconds a sleeper sleeps until it looks whether the holder lives. */
     LONGEST_SLEEP = 50000000
 };
