@@ -77,6 +77,16 @@ bool log_checkpoint(void)
     return true;
 }
 
+bool log_begin_anew(void)
+{
+    uint32_t (*const make)(yak_process *, size_t) = the_program.is_stored ? yak_new : yak_unstored;
+    arena_clear();
+    memset(the_program.processes, 0, sizeof the_program.processes);
+    memset(&the_program.tables, 0, sizeof the_program.tables);
+    the_program.tables.waiters = the_program.tables.idle = UINT32_MAX & ~(1u << DISPATCHER);
+    return make(the_program.processes, PROCESSES) == YAK_DONE;
+}
+
 bool log_load_image(void)
 {
     const char *from = the_program.arena.parts[ARENA_LOG + the_program.log].from;

@@ -775,17 +775,6 @@ static void show_hands(void)
             show_hand((unsigned)__builtin_ctz(left));
 }
 
-/* Makes a new system. */
-static bool begin_anew(void)
-{
-    uint32_t (*const make)(yak_process *, size_t) = the_program.is_stored ? yak_new : yak_unstored;
-    arena_clear();
-    memset(the_program.processes, 0, sizeof the_program.processes);
-    memset(&the_program.tables, 0, sizeof the_program.tables);
-    the_program.tables.waiters = the_program.tables.idle = UINT32_MAX & ~(1u << DISPATCHER);
-    return make(the_program.processes, PROCESSES) == YAK_DONE;
-}
-
 bool log_replay(void)
 {
     const unsigned log = the_program.log;
@@ -795,7 +784,7 @@ bool log_replay(void)
     the_program.is_torn = true;
     the_program.aside = 0;
     memset(the_program.is_empty, 0, sizeof the_program.is_empty);
-    if (!log_load_image() && !begin_anew())
+    if (!log_load_image() && !log_begin_anew())
         return false;
     for (const char *it = the_program.log_from[log]; it != end && answer == YAK_DONE;
          it += ((const record *)it)->size)

@@ -101,6 +101,8 @@ bool log_replay(void);
 bool log_checkpoint(void);
 /* Restores the state of the image with which a log begins: false if it has none. */
 bool log_load_image(void);
+/* Makes a new system in its place: false if an allocation fails. */
+bool log_begin_anew(void);
 /* Where the bytes that a waiter keeps are restored. A thread may be taking them just now: then they
  * are whole, and are written elsewhere. Null if an allocation fails. */
 uint8_t *log_kept_again(unsigned process);
