@@ -164,7 +164,8 @@ typedef struct places {
 
 /* Finds those of the run that was made last with it->shared->wants_places. */
 void places_find(places *all, const program *it);
-/* The first of these addresses that has a place: FILE:LINE in FUNCTION; null if none has. */
+/* The first of these addresses that has a place, FILE:LINE in FUNCTION, and where that is called;
+ * null if none has. It lasts until the next. */
 const char *place_of(const places *all, const uint64_t *frames, unsigned count);
 void places_free(places *all);
 

@@ -88,7 +88,7 @@ static void add(places *all, uint64_t address)
 static bool is_own(const char *at)
 {
     return *at != '?' && strncmp(at, "/rustc/", 7) != 0 && strncmp(at, "/usr/include/", 13) != 0 &&
-           strstr(at, "/rustlib/") == 0 && strchr(at, ':') != 0;
+           strstr(at, "/rustlib/") == 0;
 }
 
 /* Adds the place of a call to that of what it calls. */
@@ -118,6 +118,9 @@ static void read_answers(places *all, FILE *from)
         if (fgets(at, sizeof at, from) == 0)
             break;
         at[strcspn(at, " \n")] = 0;
+        /* Without lines there is still the file. */
+        if (strlen(at) > 2 && strcmp(at + strlen(at) - 2, ":?") == 0)
+            at[strlen(at) - 2] = 0;
         if (it != 0 && is_own(at))
             add_place(it, at, function);
     }
@@ -179,13 +182,28 @@ void places_find(places *all, const program *it)
     ask(all);
 }
 
+static const char *text_of(const places *all, uint64_t address)
+{
+    for (unsigned i = 0; i < all->count; ++i)
+        if (all->them[i].address == address)
+            return all->them[i].text;
+    return 0;
+}
+
 const char *place_of(const places *all, const uint64_t *frames, unsigned count)
 {
-    for (unsigned i = 0; i < count && frames[i] != 0; ++i)
-        for (unsigned k = 0; k < all->count; ++k)
-            if (all->them[k].address == frames[i] && all->them[k].text != 0)
-                return all->them[k].text;
-    return 0;
+    static char text[2 * LONGEST];
+    unsigned found = 0;
+    for (unsigned i = 0; i < count && frames[i] != 0 && found < 2; ++i) {
+        const char *it = text_of(all, frames[i]);
+        if (it == 0)
+            continue;
+        if (found++ == 0)
+            snprintf(text, sizeof text, "%s", it);
+        else if (strstr(text, ", called at ") == 0)
+            snprintf(text + strlen(text), sizeof text - strlen(text), ", called at %s", it);
+    }
+    return found != 0 ? text : 0;
 }
 
 void places_free(places *all)
