@@ -46,7 +46,8 @@ enum {
 
 /* The kinds of steps: the word of the protocol with the engine, and the call that a report names,
  * without and with a deadline. For the engine a look at memory is one at the attributes of a queue,
- * and a change is one of them: two looks commute, and nothing else on one object does. */
+ * and a change is one of them: two looks commute, and nothing else on one object does. A yield and
+ * an allocation are sleeps, on which nothing depends. */
 #define YAK_KINDS(X)                                                              \
     X(NONE, "none", "nothing", "nothing")                                         \
     X(START, "start", "its start", "its start")                                   \

@@ -136,7 +136,7 @@ static void many_threads(void)
 
 static void *compute(void *of)
 {
-    for (unsigned long i = 0; i < 3000000000ul; ++i)
+    for (unsigned long i = 0; i < 30000000000ul; ++i)
         sum = i;
     return of;
 }
