@@ -148,7 +148,8 @@ void program_end_dead_waits(void)
     for (uint32_t left = all->waiters & ~all->idle; left != 0; left &= left - 1) {
         const unsigned process = (unsigned)__builtin_ctz(left);
         const pending *it = &all->waits[process];
-        if (it->is_open && !lives_thread(&the_program.owners[it->owner], it->tid))
+        const owner *of = &the_program.owners[it->owner];
+        if (lives_is_marked(of) && it->is_open && !lives_thread(of, it->tid))
             end_dead_wait(process);
     }
 }

@@ -6,7 +6,6 @@
 
 #include <errno.h>
 #include <fcntl.h>
-#include <linux/futex.h>
 #include <stdlib.h>
 #include <string.h>
 #include <sys/syscall.h>
@@ -176,15 +175,10 @@ static bool has_arena(pid_t pid)
 
 /* ---- processes that have come ---- */
 
-static bool is_marked(const owner *it)
-{
-    return (__atomic_load_n(&it->alive.__data.__lock, __ATOMIC_RELAXED) & FUTEX_OWNER_DIED) != 0;
-}
-
 bool lives_still(const owner *it)
 {
     stat_line now;
-    if (it == program_here->me || !is_marked(it))
+    if (it == program_here->me || !lives_is_marked(it))
         return true;
     if (!read_stat(it->pid, &now))
         return kill(it->pid, 0) == 0 || errno != ESRCH;
@@ -195,11 +189,9 @@ bool lives_thread(const owner *of, pid_t thread)
 {
     const int error = errno;
     bool is_there;
-    if (atomic_load_explicit(&of->state, memory_order_relaxed) == OWNER_GONE)
-        return false;
-    if (!is_marked(of) || of == program_here->me)
+    if (!lives_is_marked(of) || of == program_here->me)
         return true;
-    if (thread == of->holder)
+    if (thread == of->holder || atomic_load(&of->state) == OWNER_GONE)
         return false;
     is_there = syscall(SYS_tgkill, of->pid, thread, 0) == 0 || errno != ESRCH;
     errno = error;

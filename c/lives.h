@@ -4,6 +4,8 @@
 
 #include "the_program.h"
 
+#include <linux/futex.h>
+
 #pragma GCC visibility push(hidden)
 
 /* When the operating system started a process; 0 if /proc does not say. */
@@ -13,6 +15,13 @@ uint64_t lives_now(void);
 /* The inode of the arena, by which it is known in the maps of other processes; 0 if /proc does not
  * say. */
 unsigned long lives_inode(void);
+
+/* Whether the kernel has marked a process: the thread that held its mutex has ended, or has called
+ * exec. */
+static inline bool lives_is_marked(const owner *it)
+{
+    return (__atomic_load_n(&it->alive.__data.__lock, __ATOMIC_RELAXED) & FUTEX_OWNER_DIED) != 0;
+}
 
 /* Whether a process that has come lives, and has not called exec. */
 bool lives_still(const owner *it);

@@ -650,7 +650,7 @@ void program_drop_poll(uint32_t d);
 void program_sweep(void);
 void program_sweep_at_once(void);
 /* Ends the waits of threads that have died, and returns the messages that were handed to them to
- * their queues. Inside the lock, before a call; two loads for each open wait if nobody died. */
+ * their queues. Inside the lock, before a call; one load for each open wait if nobody died. */
 void program_end_dead_waits(void);
 /* Whether no other process shares the queues; and whether the others are dead, which are not
  * released yet. */
