@@ -17,13 +17,15 @@ TRIPLE = "wasm64-unknown-unknown"
 LAYOUT = "e-m:e-p:64:64-p10:8:8-p20:8:8-i64:64-i128:128-n32:64-S128-ni:1:10:20"
 FLAGS = [f"--target={TRIPLE}", "-mcpu=lime1", "--no-default-config", "-ffunction-sections",
          "-fdata-sections"]
-OF_PROVED = ["-O3", "-mllvm", "-expand-div-rem-bits=64", "-mllvm", "-trap-unreachable"]
+OF_PROVED = ["-mllvm", "-expand-div-rem-bits=64", "-mllvm", "-trap-unreachable"]
 OF_RUNTIME = ["-O3", "-mbulk-memory", "-ffreestanding", "-std=gnu17", "-Wall", "-Wextra", "-Werror"]
 LINK = ["-mwasm64", "--no-entry", "--stack-first", "-z", "stack-size=8388608", "--gc-sections",
         "--strip-all", "--fatal-warnings"]
 LOWER = ["--enable-memory64", "--enable-bulk-memory", "--enable-nontrapping-float-to-int",
          "--enable-sign-ext", "--enable-multivalue", "--enable-mutable-globals",
-         "--memory64-lowering", "-O2"]
+         "--memory64-lowering"]
+# How well the proved code and the whole module are optimized.
+GOOD, FAST = ("-O3", "-O2"), ("-O1", "-O0")
 PROGRAM = ["memory", "compiler", "world"]
 LIBRARY = ["memory", "compiler"]
 OF_MACHINE = re.compile(r' "(probe-stack|stack-probe-size|target-cpu|target-features|frame-pointer)'
@@ -48,7 +50,7 @@ def retargeted(line):
     return SANITIZED.sub("", line).replace("@main(", "@rattle_main(")
 
 
-def compile_module(clang, module, folder):
+def compile_module(clang, module, level, folder):
     """Writes the object of the module; returns its path, and whether it is a program."""
     text, retold = f"{folder}/proved.ll", f"{folder}/retargeted.ll"
     run(clang, "-x", "ir", module, "-S", "-emit-llvm", "-O0", "-Xclang", "-disable-llvm-passes",
@@ -58,7 +60,7 @@ def compile_module(clang, module, folder):
         for line in map(retargeted, lines):
             is_program |= line.startswith("define") and "@rattle_main(" in line
             to.write(line)
-    run(clang, *FLAGS, *OF_PROVED, "-c", "-x", "ir", retold, "-o", f"{folder}/proved.o")
+    run(clang, *FLAGS, *OF_PROVED, level, "-c", "-x", "ir", retold, "-o", f"{folder}/proved.o")
     return f"{folder}/proved.o", is_program
 
 
@@ -70,10 +72,10 @@ def compile_runtime(clang, names, folder):
     return [f"{folder}/{name}.o" for name in names]
 
 
-def write_wasm(clang, module, exports, out):
+def write_wasm(clang, module, exports, out, levels=GOOD):
     """Compiles a module to the file `out`. A library exports these functions too."""
     with tempfile.TemporaryDirectory() as folder:
-        proved, is_program = compile_module(clang, module, folder)
+        proved, is_program = compile_module(clang, module, levels[0], folder)
         parts = compile_runtime(clang, PROGRAM if is_program else LIBRARY, folder)
         linked = f"{folder}/linked.wasm"
         words = ["wasm-ld", *LINK, *(f"--export={it}" for it in exports), "-o", linked]
@@ -82,4 +84,4 @@ def write_wasm(clang, module, exports, out):
             data = with_table32(file.read())
         with open(linked, "wb") as file:
             file.write(data)
-        run("wasm-opt", *LOWER, linked, "-o", out)
+        run("wasm-opt", *LOWER, levels[1], linked, "-o", out)
