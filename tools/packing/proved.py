@@ -129,7 +129,8 @@ def note(out, wanted, logic):
 
 def is_kept(crate, out):
     """Whether a build proves nothing that an earlier one has proved."""
-    return made_of(out)[0] == sum_of(crate) or os.path.exists(f"{TOP}/crates/{crate}/out/incremental")
+    kept = os.path.exists(f"{TOP}/crates/{crate}/out/incremental")
+    return kept or made_of(out)[0] == sum_of(crate)
 
 
 def build(crate, target, out, is_module=False):
