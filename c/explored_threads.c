@@ -400,8 +400,8 @@ int pthread_once(pthread_once_t *once, void (*begin)(void))
     if (machine_decides())
         machine_acts(STEP_ONCE, once, 0);
     error = YAK_REAL(pthread_once)(once, begin);
-    /* What was done once comes before what follows the others' calls. */
-    if (the_machine.sees_memory && machine_decides())
+    /* What was done once comes before the others' calls. */
+    if (machine_decides())
         machine_also(STEP_ONCE, machine_object(once, STEP_ONCE));
     return error;
 }
