@@ -208,6 +208,7 @@ int main(int count, char **words)
     drain(queue);
     drain(narrow);
     drain(queue);
+    mq_unlink("/yak-storm-own");
     for (uint32_t n = 0; n < atomic_load(&all->begun); ++n) {
         accepted += all->is_accepted[n];
         lost += all->is_accepted[n] && all->times[n] == 0;
