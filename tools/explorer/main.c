@@ -466,7 +466,7 @@ static bool say_every_order(const exploration *it)
     const outcome *lacking = outcome_not_searched(&it->outcomes);
     if (lacking != 0)
         return say_fault(it, lacking);
-    printf("every order that can matter of what it sees was tried");
+    printf("every order of what it sees that can matter was tried");
     if (it->is_cut)
         printf(", up to step %lu", it->options->steps);
     if (it->program.shared->gives_way)
