@@ -187,13 +187,18 @@ static const struct {
     const size *sizes[2];
     void (*measure)(const workload *of, measured *to);
 } WORKLOADS[] = {
-    {"pair", {&ROUNDS, 0}, bench_pair},      {"deep", {&DEPTH, &ROUNDS}, bench_deep},
-    {"wide", {&ROUNDS, 0}, bench_wide},      {"pingpong", {&ROUNDS, 0}, bench_pingpong},
-    {"stream", {&ROUNDS, 0}, bench_stream},  {"crowd", {&SHARERS, &ROUNDS}, bench_crowd},
+    {"pair", {&ROUNDS, 0}, bench_pair},
+    {"deep", {&DEPTH, &ROUNDS}, bench_deep},
+    {"wide", {&ROUNDS, 0}, bench_wide},
+    {"pingpong", {&ROUNDS, 0}, bench_pingpong},
+    {"stream", {&ROUNDS, 0}, bench_stream},
+    {"crowd", {&SHARERS, &ROUNDS}, bench_crowd},
     {"queues", {&SHARERS, &ROUNDS}, bench_queues},
     {"systems", {&SHARERS, &ROUNDS}, bench_systems},
-    {"idle", {&SHARERS, &TIME}, bench_idle}, {"storm", {&SEED, &ROUNDS}, bench_storm},
-    {"memory", {&CALLS, 0}, bench_memory},   {"soak", {&TIME, 0}, bench_soak},
+    {"idle", {&SHARERS, &TIME}, bench_idle},
+    {"storm", {&SEED, &ROUNDS}, bench_storm},
+    {"memory", {&CALLS, 0}, bench_memory},
+    {"soak", {&TIME, 0}, bench_soak},
 };
 enum { WORKLOAD_COUNT = sizeof WORKLOADS / sizeof *WORKLOADS };
 
