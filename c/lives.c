@@ -99,7 +99,9 @@ static bool any_number(const char *folder, bool (*is_it)(pid_t number, pid_t pid
 
 /* ---- the arena of a process ---- */
 
-enum { UNKNOWN, HAS_ARENA, HAS_NONE };
+/* What the maps of a process tell. NO_MAPS: it is about to end, or has ended; or its first thread
+ * has; or it is a thread of the kernel. */
+enum { UNKNOWN, NO_MAPS, HAS_ARENA, HAS_NONE };
 
 /* Whether a line of maps is that of the arena: a shared mapping with its inode. If that is not
  * known, then one at its address. */
@@ -112,17 +114,23 @@ static bool is_arena(const char *line)
     return the_program.inode != 0 ? inode == the_program.inode : from == (uintptr_t)program_at;
 }
 
-/* Calls a function with each line of the maps of a thread, until it returns true: HAS_ARENA then;
- * UNKNOWN if nothing can be read, as of a thread that ends. */
+/* What a failed system call, or an empty file, says of maps. */
+static int without_maps(ssize_t got)
+{
+    return got == 0 || errno == ENOENT || errno == ESRCH ? NO_MAPS : UNKNOWN;
+}
+
+/* Calls a function with each line of the maps of a thread, until it returns true: HAS_ARENA then.
+ */
 static int look_at_maps(const char *path, bool (*is_it)(const char *line))
 {
     char text[TEXT];
     size_t kept = 0;
-    ssize_t got;
+    ssize_t got = 0;
     int found = UNKNOWN;
     const int file = open_file(path);
     if (file < 0)
-        return UNKNOWN;
+        return without_maps(file);
     while (found != HAS_ARENA && (got = read_from(file, text + kept, sizeof text - 1 - kept)) > 0) {
         char *line = text, *end;
         text[kept + (size_t)got] = 0;
@@ -133,6 +141,8 @@ static int look_at_maps(const char *path, bool (*is_it)(const char *line))
         kept = strlen(line) < sizeof text / 2 ? strlen(line) : 0;
         memmove(text, line, kept);
     }
+    if (found == UNKNOWN)
+        found = without_maps(got);
     close_file(file);
     return found;
 }
@@ -154,23 +164,28 @@ unsigned long lives_inode(void)
 
 static int found_here;
 
-/* Whether the maps of a thread can be read: then they are those of its process. */
-static bool can_be_read(pid_t thread, pid_t pid)
+/* Whether the maps of a thread tell: then they are those of its process. */
+static bool tells(pid_t thread, pid_t pid)
 {
     char path[64];
+    int found;
     snprintf(path, sizeof path, "/proc/%d/task/%d/maps", (int)pid, (int)thread);
-    found_here = look_at_maps(path, is_arena);
-    return found_here != UNKNOWN;
+    found = look_at_maps(path, is_arena);
+    if (found != NO_MAPS)
+        found_here = found;
+    return found == HAS_ARENA || found == HAS_NONE;
 }
 
-/* Whether a process that lives has the arena: after exec it has not. If its first thread has ended,
- * another thread tells. If nobody tells, it has. */
-static bool has_arena(pid_t pid)
+/* What the maps of a process tell: after exec it has no arena. If its first thread has ended,
+ * another thread tells. */
+static int arena_of(pid_t pid)
 {
     char folder[64];
     snprintf(folder, sizeof folder, "/proc/%d/task", (int)pid);
-    return can_be_read(pid, pid) || any_number(folder, can_be_read, pid) ? found_here == HAS_ARENA
-                                                                         : true;
+    found_here = NO_MAPS;
+    if (!tells(pid, pid))
+        any_number(folder, tells, pid);
+    return found_here;
 }
 
 /* ---- processes that have come ---- */
@@ -182,7 +197,7 @@ bool lives_still(const owner *it)
         return true;
     if (!read_stat(it->pid, &now))
         return kill(it->pid, 0) == 0 || errno != ESRCH;
-    return now.start == it->start && !is_over(&now) && has_arena(it->pid);
+    return now.start == it->start && !is_over(&now) && arena_of(it->pid) != HAS_NONE;
 }
 
 bool lives_thread(const owner *of, pid_t thread)
@@ -253,17 +268,22 @@ static bool has_place(pid_t pid, uint64_t start)
 }
 
 /* A process that lives, has the arena and has no place may be each child that is made in its time,
- * whoever is its parent by now. Never true, so that it is called with all processes. */
+ * whoever is its parent by now. A child that comes has one thread, so one without maps does not
+ * come. Never true, so that it is called with all processes. */
 static bool look_at(pid_t pid, pid_t unused)
 {
     stat_line it;
     bool may_be_one = false;
+    int arena;
     (void)unused;
     if (!read_stat(pid, &it) || is_over(&it))
         return false;
     for (unsigned i = 0; i < the_program.owners_used && !may_be_one; ++i)
         may_be_one = is_missed[i] && may_be_child(&the_program.owners[i], it.start);
-    if (!may_be_one || has_place(pid, it.start) || !has_arena(pid))
+    if (!may_be_one || has_place(pid, it.start))
+        return false;
+    arena = arena_of(pid);
+    if (arena == HAS_NONE || arena == NO_MAPS)
         return false;
     for (unsigned i = 0; i < the_program.owners_used; ++i)
         is_missed[i] = is_missed[i] && !may_be_child(&the_program.owners[i], it.start);

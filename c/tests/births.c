@@ -9,6 +9,7 @@
 #include <signal.h>
 #include <stdatomic.h>
 #include <stdbool.h>
+#include <sys/prctl.h>
 #include <sys/ptrace.h>
 
 #include "family.h"
@@ -110,6 +111,25 @@ static void killed_at_birth(void)
     }
 }
 
+/* The same while processes of others come and go: each that is about to end has no maps. */
+static void killed_beside_others(void)
+{
+    enum { SHELLS = 3, TIMES = 10 };
+    pid_t shells[SHELLS];
+    for (int i = 0; i < SHELLS; ++i) {
+        WANT((shells[i] = fork()) >= 0);
+        if (shells[i] == 0) {
+            prctl(PR_SET_PDEATHSIG, SIGKILL);
+            execl("/bin/sh", "sh", "-c", "while :; do /bin/true; done", (char *)0);
+            _exit(1);
+        }
+    }
+    for (int i = 0; i < TIMES; ++i)
+        killed_at_birth();
+    for (int i = 0; i < SHELLS; ++i)
+        WANT(kill(shells[i], SIGKILL) == 0 && waitpid(shells[i], 0, 0) == shells[i]);
+}
+
 /* ---- a tracer ---- */
 
 static _Atomic int *step;
@@ -175,6 +195,7 @@ int main(int count, char **words)
     daemons();
     beside_others();
     killed_at_birth();
+    killed_beside_others();
     held_at_birth(count > 1 ? atoi(words[1]) : 1);
     puts("well");
     return 0;
