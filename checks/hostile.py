@@ -61,7 +61,7 @@ def journals():
     count = text.count(b"\n")
     for end in range(len(text)):
         front, line = text[:end], text[:end].count(b"\n")
-        wanted = {"out": (f"legal: {line} entries, ...",)}
+        wanted = {"out": (f"legal: {line} {'entry' if line == 1 else 'entries'}, ...",)}
         if front and not front.endswith(b"\n"):
             wanted = {"status": 2, "err": f"line {line + 1}: no entry\n".encode()}
         yield case(f"the first {end} bytes of a journal", "mqlog check", front, **wanted)

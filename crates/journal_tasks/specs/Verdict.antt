@@ -38,9 +38,17 @@ creates r = opens_new r.entry.reply
 abbrev pub counts_of : Past → Counts
 counts_of past = record { entries = length past; processes = processes_to 32 past; queues = count_by creates past }
 
+-- a number of things, with the word for one of them or that for several
+abbrev pub counted : ℕ → List ℕ → List ℕ → List ℕ
+counted count one several =
+    decimal count ++ (codes " " ++ (if count == 1 then one else several))
+
 -- what is printed of a legal journal
 abbrev pub legal_text : Counts → List ℕ
-legal_text counts = codes "legal: " ++ (decimal counts.entries ++ (codes " entries, " ++ (decimal counts.processes ++ (codes " processes, " ++ (decimal counts.queues ++ codes " queues\n")))))
+legal_text counts =
+    codes "legal: " ++ (counted counts.entries (codes "entry") (codes "entries")
+    ++ (codes ", " ++ (counted counts.processes (codes "process") (codes "processes")
+    ++ (codes ", " ++ (counted counts.queues (codes "queue") (codes "queues") ++ codes "\n")))))
 
 -- the line of the last record
 abbrev pub last_line : Past → List ℕ

@@ -1,7 +1,7 @@
 //! The verdict on a journal.
 ghost use Rattle.std.specs.Prelude.{◌≡◌, ◌<◌, ◌+◌, IfOk, length, string_bytes};
 ghost use Rattle.mq_model.specs.Record.{first};
-ghost use Rattle.journal_tasks.specs.Verdict.{Judges, cause_text, last_line, verdict_text};
+ghost use Rattle.journal_tasks.specs.Verdict.{Judges, cause_text, counted, last_line, verdict_text};
 
 use crate::counts::{Counts, counts_of};
 use journal_format::line::line_of;
@@ -55,8 +55,10 @@ pub fn verdict_text(
 {
     match verdict {
         Verdict::Legal(counts) => {
-            let (entries, processes, queues) = (counts.entries, counts.processes, counts.queues);
-            format!(in alloc; "legal: {entries} entries, {processes} processes, {queues} queues\n")
+            let entries = counted(alloc, counts.entries, "entry", "entries")?;
+            let processes = counted(alloc, counts.processes, "process", "processes")?;
+            let queues = counted(alloc, counts.queues, "queue", "queues")?;
+            format!(in alloc; "legal: {entries}, {processes}, {queues}\n")
         }
         Verdict::Illegal(Departure { place, cause }) => {
             let cause = cause_text(alloc, cause)?;
@@ -64,6 +66,20 @@ pub fn verdict_text(
             format!(in alloc; "entry {place}: {cause}\n{line}")
         }
     }
+}
+
+// A number of things.
+fn counted(
+    alloc: Global,
+    count: u64,
+    one: &'static str,
+    several: &'static str,
+) -> Result<String, AllocError>
+    ensures { IfOk result (λ text.
+        string_bytes text ≡ counted count one.entry.now several.entry.now) }
+{
+    let word = if count == 1 { one } else { several };
+    format!(in alloc; "{count} {word}")
 }
 
 // Why an entry is not legal.
