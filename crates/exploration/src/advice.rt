@@ -34,6 +34,7 @@ pub struct Advice {
 }
 
 impl Advice {
+    /// No advice yet, for a step behind which so many preemptions are spent, and this thread ran last.
     pub fn new(alloc: Global, spent: u32, last: u32) -> Advice {
         Advice {
             wanted: Vec::new(alloc),
@@ -45,6 +46,7 @@ impl Advice {
         }
     }
 
+    /// Wants this thread to be tried here, too.
     pub fn want(&mut self, thread: u32) -> Result<(), AllocError> {
         if !self.wanted.contains(&thread) {
             self.wanted.push(thread)?;
@@ -76,6 +78,7 @@ impl Advice {
         Ok(())
     }
 
+    /// Whether this thread is to be tried here.
     pub fn wants(&self, thread: u32) -> bool {
         self.wanted.contains(&thread)
     }

@@ -46,6 +46,7 @@ pub struct Deed {
 }
 
 impl Deed {
+    /// A copy of the deed.
     pub fn copy(&self, alloc: Global) -> Result<Deed, AllocError> {
         let effects = self.effects.to_vec(alloc)?;
         let created = self.created.to_vec(alloc)?;
@@ -84,12 +85,14 @@ pub fn is_on_names(kind: Kind) -> bool
     matches!(kind, Kind::Open | Kind::Close | Kind::Unlink)
 }
 
+/// Whether the operation sends a message.
 pub fn is_send(kind: Kind) -> bool
     ensures { result ≡ is_send kind }
 {
     matches!(kind, Kind::Send)
 }
 
+/// Whether the operation receives a message.
 pub fn is_receive(kind: Kind) -> bool
     ensures { result ≡ is_receive kind }
 {
@@ -103,6 +106,7 @@ pub fn is_lock(kind: Kind) -> bool
     matches!(kind, Kind::Lock)
 }
 
+/// Whether the operation unlocks a mutex.
 pub fn is_unlock(kind: Kind) -> bool
     ensures { result ≡ is_unlock kind }
 {
@@ -130,6 +134,7 @@ pub fn is_wait(kind: Kind) -> bool
     matches!(kind, Kind::Register | Kind::Wake)
 }
 
+/// Whether the operation reads a clock.
 pub fn tells_time(kind: Kind) -> bool
     ensures { result ≡ tells_time kind }
 {

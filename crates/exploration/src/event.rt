@@ -21,17 +21,20 @@ pub struct Event {
 }
 
 impl Clock {
+    /// A clock in which no thread has made a step.
     pub fn new(alloc: Global) -> Clock {
         Clock {
             counts: Vec::new(alloc),
         }
     }
 
+    /// A copy of the clock.
     pub fn copy(&self, alloc: Global) -> Result<Clock, AllocError> {
         let counts = self.counts.to_vec(alloc)?;
         Ok(Clock { counts })
     }
 
+    /// How many steps of a thread have happened before.
     pub fn count(&self, thread: u32) -> u32 {
         match self.counts.get(thread as usize) {
             Some(count) => *count,

@@ -6,6 +6,7 @@ use std::alloc::AllocError;
 use std::error::Error;
 use std::fmt;
 
+/// Why a search ends without an answer.
 #[derive(Clone, Copy, Debug, PartialEq, Eq)]
 pub enum Fault {
     /// This line of the input, counted from 1, is not one of the protocol, or is out of place.

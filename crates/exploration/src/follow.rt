@@ -97,6 +97,7 @@ impl Moved {
 }
 
 impl Follower {
+    /// Follows a run from its start, at which no queue is known.
     pub fn new(alloc: Global) -> Follower {
         Follower {
             queues: Vec::new(alloc),

@@ -105,6 +105,7 @@ impl Parked {
     ghost use Rattle.std.specs.Prelude.{◌≡◌};
     ghost use Rattle.exploration.specs.Choices.{can_go_on, takes};
 
+    /// Whether the thread can go on.
     pub fn can_go_on(&self) -> bool
         ensures { result ≡ can_go_on self.now }
     {

@@ -26,6 +26,7 @@ pub struct Plan {
 }
 
 impl Plan {
+    /// A plan that knows no run yet. `bound` is the most preemptions of a schedule, if there is one.
     pub fn new(alloc: Global, rules: Rules, bound: Option<u32>) -> Plan {
         Plan {
             rules,

@@ -148,6 +148,8 @@ pub struct Search {
 }
 
 impl Search {
+    /// A search that has seen no run yet. `bound` is the most preemptions of a schedule, if there is
+    /// one.
     pub fn new(alloc: Global, rules: Rules, bound: Option<u32>, limits: Limits) -> Search
         ensures nodes { result.nodes.items ≡ [] }
         ensures limits { result.limits ≡ limits }

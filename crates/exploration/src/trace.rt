@@ -23,6 +23,7 @@ pub struct Lines<R: BufRead + Drop> {
 }
 
 impl<R: BufRead + Drop> Lines<R> {
+    /// The lines of an input, from its start.
     pub fn new(alloc: Global, input: R) -> Lines<R> {
         Lines {
             input,

@@ -20,6 +20,8 @@ pub struct Pipe<R: BufRead + Drop, W: Write + Drop> {
 }
 
 impl<R: BufRead + Drop, W: Write + Drop> Pipe<R, W> {
+    /// Reads requests from these lines, writes what to run next to the output, and refuses a run of
+    /// more steps than this.
     pub fn new(alloc: Global, lines: Lines<R>, output: W, most_steps: usize) -> Pipe<R, W> {
         Pipe {
             lines,
