@@ -193,17 +193,6 @@ static void keep(int number, siginfo_t *info, void *context)
 /* The pipe by which a child says that it has registered. */
 static int said[2];
 
-static void say(void)
-{
-    WANT(write(said[1], "", 1) == 1);
-}
-
-static void await_said(void)
-{
-    char byte;
-    WANT(read(said[0], &byte, 1) == 1);
-}
-
 static void register_and_await(void)
 {
     struct sigaction action;
@@ -217,7 +206,7 @@ static void register_and_await(void)
     event.sigev_signo = SIGUSR1;
     event.sigev_value.sival_int = 41;
     WANT(mq_notify(queue, &event) == 0);
-    say();
+    tell_through(said);
     for (int i = 0; i < 5000 && !is_told; ++i)
         pause_for(1);
     WANT(is_told && told.si_value.sival_int == 41 && told.si_pid == getppid() &&
@@ -256,7 +245,7 @@ static void register_and_end(void)
     memset(&event, 0, sizeof event);
     event.sigev_notify = SIGEV_NONE;
     WANT(mq_notify(queue, &event) == 0);
-    say();
+    tell_through(said);
     if (way == BY_EXIT) {
         ends_by_exit = true;
         exit(0);
@@ -287,7 +276,7 @@ static void notices(void)
     pid_t child;
     WANT(pipe(said) == 0);
     child = begin_child(register_and_await);
-    await_said();
+    await_told(said);
     /* The registration of another process stays. */
     WANT(mq_notify(queue, 0) == 0 && is_registered());
     WANT(mq_send(queue, "n", 1, 0) == 0);
@@ -306,7 +295,7 @@ static void notices(void)
     /* A registration ends with its process. */
     for (way = 0; way < WAYS; ++way) {
         child = begin_child(register_and_end);
-        await_said();
+        await_told(said);
         if (way == BY_KILL)
             kill(child, SIGKILL);
         for (int i = 0; i < 1000 && is_registered(); ++i)

@@ -7,6 +7,7 @@
 #include <stdlib.h>
 #include <sys/mman.h>
 #include <sys/wait.h>
+#include <unistd.h>
 
 #include "want.h"
 
@@ -78,6 +79,18 @@ static inline void await_sleep(pid_t process)
             pause_for(1);
     }
     WANT(state == 'S');
+}
+
+/* A word through a pipe, by which one process tells another how far it is. */
+static inline void tell_through(const int pipe[2])
+{
+    WANT(write(pipe[1], "", 1) == 1);
+}
+
+static inline void await_told(const int pipe[2])
+{
+    char byte;
+    WANT(read(pipe[0], &byte, 1) == 1);
 }
 
 /* Memory that parent and children share. */

@@ -15,17 +15,6 @@ enum { QUEUES = 20, ROUNDS = 2 };
 static mqd_t queue;
 static int said[2];
 
-static void say(void)
-{
-    WANT(write(said[1], "", 1) == 1);
-}
-
-static void await_said(void)
-{
-    char byte;
-    WANT(read(said[0], &byte, 1) == 1);
-}
-
 static void register_for_signal(void)
 {
     struct sigevent event;
@@ -38,7 +27,7 @@ static void register_for_signal(void)
 static void register_and_say(void)
 {
     register_for_signal();
-    say();
+    tell_through(said);
     pause_for(60000);
 }
 
@@ -85,7 +74,7 @@ static void stranger_is_not_told(void)
 {
     const pid_t child = begin_child(register_and_say);
     pid_t stranger;
-    await_said();
+    await_told(said);
     WANT(kill(child, SIGKILL) == 0 && waitpid(child, 0, 0) == child);
     stranger = begin_with(child);
     if (stranger == -1)
@@ -120,7 +109,7 @@ static void be_told(void)
 {
     for (int round = 1; round <= ROUNDS; ++round) {
         register_all();
-        say();
+        tell_through(said);
         for (int i = 0; i < 5000 && atomic_load(&ran) < round * QUEUES; ++i)
             pause_for(1);
         WANT(atomic_load(&ran) == round * QUEUES);
@@ -138,7 +127,7 @@ static void stopped_is_told_all(void)
     }
     child = begin_child(be_told);
     for (int round = 0; round < ROUNDS; ++round) {
-        await_said();
+        await_told(said);
         /* So that no thread of the library is in a call when the child stops. */
         pause_for(100);
         WANT(kill(child, SIGSTOP) == 0 && waitpid(child, &status, WUNTRACED) == child);
