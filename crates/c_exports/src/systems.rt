@@ -121,8 +121,9 @@ pub extern "C" fn yak_free(alloc: Global, process: &mut Handle) -> u32
 }
 
 /// Writes which futex word of its system a process sleeps on, counted from 0: that of y or of the
-/// flag of a process for which it waits to acquire the lock, or that of its own answer. It is a
-/// hint.
+/// flag of a process for which it waits to acquire the lock, or that of its own answer. If its last
+/// try ended at a step that made progress, it writes 4,294,967,295: then the process must not
+/// sleep, but try again. It is a hint.
 #[unsafe(no_mangle)]
 pub extern "C" fn yak_futex_word(alloc: Global, process: &mut Handle, futex_word: &mut u32) -> u32
     ensures process { process_in process.new ≡ process_in process.old }

@@ -66,7 +66,8 @@ impl Member {
         self.mq.futex_words()
     }
 
-    /// The futex word on which its process sleeps now. It is a hint.
+    /// The futex word on which its process sleeps now, or `u32::MAX` if it has to try again. It is
+    /// a hint.
     pub fn futex_word(&self) -> u32 {
         standing::futex_word(&self.standing)
     }
@@ -87,7 +88,8 @@ impl Member {
         let Some(guard) = arrive(&self.mq, &mut self.standing) else {
             return Tried::Retry;
         };
-        let (process, returned) = guard.make(&self.mq, call, given, buf);
+        let (departed, returned) = guard.make(&self.mq, call, given, buf);
+        let process = departed.into_process();
         self.until = until_of(&process, call);
         settle(&mut self.standing, process);
         Tried::Made(returned)
@@ -116,8 +118,8 @@ impl Member {
             Ok(guard) => {
                 let len = bytes.len() as u64;
                 let call = Call::MqSend { d, prio, len };
-                let (process, sent) = guard.make(&self.mq, call, bytes, &mut []);
-                settle(&mut self.standing, process);
+                let (departed, sent) = guard.make(&self.mq, call, bytes, &mut []);
+                settle(&mut self.standing, departed.into_process());
                 Some(Tried::Made(sent))
             }
             Err(acquisition) => {
@@ -148,8 +150,8 @@ impl Member {
             Ok(guard) => {
                 let room = buf.len() as u64;
                 let call = Call::MqReceive { d, room };
-                let (process, got) = guard.make(&self.mq, call, &[], buf);
-                settle(&mut self.standing, process);
+                let (departed, got) = guard.make(&self.mq, call, &[], buf);
+                settle(&mut self.standing, departed.into_process());
                 Some(Tried::Made(got))
             }
             Err(acquisition) => {
@@ -171,8 +173,8 @@ impl Member {
         let Some(guard) = arrive(&self.mq, &mut self.standing) else {
             return Tried::Retry;
         };
-        let (process, closed) = guard.exit(&self.mq);
-        settle(&mut self.standing, process);
+        let (departed, closed) = guard.exit(&self.mq);
+        settle(&mut self.standing, departed.into_process());
         self.until = None;
         Tried::Made(closed)
     }
@@ -204,8 +206,8 @@ impl Member {
             Reads (ticket_of self.old.standing) (ticket_of self.new.standing)) }
     {
         let guard = arrive(&self.mq, &mut self.standing)?;
-        let (process, checked) = guard.check(alloc, &self.mq);
-        settle(&mut self.standing, process);
+        let (departed, checked) = guard.check(alloc, &self.mq);
+        settle(&mut self.standing, departed.into_process());
         Some(checked)
     }
 
@@ -224,8 +226,8 @@ impl Member {
             (ticket_of self.new.standing)) }
     {
         let guard = arrive(&self.mq, &mut self.standing)?;
-        let (process, read) = guard.record(alloc, &self.mq, place);
-        settle(&mut self.standing, process);
+        let (departed, read) = guard.record(alloc, &self.mq, place);
+        settle(&mut self.standing, departed.into_process());
         Some(read)
     }
 
@@ -240,8 +242,8 @@ impl Member {
             (ticket_of self.new.standing)) }
     {
         let guard = arrive(&self.mq, &mut self.standing)?;
-        let (process, room) = guard.room(&self.mq);
-        settle(&mut self.standing, process);
+        let (departed, room) = guard.room(&self.mq);
+        settle(&mut self.standing, departed.into_process());
         Some(room)
     }
 
@@ -256,8 +258,8 @@ impl Member {
             (ticket_of self.new.standing)) }
     {
         let guard = arrive(&self.mq, &mut self.standing)?;
-        let (process, nobody) = guard.nobody_can_call(&self.mq);
-        settle(&mut self.standing, process);
+        let (departed, nobody) = guard.nobody_can_call(&self.mq);
+        settle(&mut self.standing, departed.into_process());
         Some(nobody)
     }
 
@@ -291,8 +293,8 @@ impl Member {
         let Some(guard) = arrive(&self.mq, &mut self.standing) else {
             return Ending::Retry;
         };
-        let (process, outcome) = guard.collect(&self.mq, buf);
-        settle(&mut self.standing, process);
+        let (departed, outcome) = guard.collect(&self.mq, buf);
+        settle(&mut self.standing, departed.into_process());
         match outcome {
             None => Ending::Unanswered,
             Some(outcome) => {
@@ -320,8 +322,8 @@ impl Member {
         let Some(guard) = arrive(&self.mq, &mut self.standing) else {
             return Ending::Retry;
         };
-        let (process, outcome) = guard.end_wait(&self.mq, buf, now);
-        settle(&mut self.standing, process);
+        let (departed, outcome) = guard.end_wait(&self.mq, buf, now);
+        settle(&mut self.standing, departed.into_process());
         self.until = None;
         match outcome {
             None => Ending::Withdrawn,

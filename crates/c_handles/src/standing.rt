@@ -11,6 +11,9 @@ use std::mem;
 // How many steps one try takes to acquire the lock.
 const STEPS: u32 = 100;
 
+// What stands for no futex word. It is none of a system.
+const NO_FUTEX_WORD: u32 = u32::MAX;
+
 /// A process between two tries, either idle or with an acquisition in progress. While it makes a
 /// call both fields are empty. They are separate, because a process on the fast path is taken out
 /// and put back in each call, and is shorter than an acquisition.
@@ -110,7 +113,7 @@ pub fn waiting(standing: &Standing) -> Option<usize>
 }
 
 /// Puts back a process without an acquisition in progress. The fields are empty before, so nothing
-/// is dropped.
+/// is dropped. Those who wait for its call are woken outside Rattle.
 #[inline(always)]
 pub fn settle(standing: &mut Standing, process: FastProcess)
     ensures process { ticket_of standing.new ≡ process }
@@ -146,14 +149,15 @@ pub fn look(mq: &FastMq, standing: &mut Standing) -> Option<bool>
 }
 
 /// The futex word of its system on which the process sleeps: that of the obstacle to acquiring the
-/// lock, or that of its answer.
+/// lock, or that of its answer. It is `u32::MAX` if the last step of an acquisition made progress:
+/// the process then waits for nothing that it has looked at, and has to try again.
 pub fn futex_word(standing: &Standing) -> u32
     requires { is_there standing.now ≡ true }
 {
     match &standing.rest {
         Some(process) => process.futex_word(),
         None => match &standing.way {
-            Some(acquisition) => acquisition.futex_word(),
+            Some(acquisition) => acquisition.futex_word().unwrap_or(NO_FUTEX_WORD),
             None => unreachable!(),
         },
     }

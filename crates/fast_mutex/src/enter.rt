@@ -6,12 +6,24 @@ use crate::backoff::Backoff;
 use crate::lock::Lock;
 use crate::logged::Logged;
 use std::sync::Wait;
+use std::time::Duration;
 
 /// How many steps an acquisition takes if it meets nobody (Lamport's fast path).
 pub const FAST_PATH_STEPS: u32 = 5;
 
 // How often an acquisition that makes no progress backs off before it sleeps.
 const MOST_PAUSES: u32 = 12;
+
+// How long an acquisition sleeps at most, in microseconds: the first time, and then each time twice
+// as long. No wake-up is lost between calls of a `Process`; the first sleeps are short so that a
+// process soon finds out that it starves. The last bound is for the caller of a `Guard`, who has to
+// wake others itself: if it forgets that, they are as late.
+const FIRST_SLEEP: u64 = 500;
+
+const LONGEST_SLEEP: u64 = 1_000_000;
+
+// How long the next sleep may be once an acquisition starves: it has slept twice.
+const STARVING_SLEEP: u64 = 2_000;
 
 /// Acquiring with a wait, for every lock. It is a trait of its own, so that code that never waits
 /// can use a lock.
@@ -26,7 +38,8 @@ pub trait Enter<S: Logged>: Lock<S> {
             Self.walk_accesses result ≡ Self.walk_accesses walk + 5 }
         ensures inside { Self.is_in walk ≡ true → result ≡ walk };
 
-    /// Takes steps until the lock is acquired, and waits while another process holds it.
+    /// Takes steps until the lock is acquired, and waits while another process holds it. Before the
+    /// first one it lets a process in that has waited for long.
     fn come_in<R: Wait>(&self, rt: &R, walk: Self::Walk) -> Self::Walk
         requires { (Self.walking walk).lock ≡ Self.id self.now }
         ensures ticket { Self.walking result ≡ Self.walking walk }
@@ -46,7 +59,7 @@ pub trait Enter<S: Logged>: Lock<S> {
 
     /// Wakes the threads that sleep until this process releases the lock, and those whose waits its
     /// last critical section answered. If nobody sleeps, it is a few loads. A thread that is not
-    /// woken polls again after some milliseconds.
+    /// woken polls again after a second.
     fn wake(&self, seat: &Self::Seat);
 }
 
@@ -63,6 +76,7 @@ impl<S: Logged, L: Lock<S>> Enter<S> for L {
 
     #[inline(always)]
     fn come_in<R: Wait>(&self, rt: &R, walk: L::Walk) -> L::Walk {
+        self.futex_words().let_starving_in(rt);
         let tried = self.take_fast_path(walk);
         if L::is_admitted(&tried) {
             return tried;
@@ -96,27 +110,41 @@ fn wait_apart<S: Logged, L: Lock<S>, R: Wait>(lock: &L, rt: &R, walk: L::Walk) -
 
 // Takes step after step. After a step without progress it backs off, each time longer, and after
 // twelve such steps it sleeps. Backoff starts again with the shortest pause after progress or a
-// sleep. It never yields: beside a busy thread, a yield costs a whole time slice of that thread. It
-// is outlined, so that an acquisition that meets nobody has only the code that it needs.
+// sleep. It never yields: beside a busy thread, a yield costs a whole time slice of that thread.
+// After its second sleep it starves: other processes then begin no acquisition until it is inside
+// or sleeps again. It is outlined, so that an acquisition that meets nobody has only the code that
+// it needs.
 #[inline(never)]
 fn wait_in<S: Logged, L: Lock<S>, R: Wait>(lock: &L, rt: &R, mut walk: L::Walk) -> L::Walk
     requires { (L.walking walk).lock ≡ L.id lock.now }
     ensures ticket { L.walking result ≡ L.walking walk }
     ensures inside { L.is_in result ≡ true }
 {
+    let own = L::own_futex_word(&walk);
     let mut backoff = Backoff::new();
     let mut paused = 0;
+    let mut longest_sleep = FIRST_SLEEP;
     for _ in rt.forever() {
         if L::is_admitted(&walk) {
+            if longest_sleep >= STARVING_SLEEP {
+                lock.futex_words().end_starving(own);
+            }
             return walk;
+        }
+        if longest_sleep >= STARVING_SLEEP {
+            lock.futex_words().starve(own);
         }
         let is_tired = paused >= MOST_PAUSES;
         let (next, has_moved) = if is_tired {
-            sleep_apart(lock, rt, walk)
+            lock.futex_words().end_starving(own);
+            sleep_apart(lock, rt, walk, Duration::from_micros(longest_sleep))
         } else {
             lock.step(walk)
         };
         walk = next;
+        if is_tired {
+            longest_sleep = longest_sleep.saturating_mul(2).min(LONGEST_SLEEP);
+        }
         if has_moved || is_tired {
             backoff = Backoff::new();
             paused = 0;
@@ -129,8 +157,13 @@ fn wait_in<S: Logged, L: Lock<S>, R: Wait>(lock: &L, rt: &R, mut walk: L::Walk) 
 }
 
 // Announces that it sleeps, takes the next step, and if that makes no progress, sleeps until it is
-// woken.
-fn sleep_apart<S: Logged, L: Lock<S>, R: Wait>(lock: &L, rt: &R, walk: L::Walk) -> (L::Walk, bool)
+// woken, for `at_most` at the longest.
+fn sleep_apart<S: Logged, L: Lock<S>, R: Wait>(
+    lock: &L,
+    rt: &R,
+    walk: L::Walk,
+    at_most: Duration,
+) -> (L::Walk, bool)
     requires lock { (L.walking walk).lock ≡ L.id lock.now }
     requires outside { L.is_in walk ≡ false }
     ensures { L.walking result.0 ≡ L.walking walk }
@@ -140,7 +173,7 @@ fn sleep_apart<S: Logged, L: Lock<S>, R: Wait>(lock: &L, rt: &R, walk: L::Walk) 
     futex_words.announce_sleep(futex_word, L::own_futex_word(&walk));
     let (walk, has_moved) = lock.step(walk);
     if !has_moved {
-        futex_words.sleep_until_free(rt, futex_word);
+        futex_words.sleep_until_free(rt, futex_word, at_most);
     }
     futex_words.end_sleep(futex_word);
     (walk, has_moved)

@@ -1,5 +1,6 @@
-//! The futex words on which threads sleep. The lock's algorithm never reads them, and nothing is
-//! proved of them: every sleep ends by itself, so a thread that misses a wake-up is late, not lost.
+//! The futex words on which threads sleep, and the word by which a thread that starves comes next.
+//! The lock's algorithm never reads them, and nothing is proved of them.
+use crate::backoff::Backoff;
 use std::alloc::{AllocError, Global};
 use std::sync::Wait;
 use std::sync::atomic::AtomicU64;
@@ -11,13 +12,19 @@ use std::time::Duration;
 // fifteen unused words on either side. A thread that backs off loads it again and again. Without
 // the unused words it would take its neighbours, or what the allocator puts next, out of the cache
 // of the lock's holder.
+// Threads outside Rattle keep who of them starves in word 104.
 const WORDS: u32 = 128;
 
 const UNCHANGED: usize = 112;
 
-// The longest sleep of a thread that waits for the lock, in milliseconds. Then it takes its next
-// step anyway.
-const LONGEST_SLEEP: u64 = 10;
+// Added to the number of the process that starves if threads sleep until it is inside.
+const HELD: u64 = 64;
+
+// How often a thread that is held back polls before it sleeps, and for how many milliseconds it
+// then sleeps at most. A process that starves and is stopped delays the others by that time.
+const POLLS_HELD_BACK: u32 = 8;
+
+const LONGEST_HOLD: u64 = 1;
 
 // Adaptive spinning. A process polls for its answer some seven times before it sleeps, or once if
 // at least one in four of its recent waits missed, that is, no poll found the answer. It polls once
@@ -40,6 +47,8 @@ pub struct FutexWords {
     words: Vec<AtomicU64>,
     // how many threads that wait for the lock sleep, or are about to
     sleepers: AtomicU64,
+    // who starves, and `HELD` more if threads sleep until it is inside; 0 if nobody does
+    starving: AtomicU64,
 }
 
 impl FutexWords {
@@ -51,6 +60,7 @@ impl FutexWords {
         Ok(FutexWords {
             words,
             sleepers: AtomicU64::new(0),
+            starving: AtomicU64::new(0),
         })
     }
 
@@ -100,9 +110,10 @@ impl FutexWords {
         self.set(futex_word, 1);
     }
 
-    /// Sleeps until another thread wakes it, if its last step did not bring it further.
-    pub(crate) fn sleep_until_free<R: Wait>(&self, rt: &R, futex_word: u32) {
-        self.sleep(rt, futex_word, Duration::from_millis(LONGEST_SLEEP));
+    /// Sleeps until another thread wakes it, if its last step did not bring it further, for at most
+    /// this long.
+    pub(crate) fn sleep_until_free<R: Wait>(&self, rt: &R, futex_word: u32, at_most: Duration) {
+        self.sleep(rt, futex_word, at_most);
     }
 
     /// Ends an announced sleep. The thread that was woken announces for those that still sleep, and
@@ -115,6 +126,71 @@ impl FutexWords {
                 self.wake(futex_word);
             }
         }
+    }
+
+    /// Says that a process starves, unless another one does. `own` is the futex word of its flag.
+    pub(crate) fn starve(&self, own: u32) {
+        if self.starving.load(SeqCst) == 0 {
+            let _ = self
+                .starving
+                .compare_exchange(0, who_starves(own), SeqCst, SeqCst);
+        }
+    }
+
+    /// Says that it no longer starves, if it did, and wakes those that it held back.
+    pub(crate) fn end_starving(&self, own: u32) {
+        if self.starving.load(SeqCst) % HELD == who_starves(own)
+            && self.starving.swap(0, SeqCst) >= HELD
+        {
+            self.starving.wake_all();
+        }
+    }
+
+    /// Holds back a process that is about to begin an acquisition while another one starves. If
+    /// nobody starves, it is one load.
+    #[inline(always)]
+    pub(crate) fn let_starving_in<R: Wait>(&self, rt: &R) {
+        if self.starving.load(SeqCst) != 0 {
+            self.hold_back(rt);
+        }
+    }
+
+    // Polls some times whether a process still starves, and then sleeps until it is inside, for a
+    // millisecond at the longest. Then it lets all go on, since that process may be stopped. One
+    // that only was late says again that it starves.
+    #[cold]
+    #[inline(never)]
+    fn hold_back<R: Wait>(&self, rt: &R) {
+        let mut backoff = Backoff::new();
+        for _ in 0..POLLS_HELD_BACK {
+            if self.starving.load(SeqCst) == 0 {
+                return;
+            }
+            backoff.back_off(self);
+        }
+        let starving = self.starving.load(SeqCst);
+        let held = starving % HELD + HELD;
+        if starving == 0 || !self.is_marked(starving, held) {
+            return;
+        }
+        self.starving
+            .park_timeout(rt, held as u32, Duration::from_millis(LONGEST_HOLD));
+        if self
+            .starving
+            .compare_exchange(held, 0, SeqCst, SeqCst)
+            .is_ok()
+        {
+            self.starving.wake_all();
+        }
+    }
+
+    // Whether the word of who starves now says that threads sleep.
+    fn is_marked(&self, starving: u64, held: u64) -> bool {
+        starving == held
+            || self
+                .starving
+                .compare_exchange(starving, held, SeqCst, SeqCst)
+                .is_ok()
     }
 
     /// Announces that a process may sleep until it is answered.
@@ -224,4 +300,9 @@ impl FutexWords {
             None => None,
         }
     }
+}
+
+// What the word of who starves is while it is the process whose flag has this futex word.
+fn who_starves(own: u32) -> u64 {
+    u64::from(own) + 1
 }

@@ -24,7 +24,7 @@ use Rattle.histories.specs.Histories.{Histories, current_of, is_through}
 use Rattle.histories.specs.Linearizations.{IsLinearization}
 use Rattle.histories.specs.Outcomes.{hands}
 use Rattle.histories.specs.OwnCalls.{ends_wait}
-use Rattle.histories.specs.Named.{has_any, unbinds}
+use Rattle.histories.specs.Named.{KeepsName}
 use Rattle.histories.proofs.Accepting.{send-on}
 use Rattle.histories.proofs.Completing.{length-with, one_if}
 use Rattle.histories.proofs.Cutting.{AreBegun, Ends, ends-older}
@@ -81,7 +81,7 @@ balanced-on : (on : Bool) (y : Reply) → if_on on (came y) + if_on on (own_gain
 balanced-on on y = grind arith
 
 -- a call that brings in or takes out a message is on the queue if and only if its operation is
-same-side : (time : ℕ) (name : List ℕ) (histories : Histories) (past : Past) (r : Record) (linear : IsLinearization histories (r ∷ past)) → AreBegun time histories (r ∷ past) linear → has_any (unbinds time name) histories ≡ false → (q : ℕ) → HasName name past q →
+same-side : (time : ℕ) (name : List ℕ) (histories : Histories) (past : Past) (r : Record) (linear : IsLinearization histories (r ∷ past)) → AreBegun time histories (r ∷ past) linear → KeepsName time name histories → (q : ℕ) → HasName name past q →
     ((k : ℕ) → called_queue past r.entry.process r.entry.call ≡ Some k → ends_wait r.entry.call ≡ false) → (k : ℕ) → called_queue past r.entry.process r.entry.call ≡ Some k →
     is_place q (called_queue past r.entry.process r.entry.call) ≡ record_on name histories past r linear
 same-side time name histories past r linear begun stays q named own k on = grind (arith, legal-linear, called-created, call-marked)
@@ -94,7 +94,7 @@ names-own past p call k e = grind arith
 abbrev IsStep : Past → Record → ℕ → Bool → Type 0
 IsStep past r q on = length (present (r ∷ past) q) + if_on on (gone r.entry.reply) ≤ length (present past q) + if_on on (came r.entry.reply)
 
-step-on : (time : ℕ) (name : List ℕ) (histories : Histories) (past : Past) (r : Record) (linear : IsLinearization histories (r ∷ past)) → AreBegun time histories (r ∷ past) linear → has_any (unbinds time name) histories ≡ false → (q : ℕ) → HasName name past q →
+step-on : (time : ℕ) (name : List ℕ) (histories : Histories) (past : Past) (r : Record) (linear : IsLinearization histories (r ∷ past)) → AreBegun time histories (r ∷ past) linear → KeepsName time name histories → (q : ℕ) → HasName name past q →
     IsStep past r q (record_on name histories past r linear)
 step-on time name histories past r linear begun stays q named = by (called_queue past r.entry.process r.entry.call) refl
   where
@@ -123,7 +123,7 @@ step-on time name histories past r linear begun stays q named = by (called_queue
         omega (arith, before, gone_none)
 
 -- at each record of a complete linearization
-pub balance : (time : ℕ) (name : List ℕ) (histories : Histories) (full past : Past) (linear : IsLinearization histories past) → AreBegun time histories past linear → has_any (unbinds time name) histories ≡ false → IsLinearization histories full → Ends past full →
+pub balance : (time : ℕ) (name : List ℕ) (histories : Histories) (full past : Past) (linear : IsLinearization histories past) → AreBegun time histories past linear → KeepsName time name histories → IsLinearization histories full → Ends past full →
     ((i : ℕ) → is_through (current_of histories full i) ≡ true) → (q : ℕ) → HasName name past q →
     length (present past q) + total (got_by name histories past) (length histories) ≤ total (entered_by time name histories past) (length histories)
 balance time name histories full [] linear begun stays whole ends through q named = grind (arith, total-le, got_by, of_process, tally, total)

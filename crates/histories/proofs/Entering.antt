@@ -9,7 +9,7 @@ use Rattle.mq_model.specs.Waits.{answered_by, is_answered, is_wait, named_wait, 
 use Rattle.mq_model.specs.declared.entries.Call.{Call}
 use Rattle.mq_model.specs.declared.entries.Reply.{Reply}
 use Rattle.mq_model.specs.declared.entries.Reply.TheVariants as reply
-use Rattle.mq_model.specs.declared.owners.WaitKind.TheVariants.{Send}
+use Rattle.mq_model.specs.declared.callers.WaitKind.TheVariants.{Send}
 use Rattle.mq_model.proofs.Cases.{Says}
 use Rattle.mq_model.proofs.Frames.{answered_by-none}
 use Rattle.mq_model.proofs.LegalReplies.{legal_says}
@@ -26,7 +26,7 @@ use Rattle.histories.specs.declared.operation.Outcome.TheVariants.{Got}
 use Rattle.histories.specs.Histories.{Histories, completed, current_of, is_through}
 use Rattle.histories.specs.Linearizations.{IsLinearization}
 use Rattle.histories.specs.Outcomes.{fits, hands, is_handed}
-use Rattle.histories.specs.Named.{has_any, is_marked, marks_of, no_marks, unbinds}
+use Rattle.histories.specs.Named.{KeepsName, is_marked, marks_of, no_marks}
 use Rattle.histories.specs.NotFull.{enters_by, may_enter}
 use Rattle.histories.proofs.Admitting.{IsAdmitted, admitted-enters}
 use Rattle.histories.proofs.Completing.{completed-free, completed-other, free, made-other, made-own, made-same, one_if, operations-of}
@@ -230,7 +230,7 @@ record HasAdmitted (time : ℕ) (name : List ℕ) (histories : Histories) (past 
   pub within : index < length histories
   pub grows : entered_by time name histories past index + if_on (record_on name histories past r linear) 1 ≤ entered_by time name histories (r ∷ past) index
 
-admits-one : (time : ℕ) (name : List ℕ) (histories : Histories) (full past : Past) (r : Record) (linear : IsLinearization histories (r ∷ past)) → AreBegun time histories (r ∷ past) linear → has_any (unbinds time name) histories ≡ false → IsLinearization histories full → Ends (r ∷ past) full →
+admits-one : (time : ℕ) (name : List ℕ) (histories : Histories) (full past : Past) (r : Record) (linear : IsLinearization histories (r ∷ past)) → AreBegun time histories (r ∷ past) linear → KeepsName time name histories → IsLinearization histories full → Ends (r ∷ past) full →
     ((i : ℕ) → is_through (current_of histories full i) ≡ true) → (m w : ℕ) (n : Option ℕ) → r.entry.reply ≡ reply.Got m (Some w) n → HasAdmitted time name histories past r linear
 admits-one time name histories full past r linear begun stays whole ends through m w n is =
     let legal = legal-linear histories past linear.0 in
@@ -290,7 +290,7 @@ admitting-got : (y : Reply) (w : ℕ) → admits y ≡ Some w → (m : ℕ) × (
 admitting-got y w e = grind arith
 
 -- what one record adds to the messages that entered
-pub entered-step : (time : ℕ) (name : List ℕ) (histories : Histories) (full past : Past) (r : Record) (linear : IsLinearization histories (r ∷ past)) → AreBegun time histories (r ∷ past) linear → has_any (unbinds time name) histories ≡ false → IsLinearization histories full → Ends (r ∷ past) full →
+pub entered-step : (time : ℕ) (name : List ℕ) (histories : Histories) (full past : Past) (r : Record) (linear : IsLinearization histories (r ∷ past)) → AreBegun time histories (r ∷ past) linear → KeepsName time name histories → IsLinearization histories full → Ends (r ∷ past) full →
     ((i : ℕ) → is_through (current_of histories full i) ≡ true) →
     total (entered_by time name histories past) (length histories) + if_on (record_on name histories past r linear) (own_come r.entry.reply + one_if (is_some (admits r.entry.reply))) ≤ total (entered_by time name histories (r ∷ past)) (length histories)
 entered-step time name histories full past r linear begun stays whole ends through = by (admits r.entry.reply) refl

@@ -9,7 +9,7 @@ use Rattle.mq_model.specs.Waits.{answered_by, is_wait, named_wait, names_wait, o
 use Rattle.mq_model.specs.Legality.{Legal}
 use Rattle.mq_model.specs.declared.entries.Reply.{Reply}
 use Rattle.mq_model.specs.declared.entries.Reply.TheVariants as reply
-use Rattle.mq_model.specs.declared.owners.WaitKind.TheVariants.{Receive}
+use Rattle.mq_model.specs.declared.callers.WaitKind.TheVariants.{Receive}
 use Rattle.mq_model.proofs.Cases.{Says}
 use Rattle.mq_model.proofs.Frames.{record_at-older}
 use Rattle.mq_model.proofs.LegalReplies.{legal_says}
@@ -28,7 +28,7 @@ use Rattle.histories.specs.declared.operation.Outcome.TheVariants.{Got}
 use Rattle.histories.specs.Histories.{Histories, completed}
 use Rattle.histories.specs.Linearizations.{ComesFrom, IsLinearization}
 use Rattle.histories.specs.Outcomes.{brings, fits, has_handed, hands, is_handed}
-use Rattle.histories.specs.Named.{has_any, is_marked, marks_of, no_marks, unbinds}
+use Rattle.histories.specs.Named.{KeepsName, is_marked, marks_of, no_marks}
 use Rattle.histories.specs.NotFull.{is_got, takes_out}
 use Rattle.histories.proofs.Accepting.{ending-reply}
 use Rattle.histories.proofs.Completing.{added, completed-other, completed-own, free, one_if, operations-of}
@@ -173,7 +173,7 @@ own-got name histories past r linear =
     gain-on false y got handed le = let none = none-gained y in omega (arith, none)
 
 -- what one record adds to the messages that were got
-pub got-step : (time : ℕ) (name : List ℕ) (histories : Histories) (past : Past) (r : Record) (linear : IsLinearization histories (r ∷ past)) → AreBegun time histories (r ∷ past) linear → has_any (unbinds time name) histories ≡ false →
+pub got-step : (time : ℕ) (name : List ℕ) (histories : Histories) (past : Past) (r : Record) (linear : IsLinearization histories (r ∷ past)) → AreBegun time histories (r ∷ past) linear → KeepsName time name histories →
     total (got_by name histories (r ∷ past)) (length histories) ≤ total (got_by name histories past) (length histories) + if_on (record_on name histories past r linear) (own_gain r.entry.reply + one_if (hands r.entry.reply))
 got-step time name histories past r linear begun stays = split (hands r.entry.reply)
     (λ t.

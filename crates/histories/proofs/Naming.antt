@@ -6,7 +6,9 @@ use Rattle.std.specs.Str.{bytes_eq}
 use Rattle.std.proofs.lemmas.Bool.{cases_lt, eqb-false, lt-ltb}
 use Rattle.std.proofs.lemmas.List.{get_or-set_other, get_or-set_same}
 use Rattle.std.proofs.lemmas.Slice.Eq.{bytes_eq-Decides}
+use Rattle.std.proofs.lemmas.Option.{slice_get_within}
 use Rattle.mq_model.specs.Record.{Record, Past}
+use Rattle.mq_model.specs.Threads.{shares}
 use Rattle.mq_model.specs.Descriptors.{called_queue, created, descriptor_of, held, held_after, opened_queue}
 use Rattle.mq_model.specs.Messages.{is_in}
 use Rattle.mq_model.specs.Names.{bound_queue, creates, is_open, is_unlink, name_of, unlinks}
@@ -25,6 +27,7 @@ use Rattle.mq_model.proofs.Alive.{bound-name, name_of-newest, name_of-older, non
 use Rattle.mq_model.proofs.Frames.{created-below}
 use Rattle.mq_model.proofs.HeldQueues.{after-cases, bound-created, created-held, created-more}
 use Rattle.mq_model.proofs.OpenReplies.{OpenedFacts, lowest_free-is, opened-says}
+use Rattle.mq_model.proofs.Mates.{shares_own}
 use Rattle.mq_model.proofs.Places.{split}
 use Rattle.mq_model.proofs.PresentFew.{called-created, created-cases}
 use Rattle.histories.specs.OwnCalls.{ends_wait, made}
@@ -35,8 +38,8 @@ use Rattle.histories.specs.Histories.{Histories, completed, is_pending}
 use Rattle.histories.specs.Linearizations.{ComesFrom, IsLinearization}
 use Rattle.histories.specs.Outcomes.{fits, has_failed}
 use Rattle.histories.specs.RealTime.{operation_at}
-use Rattle.histories.specs.Named.{has_any, has_unlinked, is_marked, marks_opened, unbinds}
-use Rattle.histories.proofs.Completing.{added, completed-free, completed-other, completed-own, free, made-own}
+use Rattle.histories.specs.Named.{KeepsName, has_unlinked, is_marked, marks_opened, unbinds}
+use Rattle.histories.proofs.Completing.{operations-of, added, completed-free, completed-other, completed-own, free, made-own}
 use Rattle.histories.proofs.Cutting.{AreBegun, Ends, ends-older}
 use Rattle.histories.proofs.Marking.{marks_at, marks_at-length, marks_at-next, none-has}
 use Rattle.histories.proofs.RealTime.{completed-grows}
@@ -65,17 +68,17 @@ keeps : (time : ℕ) (name : List ℕ) (o : Operation) → o.begin ≤ time → 
 keeps time name o begun stays = grind (arith, le-leb)
 
 -- the operation of a record keeps the name
-record-keeps : (time : ℕ) (name : List ℕ) (histories : Histories) (past : Past) (r : Record) (linear : IsLinearization histories (r ∷ past)) → linear.2.operation.begin ≤ time → has_any (unbinds time name) histories ≡ false → Keeps name linear.2.operation
+record-keeps : (time : ℕ) (name : List ℕ) (histories : Histories) (past : Past) (r : Record) (linear : IsLinearization histories (r ∷ past)) → linear.2.operation.begin ≤ time → KeepsName time name histories → Keeps name linear.2.operation
 record-keeps time name histories past r linear begun stays =
     let from : ComesFrom histories past r = linear.2 in
-    keeps time name from.operation begun (none-has (unbinds time name) histories from.index (completed past (from.index + 1)) from.operation stays from.is)
+    keeps time name from.operation begun (none-has (unbinds time name) histories from.index (completed past (from.index + 1)) from.operation stays.stays from.is)
 
 -- which descriptors are of the queue -----------------------------------------------------------------------------------
 
--- each descriptor that a process holds is marked if and only if its queue has this name
+-- each descriptor that one of 32 processes holds is marked if and only if its queue has this name
 abbrev AreMarked : List ℕ → Histories → Past → Type 0
 AreMarked name histories past =
-    (index d : ℕ) (h : Description) → held past (index + 1) d ≡ Some h →
+    (index d : ℕ) (h : Description) → index + 1 ≤ 32 → held past (index + 1) d ≡ Some h →
     (d < 16) × (get_or (marks_at name histories index (completed past (index + 1))) d false ≡ bytes_eq (name_of past h.queue) name)
 
 -- an open showed its descriptor
@@ -187,17 +190,24 @@ opened-name past r legal d q false is on = by (bound_queue past r.payload) refl
         let bound : bound_queue past r.payload ≡ Some q = e ∙ ap Some same in
         name_of-older past r q (created-below past q (bound-created past r.payload q bound)) ∙ bound-name past r.payload q bound
 
-are-marked : (time : ℕ) (name : List ℕ) (histories : Histories) (past : Past) (linear : IsLinearization histories past) → AreBegun time histories past linear → has_any (unbinds time name) histories ≡ false → AreMarked name histories past
-are-marked time name histories [] linear begun stays index d h e = absurd (let bad : None ≡ Some h = e in cc)
-are-marked time name histories (r ∷ past) linear begun stays index d h e = split (r.entry.process == index + 1)
+-- the index of a record's operation is that of one of the histories
+from-within : (histories : Histories) (past : Past) (r : Record) (from : ComesFrom histories past r) → from.index < length histories
+from-within histories past r from = let ops = operations-of histories past from.index from.operation from.is in slice_get_within histories from.index ops.v ops.has
+
+are-marked : (time : ℕ) (name : List ℕ) (histories : Histories) (past : Past) (linear : IsLinearization histories past) → AreBegun time histories past linear → KeepsName time name histories → AreMarked name histories past
+are-marked time name histories [] linear begun stays index d h few e = absurd (let bad : None ≡ Some h = e in cc)
+are-marked time name histories (r ∷ past) linear begun stays index d h few e =
+    let within = from-within histories past r linear.2 in
+    let one : shares r.entry.process (index + 1) ≡ (r.entry.process == index + 1) = shares_own r.entry.process (index + 1) (let p = linear.2.process in let most = stays.few in omega (arith, p, most, within)) few in
+    split (shares r.entry.process (index + 1))
     (λ own.
-    let mine : r.entry.process ≡ index + 1 = eqb-true _ _ own in
+    let mine : r.entry.process ≡ index + 1 = eqb-true _ _ (sym one ∙ own) in
     let from : ComesFrom histories past r = linear.2 in
     let at : from.index ≡ index = let p = from.process in omega (arith, p, mine) in
     let after : held_after past r.entry.call r.payload r.entry.reply d (held past (index + 1) d) ≡ Some h = rw own at e in
     after-cases _ past r.entry.call r.payload r.entry.reply d (held past (index + 1) d) h after
     (λ k was same.
-    let before = are-marked time name histories past linear.0 begun.0 stays index d k was in
+    let before = are-marked time name histories past linear.0 begun.0 stays index d k few was in
     let was_his : held past (from.index + 1) d ≡ Some k = subst (λ (i : ℕ). held past (i + 1) d ≡ Some k) (sym at) was in
     let stays_marked : get_or (marks_at name histories index (completed (r ∷ past) (index + 1))) d false ≡ get_or (marks_at name histories index (completed past (index + 1))) d false =
     subst (λ (i : ℕ). get_or (marks_at name histories i (completed (r ∷ past) (i + 1))) d false ≡ get_or (marks_at name histories i (completed past (i + 1))) d false) at (marked-older name histories past r linear d k was_his) in
@@ -212,9 +222,9 @@ are-marked time name histories (r ∷ past) linear begun stays index d h e = spl
     (x.0, marked ∙ ap (λ (b : List ℕ). bytes_eq b name) (sym named))))
     (λ other.
     let was : held past (index + 1) d ≡ Some h = rw other at e in
-    let before = are-marked time name histories past linear.0 begun.0 stays index d h was in
+    let before = are-marked time name histories past linear.0 begun.0 stays index d h few was in
     let below = created-below past h.queue (created-held past (legal-linear histories past linear.0) (index + 1) d h was) in
-    let number = completed-other past r (index + 1) (eqb-false _ _ other) in (
+    let number = completed-other past r (index + 1) (eqb-false _ _ (sym one ∙ other)) in (
       before.0,
       ap (λ (j : ℕ). get_or (marks_at name histories index j) d false) number ∙ before.1
           ∙ ap (λ (b : List ℕ). bytes_eq b name) (sym (name_of-older past r h.queue below)),
@@ -233,10 +243,13 @@ record IsThrough (past : Past) (p q : ℕ) (call : Call) : Type 0 where
 through : (past : Past) (p q : ℕ) (call : Call) → called_queue past p call ≡ Some q → IsThrough past p q call
 through past p q call e = grind arith
 
-pub call-marked : (time : ℕ) (name : List ℕ) (histories : Histories) (past : Past) (r : Record) (linear : IsLinearization histories (r ∷ past)) → AreBegun time histories (r ∷ past) linear → has_any (unbinds time name) histories ≡ false →
+pub call-marked : (time : ℕ) (name : List ℕ) (histories : Histories) (past : Past) (r : Record) (linear : IsLinearization histories (r ∷ past)) → AreBegun time histories (r ∷ past) linear → KeepsName time name histories →
     ends_wait r.entry.call ≡ false → (q : ℕ) → called_queue past r.entry.process r.entry.call ≡ Some q →
     is_marked (marks_at name histories linear.2.index (completed past (linear.2.index + 1))) (descriptor_of linear.2.operation.call) ≡ bytes_eq (name_of past q) name
-call-marked time name histories past r linear begun stays own q on = grind (arith, through, are-marked, own-call, marks_at, lt-ltb)
+call-marked time name histories past r linear begun stays own q on =
+    let within = from-within histories past r linear.2 in
+    let few : linear.2.index + 1 ≤ 32 = let most = stays.few in omega (arith, most, within) in
+    grind (arith, through, are-marked, own-call, marks_at, lt-ltb)
 
 -- the name has one queue -------------------------------------------------------------------------------------------------
 
@@ -247,7 +260,7 @@ done-went : (past : Past) (x : Outcome) → fits past reply.Done x ≡ true → 
 done-went past x fit = grind arith
 
 -- a queue of the name that was created is bound to it
-is-bound : (time : ℕ) (name : List ℕ) (histories : Histories) (past : Past) (linear : IsLinearization histories past) → AreBegun time histories past linear → has_any (unbinds time name) histories ≡ false →
+is-bound : (time : ℕ) (name : List ℕ) (histories : Histories) (past : Past) (linear : IsLinearization histories past) → AreBegun time histories past linear → KeepsName time name histories →
     (q : ℕ) → is_in (created past) q ≡ true → name_of past q ≡ name → bound_queue past name ≡ Some q
 is-bound time name histories [] linear begun stays q made named = absurd (let bad : false ≡ true = made in cc)
 is-bound time name histories (r ∷ past) linear begun stays q made named = created-cases past r q made
@@ -263,7 +276,7 @@ is-bound time name histories (r ∷ past) linear begun stays q made named = crea
     unlink-payload MqUnlink y given e = refl
     unlink-payload _ y given e = absurd (let bad : false ≡ true = e in cc)
 
-pub one-of-name : (time : ℕ) (name : List ℕ) (histories : Histories) (past : Past) (linear : IsLinearization histories past) → AreBegun time histories past linear → has_any (unbinds time name) histories ≡ false →
+pub one-of-name : (time : ℕ) (name : List ℕ) (histories : Histories) (past : Past) (linear : IsLinearization histories past) → AreBegun time histories past linear → KeepsName time name histories →
     (q k : ℕ) → is_in (created past) q ≡ true → is_in (created past) k ≡ true → name_of past q ≡ name → name_of past k ≡ name → q ≡ k
 one-of-name time name histories past linear begun stays q k first second named named_too =
     let a = is-bound time name histories past linear begun stays q first named in
@@ -283,7 +296,7 @@ name-later before (r ∷ past) q ends made = elim ends [
 ]
 
 -- the call of an operation is through a marked descriptor if and only if its queue has the name
-pub call-placed : (time : ℕ) (name : List ℕ) (histories : Histories) (past : Past) (index k place : ℕ) (x : IsCallAt time histories past index k place) → has_any (unbinds time name) histories ≡ false → (o : Operation) → operation_at histories index k ≡ Some o →
+pub call-placed : (time : ℕ) (name : List ℕ) (histories : Histories) (past : Past) (index k place : ℕ) (x : IsCallAt time histories past index k place) → KeepsName time name histories → (o : Operation) → operation_at histories index k ≡ Some o →
     (q : ℕ) → called_queue x.before x.r.entry.process x.r.entry.call ≡ Some q → is_marked (marks_at name histories index k) (descriptor_of o.call) ≡ bytes_eq (name_of x.before q) name
 call-placed time name histories past index k place x stays o is q on = grind (arith, call-marked, marks_at)
 
@@ -291,7 +304,7 @@ pub created-placed : (time : ℕ) (histories : Histories) (past : Past) (index k
 created-placed time histories past index k place x q on = called-created x.before (legal-linear histories x.before x.linear.0) x.r.entry.process q x.r.entry.call on
 
 -- and so it is later
-pub placed-marked : (time : ℕ) (name : List ℕ) (histories : Histories) (past : Past) (index k place : ℕ) (x : IsCallAt time histories past index k place) → has_any (unbinds time name) histories ≡ false → (o : Operation) → operation_at histories index k ≡ Some o →
+pub placed-marked : (time : ℕ) (name : List ℕ) (histories : Histories) (past : Past) (index k place : ℕ) (x : IsCallAt time histories past index k place) → KeepsName time name histories → (o : Operation) → operation_at histories index k ≡ Some o →
     (q : ℕ) → called_queue x.before x.r.entry.process x.r.entry.call ≡ Some q →
     (is_in (created past) q ≡ true) × (is_marked (marks_at name histories index k) (descriptor_of o.call) ≡ bytes_eq (name_of past q) name)
 placed-marked time name histories past index k place x stays o is q on =

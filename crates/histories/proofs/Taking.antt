@@ -14,7 +14,7 @@ use Rattle.mq_model.specs.declared.entries.Call.{Call}
 use Rattle.mq_model.specs.declared.entries.Call.TheVariants.{Collect, Withdraw}
 use Rattle.mq_model.specs.declared.entries.Reply.{Reply}
 use Rattle.mq_model.specs.declared.entries.Reply.TheVariants as reply
-use Rattle.mq_model.specs.declared.owners.WaitKind.TheVariants.{Receive}
+use Rattle.mq_model.specs.declared.callers.WaitKind.TheVariants.{Receive}
 use Rattle.mq_model.proofs.Cases.{Says}
 use Rattle.mq_model.proofs.Frames.{record_at-older}
 use Rattle.mq_model.proofs.LegalReplies.{got_says, legal_says}

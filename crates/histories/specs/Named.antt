@@ -1,9 +1,10 @@
 -- Which operations of a process are on the queue of a name: those through a descriptor that the
 -- latest open which returned it opened under this name.
-use Rattle.std.specs.Prelude.{ℕ, Bool, false, not, nat_lt, ◌&&◌, ◌||◌, nat_le, List, [], ◌∷◌, Option, None, Some, replicate, slice_set, slice_index_or, if◌then◌else◌, Vec}
+use Rattle.std.specs.Prelude.{ℕ, ◌≡◌, ◌≤◌, length, Bool, false, not, nat_lt, ◌&&◌, ◌||◌, nat_le, List, [], ◌∷◌, Option, None, Some, replicate, slice_set, slice_index_or, if◌then◌else◌, Vec}
 use Rattle.std.specs.List.{list_any}
 use Rattle.std.specs.Str.{bytes_eq}
 use Rattle.std.specs.declared.alloc.Global.{Global}
+use Rattle.mq_model.specs.Limits.{most_processes}
 use Rattle.mq_model.specs.Descriptors.{descriptor_of}
 use Rattle.mq_model.specs.Names.{is_open, is_unlink}
 use Rattle.histories.specs.Histories.{Histories, is_pending}
@@ -70,3 +71,9 @@ has_unlinked name o = is_unlink o.call && not (has_failed o.outcome) && bytes_eq
 abbrev pub unbinds : ℕ → List ℕ → Operation → Bool
 unbinds time name o =
     nat_le o.begin time && (has_unlinked name o || is_open o.call && is_pending o.outcome)
+
+-- Nothing unbinds the name by this time, and no two of the processes are threads of one, which would
+-- share their descriptors.
+pub record KeepsName (time : ℕ) (name : List ℕ) (histories : Histories) : Type 0 where
+  pub few : length histories ≤ most_processes
+  pub stays : has_any (unbinds time name) histories ≡ false

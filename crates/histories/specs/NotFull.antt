@@ -12,7 +12,7 @@ use Rattle.mq_model.specs.declared.faults.Fault.TheVariants.{Again, TimedOut}
 use Rattle.histories.specs.Histories.{Histories}
 use Rattle.histories.specs.Excess.{returned_by}
 use Rattle.histories.specs.Outcomes.{has_failed}
-use Rattle.histories.specs.Named.{calls_on, has_any, has_returned_on, unbinds}
+use Rattle.histories.specs.Named.{KeepsName, calls_on, has_any, has_returned_on}
 use Rattle.histories.specs.declared.operation.Operation.{Operation}
 use Rattle.histories.specs.declared.operation.Outcome.{Outcome}
 use Rattle.histories.specs.declared.operation.Outcome.TheVariants.{Pending, Done, Got, Refused}
@@ -87,4 +87,4 @@ pub record IsNotFull (histories : Histories) (e : NotFull) : Type 0 where
   pub received : e.received ≡ times_taken e.from e.name.items histories
   pub fewer : e.sent < e.capacity + e.received
   pub capacity : has_any (creates_less e.to e.name.items e.capacity) histories ≡ false
-  pub bound : has_any (unbinds e.to e.name.items) histories ≡ false
+  pub bound : KeepsName e.to e.name.items histories

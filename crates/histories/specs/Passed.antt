@@ -10,7 +10,7 @@ use Rattle.histories.specs.declared.operation.Operation.{Operation}
 use Rattle.histories.specs.declared.operation.Outcome.{Outcome}
 use Rattle.histories.specs.declared.operation.Outcome.TheVariants.{Done, Got, Refused}
 use Rattle.histories.specs.Excess.{has_got, sends_by}
-use Rattle.histories.specs.Named.{has_any, has_any_on, has_returned_on, unbinds}
+use Rattle.histories.specs.Named.{KeepsName, has_any_on, has_returned_on}
 use Rattle.histories.specs.declared.passed.Passed.{Passed}
 use Rattle.histories.specs.declared.passed.Part.{Part}
 use Rattle.histories.specs.declared.passed.Part.TheVariants.{Sent, PassedOver, SentBefore, Received}
@@ -76,4 +76,4 @@ pub record IsPassed (histories : Histories) (e : Passed) : Type 0 where
   pub passed : has_returned_on e.to e.name.items (is_part PassedOver e) histories ≡ true
   pub later : has_any_on e.name.items (is_part SentBefore e) histories ≡ false
   pub stays : has_any_on e.name.items (is_part Received e) histories ≡ false
-  pub bound : has_any (unbinds e.to e.name.items) histories ≡ false
+  pub bound : KeepsName e.to e.name.items histories

@@ -12,6 +12,7 @@ use crate::queues::{Queue, queues_of};
 use mq_model::entries::Call;
 use mq_model::error_order::attributes_given;
 use mq_model::faults::Fault;
+use mq_model::limits::PROCESSES;
 use std::alloc::{AllocError, Global};
 
 /// A send that failed with `EAGAIN` or `ETIMEDOUT`, so it found its queue full, although fewer
@@ -215,6 +216,9 @@ fn times_taken(time: u64, name: &[u8], histories: &Vec<Vec<Operation>>) -> u128
 fn checked(found: NotFull, histories: &Vec<Vec<Operation>>) -> Option<NotFull>
     ensures { IfSome result (IsNotFull histories.now.items) }
 {
+    if histories.len() > PROCESSES as usize {
+        return None;
+    }
     let full = was_full(&found, histories);
     let sent = times_entered(found.to, &found.name, histories);
     let received = times_taken(found.from, &found.name, histories);

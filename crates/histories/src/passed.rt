@@ -10,6 +10,7 @@ use crate::named::{Marks, is_marked, marks_after, was_unbound};
 use crate::operation::{Operation, Outcome};
 use crate::queues::{Queue, queues_of};
 use mq_model::faults::Fault;
+use mq_model::limits::PROCESSES;
 use std::alloc::{AllocError, Global};
 
 /// A message that lay in its queue while a receive passed over it: the receive failed with `EAGAIN`
@@ -167,6 +168,9 @@ fn any_returned_on(part: Part, time: u64, passed: &Passed, histories: &Vec<Vec<O
 fn checked(passed: Passed, histories: &Vec<Vec<Operation>>) -> Option<Passed>
     ensures { IfSome result (IsPassed histories.now.items) }
 {
+    if histories.len() > PROCESSES as usize {
+        return None;
+    }
     let sent = any_returned_on(Part::Sent, passed.from, &passed, histories);
     let is_passed = any_returned_on(Part::PassedOver, passed.to, &passed, histories);
     let sent_before = any_on(Part::SentBefore, &passed, histories);

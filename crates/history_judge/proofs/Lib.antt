@@ -12,3 +12,5 @@ pub mod OwnNumbers
 pub mod LineLengths
 pub mod Pending
 pub mod Noting
+mod Forming
+mod Copies

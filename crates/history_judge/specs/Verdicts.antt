@@ -1,6 +1,7 @@
 -- What it means that a history is linearizable, and what the result of a check says.
-use Rattle.std.specs.Prelude.{◌≡◌, ℕ, ◌+◌, ◌-◌, ◌*◌, ◌/◌, ◌<◌, Bool, true, false, is_none, map, min, List, length, IfSome, Option, Some, Vec, slice_get}
+use Rattle.std.specs.Prelude.{◌≡◌, ℕ, ◌+◌, ◌-◌, ◌*◌, ◌/◌, ◌<◌, Bool, true, false, is_none, map, max, min, List, length, IfSome, Option, Some, Vec, slice_get}
 use Rattle.std.specs.List.{list_all}
+use Rattle.std.specs.Int.Count.{count_leading_zeros}
 use Rattle.std.specs.declared.alloc.Global.{Global}
 use Rattle.mq_model.specs.Record.{Past}
 use Rattle.journal_format.specs.Text.{journal_text}
@@ -14,6 +15,8 @@ use Rattle.histories.specs.declared.contradiction.Contradiction.{Contradiction}
 use Rattle.history_judge.specs.Seen.{AreSameCalls, AreSameOperations, seen_call}
 use Rattle.history_judge.specs.Processes.{operations_of, process_count}
 use Rattle.history_judge.specs.Descriptors.{no_numbers, renamed}
+use Rattle.history_judge.specs.Fitting.{AllFit}
+use Rattle.history_judge.specs.WellFormed.{IsWellFormed}
 use Rattle.history_judge.specs.Fronts.{AreReturnsOf, Return, front_part}
 use Rattle.history_judge.specs.declared.line.Called.{Called}
 use Rattle.history_judge.specs.declared.judgement.Answer.{Answer}
@@ -70,15 +73,23 @@ pub record HasContradiction (calls : List Called) (reason : Contradiction) : Typ
   pub are : AreHistoriesOf calls histories
   pub contradiction : IsContradiction histories reason
 
+-- The maximum number of prefixes that the search for the shortest one tries, for this number of
+-- calls: one for each halving until none is left, and two at a guess.
+abbrev pub tries : ℕ → ℕ
+tries count = 64 - count_leading_zeros 64 count + 2
+
 -- The budget for each prefix of this number of calls: enough for an order that is found at once, and
--- a part of the whole. The result is known by then, so the longer the history, the less each prefix
--- is worth; and a step back costs as much as the history is long.
+-- a part of the whole. All together they have no more than the whole, or a hundred steps each. The
+-- result is known by then, so the longer the history, the less each prefix is worth; and a step back
+-- costs as much as the history is long.
 abbrev pub front_budget : ℕ → ℕ → ℕ
-front_budget budget count = min (2 * count + budget / (1 + count / 50) / (1 + count / 50)) budget
+front_budget budget count =
+    min (2 * count + budget / (1 + count / 50) / (1 + count / 50)) (max (budget / tries count) (min budget 100))
 
 -- The front is a prefix that is not linearizable, with this contradiction if one is given. It ends
 -- with the return of the call; the whole history ends with the last return. If it is the shortest,
 -- the prefix before it is linearizable. If it may not be, the budget was used up at a shorter one.
+-- If the history is well-formed, so is the front, and its numbers fit, so that its text reads well.
 pub record IsImpossibleFront (budget : ℕ) (calls : List Called) (call : ℕ) (front : List Called) (is_shortest : Bool) (found : Option Contradiction) : Type 0 where
   pub returns : List Return
   pub are : AreReturnsOf calls returns
@@ -87,6 +98,7 @@ pub record IsImpossibleFront (budget : ℕ) (calls : List Called) (call : ℕ) (
   pub at : slice_get returns (min number (length returns - 1)) ≡ Some last
   pub of : call ≡ last.1
   pub part : AreSameCalls front (front_part calls returns number)
+  pub formed : AllFit calls → IsWellFormed calls → AllFit front × IsWellFormed front
   pub impossible : IsImpossible (front_part calls returns number)
   pub reason : IfSome found (HasContradiction (front_part calls returns number))
   pub shortest : is_shortest ≡ true → (before : ℕ) → before + 1 ≡ number → IsPossible (front_part calls returns before)

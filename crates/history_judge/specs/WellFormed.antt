@@ -51,11 +51,16 @@ abbrev pub overlaps : LatestMoments → Operation → Bool
 overlaps before o =
     nat_lt o.begin before.end && not (o.begin == before.begin && o.end == before.end)
 
+-- an earlier call had not returned, unless the two began together and neither returned, as the
+-- closes of an exit that had not ended
+abbrev pub is_behind : Bool → ℕ → Operation → Bool
+is_behind pending begin o = pending && not (is_pending o.outcome && o.begin == begin)
+
 -- Why a call may not follow others of its process. These are the latest times at which they began
 -- and ended, and `pending` says whether one had not returned.
 abbrev pub fault_behind : Bool → LatestMoments → Called → Option IllFormed
 fault_behind pending before c =
-    if pending then Some BehindPending
+    if is_behind pending before.begin c.operation then Some BehindPending
     else (if overlaps before c.operation then Some Overlaps
     else (if nat_lt c.operation.end c.operation.begin then Some EndsFirst
     else (if is_payload c.operation.call Done c.operation.given.items then None

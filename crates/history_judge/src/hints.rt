@@ -12,10 +12,18 @@ const STEPS: u64 = 100_000;
 const STEPS_EACH: u64 = 50;
 
 /// A number for each operation, and one more at the end for each process. They are the positions in
-/// an order that the heuristic finds, or if it finds none, the ends of the operations.
-pub fn hints_of(alloc: Global, histories: &Vec<Vec<Operation>>) -> Result<Vec<Vec<u64>>, AllocError>
+/// an order that the heuristic finds, or if it finds none, the ends of the operations. These are
+/// taken at once if a search of `budget` steps is too short for any order.
+pub fn hints_of(
+    alloc: Global,
+    histories: &Vec<Vec<Operation>>,
+    budget: u64,
+) -> Result<Vec<Vec<u64>>, AllocError>
     ensures { IfOk result (λ hints. length hints.items ≡ length histories.now.items) }
 {
+    if budget < returned_count(histories) {
+        return hints_by_ends(alloc, histories);
+    }
     let tasks = tasks_of(alloc, histories)?;
     let steps = STEPS_EACH
         .saturating_mul(operation_count(histories))
@@ -24,6 +32,19 @@ pub fn hints_of(alloc: Global, histories: &Vec<Vec<Operation>>) -> Result<Vec<Ve
         Some(order) => hints_by_order(alloc, histories, &order),
         None => hints_by_ends(alloc, histories),
     }
+}
+
+// How many operations have returned: an order has a step for each.
+fn returned_count(histories: &Vec<Vec<Operation>>) -> u64 {
+    let mut count: u64 = 0;
+    for operations in histories {
+        for operation in operations {
+            if !operation.outcome.is_pending() {
+                count = count.saturating_add(1);
+            }
+        }
+    }
+    count
 }
 
 fn operation_count(histories: &Vec<Vec<Operation>>) -> u64 {

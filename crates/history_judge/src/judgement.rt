@@ -3,7 +3,7 @@ ghost use Rattle.std.specs.Prelude.{◌≡◌, ◌≤◌, ◌<◌, IfOk, IfSome,
 ghost use Rattle.history_judge.specs.Seen.{AreSameCalls};
 ghost use Rattle.history_judge.specs.Fronts.{front_part};
 ghost use Rattle.history_judge.specs.Processes.{AreOfProcesses};
-ghost use Rattle.history_judge.specs.Verdicts.{AreHistoriesOf, HasContradiction, IsAnswer, IsImpossible, IsJudgement, are_pending, front_budget};
+ghost use Rattle.history_judge.specs.Verdicts.{AreHistoriesOf, HasContradiction, IsAnswer, IsImpossible, IsJudgement, are_pending, front_budget, tries};
 
 use crate::descriptors::rename;
 use crate::first_contradiction::{first_excess, first_not_full, first_passed};
@@ -44,7 +44,7 @@ pub fn find_order(alloc: Global, calls: Vec<Called>, budget: u64) -> Result<Answ
         let _reason = reason;
         return Ok(Answer::Impossible);
     }
-    let hints = hints_of(alloc, &histories)?;
+    let hints = hints_of(alloc, &histories, budget)?;
     let mut linearizer = Linearizer::new(alloc, histories, hints)?;
     match judge(alloc, &mut linearizer, budget)? {
         Finding::Found(_) => {
@@ -94,9 +94,10 @@ pub enum Judgement {
 }
 
 /// Checks a history of processes from 1 to 32 within `budget` steps. If it is not linearizable, a
-/// shorter prefix that is not is looked for. For each prefix that search has two steps for each call,
-/// and a part of `budget`: all of it for fewer than 50 calls, a quarter for fewer than 100, a ninth
-/// for fewer than 150, but no more than `budget`. Fails if memory was refused.
+/// shorter prefix that is not is looked for. All that are tried have equal parts, together no more
+/// than `budget`, or a hundred steps each if that is more. Of 50 calls or more each has no more than
+/// two steps for each call and a quarter of `budget`, of 100 or more two for each call and a ninth,
+/// and so on. Fails if memory was refused.
 pub fn judge_calls(alloc: Global, calls: &[Called], budget: u64) -> Result<Judgement, AllocError>
     requires { AreOfProcesses calls.now }
     ensures { IfOk result (IsJudgement budget calls.now) }
@@ -110,13 +111,27 @@ pub fn judge_calls(alloc: Global, calls: &[Called], budget: u64) -> Result<Judge
     }
 }
 
+// The maximum number of prefixes that the search for the shortest one tries, for this number of
+// calls: one for each halving until none is left, and two at a guess.
+fn tries(count: usize) -> u64
+    ensures is { result ≡ tries count }
+    ensures some { 0 < result }
+{
+    let halvings = 64 - (count as u64).leading_zeros();
+    u64::from(halvings) + 2
+}
+
+// The steps that each prefix has at least, if the budget has as many.
+const FEW_STEPS: u64 = 100;
+
 // The budget for each prefix of a history of this number of calls.
 fn front_budget(budget: u64, count: usize) -> u64
     ensures { result ≡ front_budget budget count }
 {
     let parts = 1 + count as u64 / 50;
     let steps = 2 * count as u128 + u128::from(budget / parts / parts);
-    steps.min(u128::from(budget)) as u64
+    let most = (budget / tries(count)).max(budget.min(FEW_STEPS));
+    steps.min(u128::from(most)) as u64
 }
 
 // The shortest prefix that is not linearizable, of a history that is not.

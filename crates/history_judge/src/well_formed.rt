@@ -2,7 +2,7 @@
 //! call is given the bytes that it takes.
 ghost use Rattle.std.specs.Prelude.{◌≡◌, IfSome, None, Some, max};
 ghost use Rattle.history_judge.specs.Processes.{AreOfProcesses};
-ghost use Rattle.history_judge.specs.WellFormed.{IsFirstFault, IsWellFormed, fault_behind, ill_formed_text, overlaps, takes_name};
+ghost use Rattle.history_judge.specs.WellFormed.{IsFirstFault, IsWellFormed, fault_behind, ill_formed_text, is_behind, overlaps, takes_name};
 
 use crate::line::Called;
 use histories::operation::{Operation, Outcome};
@@ -14,7 +14,8 @@ use std::fmt;
 /// Why a call may not follow those before it in a history.
 #[derive(Clone, Copy, Debug, PartialEq, Eq)]
 pub enum IllFormed {
-    /// An earlier call of its process had not returned.
+    /// An earlier call of its process had not returned, and the two did not begin together, or this
+    /// one returned.
     BehindPending,
     /// It begins before an earlier call of its process ended, and does not begin and end together
     /// with it.
@@ -66,12 +67,20 @@ fn overlaps(begin: u64, end: u64, operation: &Operation) -> bool
     operation.begin < end && !(operation.begin == begin && operation.end == end)
 }
 
+// Whether an earlier call had not returned, unless the two began together and neither returned, as
+// the closes of an exit that had not ended.
+fn is_behind(pending: bool, begin: u64, operation: &Operation) -> bool
+    ensures { result ≡ is_behind pending begin operation.now }
+{
+    pending && !(operation.outcome.is_pending() && operation.begin == begin)
+}
+
 // Why a call may not follow others of its process.
 fn fault_behind(pending: bool, begin: u64, end: u64, called: &Called) -> Option<IllFormed>
     ensures { result ≡ fault_behind pending (record { begin = begin; end = end }) called.now }
 {
     let operation = &called.operation;
-    if pending {
+    if is_behind(pending, begin, operation) {
         return Some(IllFormed::BehindPending);
     }
     if overlaps(begin, end, operation) {

@@ -1,6 +1,6 @@
 -- A text that is read as it arrives.
 use Rattle.std.proofs.lemmas.Grind.{common_steps}
-use Rattle.std.proofs.Common.{◌≡◌, ◌<◌, ◌≤◌, ◌+◌, ◌-◌, ◌⊎◌, ◌||◌, ◌==◌, ◌^◌, true, false, ◌∙◌, ◌++◌, ℕ, zero, suc, List, [], ◌∷◌, length, length-append, take, inl, inr, arith, refl, ap, sym, subst, Option, Some, Result, Ok, Err, IfOk, IsErrOf, MatchResult, append-nil, append_assoc}
+use Rattle.std.proofs.Common.{◌≡◌, ◌<◌, ◌≤◌, ◌+◌, ◌⊎◌, ◌||◌, ◌==◌, ◌^◌, true, false, ◌∙◌, ◌++◌, ℕ, zero, suc, List, [], ◌∷◌, length, length-append, take, inl, inr, arith, refl, ap, sym, subst, Option, Some, Result, Ok, Err, IfOk, IsErrOf, MatchResult, append-nil, append_assoc}
 use Rattle.std.specs.Io.KnownBytes.{Consumes, IsAtEnd}
 use Rattle.std.specs.List.{list_all}
 use Rattle.std.proofs.lemmas.Bool.Decides.{nat_tests}

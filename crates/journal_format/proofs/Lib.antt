@@ -2,6 +2,7 @@ pub mod Numbers
 pub mod WholeWords
 pub mod WrittenCalls
 pub mod WrittenReplies
+pub mod Callers
 pub mod WrittenLines
 pub mod Parts
 pub mod Splitting

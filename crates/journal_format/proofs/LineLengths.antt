@@ -1,5 +1,5 @@
 -- How long a line is at most.
-use Rattle.std.proofs.Common.{◌≡◌, ◌<◌, ◌≤◌, ◌+◌, ◌*◌, ◌^◌, ◌++◌, ℕ, ℤ, Bool, true, false, List, [], ◌∷◌, length, length-append, arith, codes, Option, IfSome, refl}
+use Rattle.std.proofs.Common.{nat_le, ◌≡◌, ◌<◌, ◌≤◌, ◌+◌, ◌*◌, ◌^◌, ◌++◌, ℕ, ℤ, Bool, true, false, List, [], ◌∷◌, length, length-append, arith, codes, Option, IfSome, refl}
 use Rattle.std.specs.Fmt.{decimal, signed_decimal}
 use Rattle.std.proofs.lemmas.Fmt.{length-decimal-le}
 use Rattle.std.specs.List.{join_with_byte, flat_map}
@@ -7,21 +7,20 @@ use Rattle.text_io.specs.Words.{Word}
 use Rattle.mq_model.specs.Fault.{text_of}
 use Rattle.mq_model.specs.Record.{Record}
 use Rattle.mq_model.specs.declared.faults.Fault.{Fault}
-use Rattle.mq_model.specs.declared.faults.Fault.TheVariants as fault
 use Rattle.mq_model.specs.declared.entries.Access.{Access}
-use Rattle.mq_model.specs.declared.entries.Access.TheVariants as access
 use Rattle.mq_model.specs.declared.entries.OpenFlags.{OpenFlags}
 use Rattle.mq_model.specs.declared.entries.Deadline.{Deadline}
 use Rattle.mq_model.specs.declared.entries.Call.{Call}
-use Rattle.mq_model.specs.declared.entries.Call.TheVariants as call
 use Rattle.mq_model.specs.declared.entries.Reply.{Reply}
-use Rattle.mq_model.specs.declared.entries.Reply.TheVariants as reply
 use Rattle.percent_encoding.specs.declared.ascii_set.AsciiSet.{AsciiSet}
 use Rattle.percent_encoding.specs.AsciiSet.{should_percent_encode}
 use Rattle.percent_encoding.specs.Percent.{encode_byte, percent_encode, percent_encode_byte}
+use Rattle.mq_model.specs.Threads.{owner_of}
+use Rattle.mq_model.proofs.Places.{split}
+use Rattle.journal_format.proofs.Callers.{above, small}
 use Rattle.journal_format.specs.declared.payload.TheConstants.{ESCAPED}
 use Rattle.journal_format.specs.Fitting.{CallFits, Fits, IsLong, MomentFits, ReplyFits}
-use Rattle.journal_format.specs.Text.{access_letter, call_words, escaped, flag_word, flags_word, line_text, moment_words, number_or, payload_words, record_words, reply_words}
+use Rattle.journal_format.specs.Text.{caller_word, thread_of, access_letter, call_words, escaped, flag_word, flags_word, line_text, moment_words, number_or, payload_words, record_words, reply_words}
 
 -- how many bytes words take in a line, each with the space or the line feed after it
 abbrev pub size : List Word → ℕ
@@ -43,6 +42,15 @@ decimal-length n small = length-decimal-le 20 n (omega arith) (omega (arith, sma
 
 small-length : (n : ℕ) → n < 2 ^ 32 → length (decimal n) ≤ 20
 small-length n small = decimal-length n (omega (arith, small))
+
+caller-length : (p : ℕ) → p < 2 ^ 32 → length (caller_word p) ≤ 41
+caller-length p fits = split (nat_le p 32)
+    (λ t. rw t (let short = decimal-length p (omega (arith, fits)) in omega (arith, short)))
+    (λ f.
+    let s = small p (above p f) fits in
+    let front = decimal-length (owner_of p) s.long_process in
+    let back = decimal-length (thread_of p) s.long_thread in
+    rw f (omega (arith, length-append (decimal (owner_of p)) (46 ∷ decimal (thread_of p)), front, back)))
 
 signed-length : (z : ℤ) → IsLong z → length (signed_decimal z) ≤ 21
 signed-length z fits = grind (arith, decimal-length)
@@ -103,7 +111,7 @@ line-length place r small fits =
       length-append (join_with_byte 32 (record_words place r)) (10 ∷ []),
       join-size (record_words place r),
       decimal-length place small,
-      small-length r.entry.process fits.process,
+      caller-length r.entry.process fits.process,
       size-append (call_words r.entry.call) behind,
       size-append (payload_words r.payload) (codes "->" ∷ result),
       call-size r.entry.call fits.call,

@@ -16,15 +16,14 @@ use Rattle.text_io.specs.Words.{Word, words_of}
 use Rattle.mq_model.specs.Record.{Record}
 use Rattle.mq_model.specs.declared.entries.Entry.{Entry}
 use Rattle.mq_model.specs.declared.entries.Call.{Call}
-use Rattle.mq_model.specs.declared.entries.Call.TheVariants as call
 use Rattle.mq_model.specs.declared.entries.Reply.{Reply}
-use Rattle.mq_model.specs.declared.entries.Reply.TheVariants as reply
 use Rattle.journal_format.specs.declared.payload.TheConstants.{ESCAPED}
 use Rattle.journal_format.specs.Fitting.{Fits}
-use Rattle.journal_format.specs.Text.{call_words, escaped, line_text, payload_text, payload_words, record_words, reply_words}
+use Rattle.journal_format.specs.Text.{call_words, caller_word, escaped, line_text, payload_text, payload_words, record_words, reply_words}
 use Rattle.journal_format.specs.Reading.{entry_at, limits_at, quoted_at, word_at}
 use Rattle.journal_format.proofs.WholeWords.{AreWords, is_plain, word-decimal, words-append, words_of-line}
-use Rattle.journal_format.proofs.WrittenCalls.{call_again, call-words, small_at_again}
+use Rattle.journal_format.proofs.WrittenCalls.{call_again, call-words}
+use Rattle.journal_format.proofs.Callers.{caller_at_again, word-caller}
 use Rattle.journal_format.proofs.WrittenReplies.{reply_again, reply-words}
 
 -- ---- what is between quotes
@@ -91,14 +90,14 @@ no_limit (b ∷ bytes) ws = refl
 -- ---- a line
 
 pub record-words : (place : ℕ) (r : Record) → place < 2 ^ 64 → Fits r → AreWords (record_words place r)
-record-words place r small fits = grind (arith, AreWords, words-append, payload-words, reply-words, word-decimal, call-words)
+record-words place r small fits = grind (arith, AreWords, words-append, payload-words, reply-words, word-decimal, word-caller, call-words)
 
 entry_again : (place : ℕ) (r : Record) → Fits r → entry_at (record_words place r) ≡ Some (r.entry, escaped r.payload)
 unfolding entry_at word_at
 entry_again place r fits =
     let behind = payload_words r.payload ++ codes "->" ∷ reply_words r.entry.reply in
     rw (
-      small_at_again r.entry.process (call_words r.entry.call ++ behind) fits.process,
+      caller_at_again r.entry.process (call_words r.entry.call ++ behind) fits.process,
       call_again r.entry.call behind fits.call (no_limit r.payload (reply_words r.entry.reply)),
       quoted_again r.payload (reply_words r.entry.reply),
       reply_again r.entry.reply fits.reply,
@@ -128,6 +127,6 @@ pub reply_some : (r : Reply) → 0 < length (reply_words r)
 reply_some r = grind arith
 
 -- the line as the program puts it together
-pub line_text-parts : (place : ℕ) (e : Entry) (payload : List ℕ) → line_text place (record { entry = e; payload = payload }) ≡ decimal place ++ (codes " " ++ (decimal e.process ++ (codes " " ++ (join_with_byte 32 (call_words e.call) ++ (payload_text payload ++ (codes " -> " ++ (join_with_byte 32 (reply_words e.reply) ++ codes "\n")))))))
+pub line_text-parts : (place : ℕ) (e : Entry) (payload : List ℕ) → line_text place (record { entry = e; payload = payload }) ≡ decimal place ++ (codes " " ++ (caller_word e.process ++ (codes " " ++ (join_with_byte 32 (call_words e.call) ++ (payload_text payload ++ (codes " -> " ++ (join_with_byte 32 (reply_words e.reply) ++ codes "\n")))))))
 unfolding line_text
-line_text-parts place e payload = parts (decimal place) (decimal e.process) (call_words e.call) payload (reply_words e.reply) (call_some e.call) (reply_some e.reply)
+line_text-parts place e payload = parts (decimal place) (caller_word e.process) (call_words e.call) payload (reply_words e.reply) (call_some e.call) (reply_some e.reply)

@@ -1,12 +1,14 @@
 -- What the words of a line mean. Words that no record has may be accepted, too; then the line of
 -- what was read differs.
-use Rattle.std.specs.Prelude.{ℕ, ℤ, ◌-◌, Bool, false, ◌==◌, List, [], ◌∷◌, length, take, map, find, Option, None, Some, if◌then◌else◌, codes}
+use Rattle.std.specs.Prelude.{ℕ, ℤ, ◌+◌, ◌*◌, ◌-◌, ◌^◌, nat_lt, Bool, false, ◌==◌, List, [], ◌∷◌, length, take, drop, map, find, Option, None, Some, if◌then◌else◌, codes}
+use Rattle.std.specs.List.{position}
 use Rattle.std.specs.Str.{bytes_eq}
 use denote.Ref.{Bor}
 use Rattle.text_io.specs.Words.{Word, integer_written, number_written, ◌>>=◌}
 use Rattle.script_text.specs.Grammar.{flags_written}
 use Rattle.script_text.specs.Verbs.{verb_written}
 use Rattle.mq_model.specs.Fault.{text_of}
+use Rattle.mq_model.specs.Limits.{most_processes}
 use Rattle.mq_model.specs.declared.faults.Fault.{Fault}
 use Rattle.mq_model.specs.declared.faults.Fault.TheVariants as fault
 use Rattle.mq_model.specs.declared.entries.Attr.{Attr}
@@ -48,6 +50,28 @@ number_at k words = do
   word ← word_at words
   n ← number_written k word.0
   Some (n, word.1)
+
+-- the caller of a process and the number of one of its threads, if it has 32 bits
+abbrev pub caller_by : ℕ → ℕ → Option ℕ
+caller_by process thread = let caller = process + (thread - 1) * most_processes in if nat_lt caller (2 ^ 32) then Some caller else None
+
+-- the caller that a word means, which has its first dot at this index
+abbrev pub caller_around : Option ℕ → Word → Option ℕ
+caller_around None word = number_written 32 word
+caller_around (Some dot) word = do
+  process ← number_written 32 (take dot word)
+  thread ← number_written 32 (drop (dot + 1) word)
+  caller_by process thread
+
+unfoldable pub caller_written : Word → Option ℕ
+caller_written word = caller_around (position (λ b. b == 46) word) word
+
+-- a caller
+unfoldable pub caller_at : List Word → Option (ℕ × List Word)
+caller_at words = do
+  word ← word_at words
+  caller ← caller_written word.0
+  Some (caller, word.1)
 
 -- a 64-bit integer
 unfoldable pub integer_at : List Word → Option (ℤ × List Word)
@@ -297,9 +321,9 @@ quoted_at (word ∷ words) = quoted_or word words
 unfoldable pub entry_at : List Word → Option (Entry × Word)
 entry_at words = do
   place ← word_at words
-  process ← number_at 32 place.1
-  call ← call_at process.1
+  caller ← caller_at place.1
+  call ← call_at caller.1
   let quoted = quoted_at call.1
   arrow ← word_at quoted.1
   reply ← reply_at arrow.1
-  Some (record { process = process.0; call = call.0; reply = reply }, quoted.0)
+  Some (record { process = caller.0; call = call.0; reply = reply }, quoted.0)

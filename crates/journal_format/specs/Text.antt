@@ -1,10 +1,12 @@
 -- The text of a journal: a line for each record.
-use Rattle.std.specs.Prelude.{ℕ, ◌==◌, ◌&&◌, ◌||◌, nat_le, Bool, true, false, List, [], ◌∷◌, ◌++◌, length, Option, None, Some, codes}
+use Rattle.std.specs.Prelude.{ℕ, ◌+◌, ◌-◌, ◌/◌, ◌==◌, ◌&&◌, ◌||◌, nat_le, Bool, true, false, List, [], ◌∷◌, ◌++◌, length, Option, None, Some, codes, if◌then◌else◌}
 use Rattle.std.specs.Fmt.{decimal, signed_decimal}
 use Rattle.std.specs.List.{join_with_byte, list_all, list_any}
 use Rattle.percent_encoding.specs.Percent.{percent_encode}
 use Rattle.text_io.specs.Words.{Word}
 use Rattle.mq_model.specs.Fault.{text_of}
+use Rattle.mq_model.specs.Limits.{most_processes}
+use Rattle.mq_model.specs.Threads.{owner_of}
 use Rattle.mq_model.specs.Record.{Record, Past}
 use Rattle.mq_model.specs.declared.entries.Access.{Access}
 use Rattle.mq_model.specs.declared.entries.Access.TheVariants.{Read, Write, Both}
@@ -103,9 +105,17 @@ abbrev pub payload_text : List ℕ → List ℕ
 payload_text [] = []
 payload_text (b ∷ bytes) = 32 ∷ 34 ∷ escaped (b ∷ bytes) ++ 34 ∷ []
 
--- the words of a record: its place, its process, the call with its name or message, an arrow, and the reply
+-- the number of a thread in its process, from 1
+abbrev pub thread_of : ℕ → ℕ
+thread_of caller = (caller - 1) / most_processes + 1
+
+-- a caller: the number of its process, and behind a dot that of the thread, unless it is the first
+abbrev pub caller_word : ℕ → Word
+caller_word caller = if nat_le caller most_processes then decimal caller else decimal (owner_of caller) ++ 46 ∷ decimal (thread_of caller)
+
+-- the words of a record: its place, its caller, the call with its name or message, an arrow, and the reply
 abbrev pub record_words : ℕ → Record → List Word
-record_words place r = decimal place ∷ decimal r.entry.process ∷ call_words r.entry.call ++ (payload_words r.payload ++ codes "->" ∷ reply_words r.entry.reply)
+record_words place r = decimal place ∷ caller_word r.entry.process ∷ call_words r.entry.call ++ (payload_words r.payload ++ codes "->" ∷ reply_words r.entry.reply)
 
 -- the line of a record: its words, separated by spaces, and a line feed
 unfoldable pub line_text : ℕ → Record → List ℕ

@@ -2,6 +2,7 @@
 #![tactic(auto)]
 
 pub mod call;
+pub mod caller;
 pub mod fault;
 pub mod fitting;
 pub mod input;

@@ -6,9 +6,10 @@ ghost use Rattle.journal_format.specs.Reading.{entry_at, read_entry, words_at};
 ghost use Rattle.journal_format.specs.Text.{line_text};
 
 use crate::call::{call_of, call_text};
+use crate::caller::{caller_of, caller_text};
 use crate::payload::payload_text;
 use crate::reply::{reply_of, reply_text};
-use crate::words::{quoted_of, small_number_of, word_of};
+use crate::words::{quoted_of, word_of};
 use mq_model::entries::Entry;
 use percent_encoding::percent_decode;
 use std::alloc::{AllocError, Global};
@@ -25,11 +26,11 @@ pub fn line_of(
     ensures { IfOk result (λ line. string_bytes line ≡
         line_text place (record { entry = entry; payload = payload.now })) }
 {
-    let process = entry.process;
+    let caller = caller_text(alloc, entry.process)?;
     let call = call_text(alloc, &entry.call)?;
     let quoted = payload_text(alloc, payload)?;
     let reply = reply_text(alloc, &entry.reply)?;
-    format!(in alloc; "{place} {process} {call}{quoted} -> {reply}\n")
+    format!(in alloc; "{place} {caller} {call}{quoted} -> {reply}\n")
 }
 
 // The entry that the words of a line mean, and what is between its quotes.
@@ -38,7 +39,7 @@ fn entry_of<'s>(words: &[&'s [u8]]) -> Option<(Entry, &'s [u8])>
     ensures { option_map read_entry result ≡ entry_at (words_at words.now) }
 {
     let (_place, words) = word_of(words)?;
-    let (process, words) = small_number_of(words)?;
+    let (process, words) = caller_of(words)?;
     let (call, words) = call_of(words)?;
     let (quoted, words) = quoted_of(words);
     let (_arrow, words) = word_of(words)?;

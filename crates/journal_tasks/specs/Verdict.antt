@@ -6,6 +6,7 @@ use Rattle.std.specs.Io.KnownBytes as known
 use Rattle.text_io.specs.Output.{AppendsTooLittle}
 use Rattle.mq_model.specs.Legality as legality
 use Rattle.mq_model.specs.Record.{Past, Record, first}
+use Rattle.mq_model.specs.Threads.{owner_of}
 use Rattle.mq_model.specs.declared.entries.Reply.{Reply}
 use Rattle.mq_model.specs.declared.entries.Reply.TheVariants as reply
 use Rattle.journal_format.specs.Fitting.{AllFit}
@@ -18,9 +19,9 @@ use Rattle.journal_tasks.specs.declared.counts.Counts.{Counts}
 use Rattle.journal_tasks.specs.declared.verdict.Verdict.{Verdict}
 use Rattle.journal_tasks.specs.declared.verdict.Verdict.TheVariants.{Legal, Illegal}
 
--- an entry is of this process
+-- an entry is of a thread of this process
 abbrev pub has_process : Past → ℕ → Bool
-has_process past p = list_any (λ r. r.entry.process == p) past
+has_process past p = list_any (λ r. owner_of r.entry.process == p) past
 
 -- how many of the processes 1 to n have an entry
 unfoldable pub processes_to : ℕ → Past → ℕ
@@ -55,10 +56,10 @@ abbrev pub last_line : Past → List ℕ
 last_line [] = []
 last_line (r ∷ past) = line_text (length past) r
 
--- Why an entry is not legal: its process, its turn, its payload, or its reply, with the reply that
+-- Why an entry is not legal: its caller, its turn, its payload, or its reply, with the reply that
 -- the definitions give.
 abbrev pub cause_text : Cause → List ℕ
-cause_text cause.Process = codes "no process from 1 to 32"
+cause_text cause.Process = codes "no caller from 1 to 2048"
 cause_text cause.Turn = codes "out of turn"
 cause_text cause.Payload = codes "another payload expected"
 cause_text (cause.Reply expected) = codes "expected " ++ join_with_byte 32 (reply_words expected)

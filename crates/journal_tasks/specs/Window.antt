@@ -1,11 +1,12 @@
 -- The part of a journal that a picture shows.
-use Rattle.std.specs.Prelude.{ℕ, ◌≡◌, ◌+◌, ◌-◌, min, nat_lt, List, Option, if◌then◌else◌, length}
+use Rattle.std.specs.Prelude.{ℕ, ◌≡◌, false, ◌+◌, ◌-◌, min, nat_lt, List, Option, if◌then◌else◌, length}
 use Rattle.std.specs.Io.KnownBytes as known
 use Rattle.text_io.specs.Output.{AppendsTooLittle}
 use Rattle.mq_model.specs.Record.{Past}
 use Rattle.journal_format.specs.Fitting.{AllFit}
 use Rattle.journal_format.specs.Text.{journal_text}
 use Rattle.journal_views.specs.Picture.{picture_text}
+use Rattle.journal_views.specs.View.{is_beyond}
 use Rattle.journal_tasks.specs.declared.window.Window.{Window}
 
 -- the place after the last one that may be shown, in a journal of this length
@@ -26,6 +27,7 @@ pub record Draws (bytes : List ℕ) (window : Window) (old new : Option (List �
   pub past : Past
   pub fits : AllFit past
   pub text : bytes ≡ journal_text past
+  pub begins : is_beyond window.from (length past) ≡ false
   pub written : known.Appends old new (picture_text past (first_shown window (length past)) (count_shown window (length past)))
 
 -- a proper prefix of such a picture was appended to known bytes
@@ -33,4 +35,5 @@ pub record DrawsInPart (bytes : List ℕ) (window : Window) (old new : Option (L
   pub past : Past
   pub fits : AllFit past
   pub text : bytes ≡ journal_text past
+  pub begins : is_beyond window.from (length past) ≡ false
   pub written : AppendsTooLittle old new (picture_text past (first_shown window (length past)) (count_shown window (length past)))

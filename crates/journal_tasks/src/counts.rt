@@ -4,6 +4,7 @@
 ghost use Rattle.std.specs.Prelude.{◌≡◌, count_by};
 ghost use Rattle.journal_tasks.specs.Verdict.{counts_of, creates, has_process, opens_new, processes_to};
 
+use mq_model::callers::owner_of;
 use mq_model::entries::Reply;
 use mq_model::journals::Journal;
 use mq_model::limits::PROCESSES;
@@ -42,13 +43,14 @@ fn count_processes(journal: &Journal) -> u64
     count
 }
 
+// Whether a thread of process p has an entry.
 #[tactic(auto, using(mq_model::proofs::Prefixes::prefixes, crate::proofs::Counting::any_first))]
 fn has_process(journal: &Journal, p: u32) -> bool
     ensures { result ≡ has_process journal.now.records p }
 {
     for place in 0..journal.len() {
         let (entry, _) = journal.record(place);
-        if entry.process == p {
+        if owner_of(entry.process) == p {
             return true;
         }
     }

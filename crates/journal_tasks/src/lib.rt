@@ -25,7 +25,7 @@ mod window;
 pub use check::check_journal;
 pub use compact::{NoShort, compact_journal};
 pub use counts::Counts;
-pub use draw::draw_journal;
+pub use draw::{Drawn, draw_journal};
 pub use every_order::{Ending, REPORT, Trial, try_orders, try_orders_after};
 pub use fault::LogFault;
 pub use history::record_history;

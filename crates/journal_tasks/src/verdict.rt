@@ -87,7 +87,7 @@ fn cause_text(alloc: Global, cause: Cause) -> Result<String, AllocError>
     ensures { IfOk result (λ text. string_bytes text ≡ cause_text cause) }
 {
     match cause {
-        Cause::Process => format!(in alloc; "no process from 1 to 32"),
+        Cause::Process => format!(in alloc; "no caller from 1 to 2048"),
         Cause::Turn => format!(in alloc; "out of turn"),
         Cause::Payload => format!(in alloc; "another payload expected"),
         Cause::Reply(expected) => {

@@ -1,36 +1,33 @@
 // What stands out in a journal: what a reader should look at first.
 "use strict";
 
-function few(list) {
-  return list.length <= 6 ? list.join(", ") : `${list.slice(0, 6).join(", ")} ..`;
-}
-
-function counted(n, what) {
-  return `${n} ${what}${n === 1 ? "" : "s"}`;
-}
-
 // Who waits at the end, and whether for ever.
 function waitFindings(journal, state) {
   const stuck = stuckProcesses(journal, state);
   const last = journal.entries.length - 1;
-  const names = (list) => `${list.length === 1 ? "Process" : "Processes"} ${few(list)}`;
   const found = [];
-  const ever = [...stuck].sort((a, b) => a - b);
+  const gone = [...stuck].filter((p) => !waitOf(state, p).queue).sort(byLane);
+  if (gone.length > 0) {
+    const text = `${namesOf(gone)} ${gone.length === 1 ? "waits" : "wait"} for ever on a queue that ` +
+      "is gone: another thread of the process has closed its last descriptor.";
+    found.push({ text, i: last, grave: true });
+  }
+  const ever = [...stuck].filter((p) => waitOf(state, p).queue).sort(byLane);
   if (ever.length > 0) {
-    const waits = `${names(ever)} ${ever.length === 1 ? "waits" : "wait"} at the end`;
-    const free = [...state.processes.values()].filter((it) => it.wait === null);
+    const waits = `${namesOf(ever)} ${ever.length === 1 ? "waits" : "wait"} at the end`;
+    const free = callersOf(state).filter((it) => it.wait === null).map((it) => it.process);
     const text = free.length === 0
       ? `Deadlock: ${waits.toLowerCase()}, and nobody who could answer runs.`
       : `${waits}, and nobody who has the ${ever.length === 1 ? "queue" : "queues"} open could ` +
-        `answer. Process ${few(free.map((it) => it.process))} runs, and would have to open ` +
+        `answer. ${namesOf(free)} ${free.length === 1 ? "runs" : "run"}, and would have to open ` +
         `${ever.length === 1 ? "it" : "them"} first.`;
     found.push({ text, i: last, grave: true });
   }
   const others = [...state.processes.values()]
     .filter((it) => it.wait !== null && it.answered === null && !stuck.has(it.process))
-    .map((it) => it.process).sort((a, b) => a - b);
+    .map((it) => it.process).sort(byLane);
   if (others.length > 0) {
-    const text = `${names(others)} still ${others.length === 1 ? "waits" : "wait"} at the end.`;
+    const text = `${namesOf(others)} still ${others.length === 1 ? "waits" : "wait"} at the end.`;
     found.push({ text, i: last });
   }
   return found;
@@ -43,9 +40,9 @@ function registrationFindings(journal, state) {
     const n = queue.registration;
     if (!n || queue.messages.length === 0) continue;
     const lie = queue.messages.length === 1 ? "lies" : "lie";
-    const text = `Process ${n.process} waits for a notice of ${queueName(queue)} that does not ` +
-      `come: ${counted(queue.messages.length, "message")} ${lie} there, and a notice comes only ` +
-      "with a message to an empty queue.";
+    const text = `${namesOf([n.process])} waits for a notice of ${queueName(queue)} ` +
+      `that does not come: ${counted(queue.messages.length, "message")} ${lie} there, and a ` +
+      "notice comes only with a message to an empty queue.";
     found.push({ text, i: n.place - journal.links.start, grave: true });
   }
   return found.filter((it) => journal.entries[it.i]);
@@ -78,11 +75,63 @@ function inversionFindings(journal) {
   return [{ text, i: worst.i, grave: true }];
 }
 
+// The median of numbers.
+function middleOf(numbers) {
+  return [...numbers].sort((a, b) => a - b)[numbers.length >> 1];
+}
+
+// By how much of the period a send may be late that counts as periodic, and how many periods without
+// a send stand out.
+const TOLERANCE = 0.2;
+const MISSED = 1.9;
+
+// What did not happen: sends of one caller to one queue that came with a period, and then for a
+// while did not.
+function missingFindings(journal) {
+  const { entries, states, times } = journal;
+  if (!times) return [];
+  const sends = new Map();
+  entries.forEach((it, i) => {
+    if (!isSent(it)) return;
+    const key = `${it.process} ${states.queues[i]}`;
+    if (!sends.has(key)) sends.set(key, []);
+    sends.get(key).push(i);
+  });
+  return [...sends.values()].flatMap((list) => missingAmong(journal, list));
+}
+
+// The longest gap among periodic sends. The end of the journal counts as a send.
+function missingAmong(journal, sends) {
+  const { entries, states, times, links } = journal;
+  const ends = [...sends.slice(1).map((i) => times[i]), times[entries.length - 1]];
+  const gaps = sends.map((i, k) => ends[k] - times[i]);
+  const period = middleOf(gaps.slice(0, -1));
+  const isRegular = (gap) => Math.abs(gap - period) <= TOLERANCE * period;
+  const odd = gaps.slice(0, -1).filter((gap) => !isRegular(gap)).length;
+  const longest = gaps.reduce((best, gap, k) => (gap > gaps[best] ? k : best), 0);
+  const isPeriodic = period > 0 && gaps.length - 1 - odd >= 2 && odd <= 1;
+  if (!isPeriodic || gaps[longest] < MISSED * period) return [];
+  const i = sends[longest];
+  const queue = queueOf(states.at(i), entries[i]);
+  const text = `${namesOf([entries[i].process])} sent to ${queueName(queue)} every ` +
+    `${secondsText(period)}, but nothing for ${secondsText(gaps[longest])} after entry ` +
+    `${i + links.start}.`;
+  return [{ text, i, grave: true }];
+}
+
+// Calls whose deadline passed. Often that is what was wanted.
+function lateFindings(journal) {
+  const late = journal.entries.filter((it) => it.reply === "ETIMEDOUT");
+  if (late.length === 0) return [];
+  const i = late[0].place - journal.links.start;
+  return [{ text: `${counted(late.length, "deadline")} passed (ETIMEDOUT). The first:`, i }];
+}
+
 function errorFindings(journal) {
   const counts = new Map();
   let first = -1;
   journal.entries.forEach((it, i) => {
-    if (!isError(it)) return;
+    if (!isError(it) || it.reply === "ETIMEDOUT") return;
     if (first < 0) first = i;
     counts.set(it.reply, (counts.get(it.reply) || 0) + 1);
   });
@@ -102,11 +151,20 @@ function leftFindings(journal, state) {
   return [{ text, i: i < 0 ? undefined : i }];
 }
 
+// How the run ended, if yak-explore has said it: then nobody has to guess from the waits.
+function endFindings({ ends }) {
+  return ends.map((it, k) => (k === 0 ? { text: `The run ended: ${it}`, grave: true } :
+    { text: it, depth: 1 }));
+}
+
 function findingsOf(journal) {
-  if (journal.entries.length === 0) return [];
+  const ended = endFindings(journal.threads);
+  if (journal.entries.length === 0) return ended;
   const state = journal.states.at(journal.entries.length);
-  const found = [...waitFindings(journal, state), ...registrationFindings(journal, state),
-    ...inversionFindings(journal), ...errorFindings(journal), ...leftFindings(journal, state)];
+  const waits = ended.length > 0 ? ended : waitFindings(journal, state);
+  const found = [...waits, ...missingFindings(journal), ...registrationFindings(journal, state),
+    ...inversionFindings(journal), ...errorFindings(journal), ...lateFindings(journal),
+    ...leftFindings(journal, state)];
   return found.length > 0 ? found :
     [{ text: "Nothing: no call failed, nobody waits at the end, and the queues are empty. Whether " +
       "the replies are right, mqlog check tells." }];

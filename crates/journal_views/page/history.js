@@ -17,7 +17,7 @@ function callOf(line, index) {
   const end = words[2] === "-" ? null : BigInt(words[2]);
   const got = words.slice(arrow + 2);
   return {
-    index, line, end, begin: BigInt(words[1]), process: Number(words[0]), call: words[3],
+    index, line, end, begin: BigInt(words[1]), process: callerOf(words[0]), call: words[3],
     given: words.slice(4, quoted ? arrow - 1 : arrow),
     payload: quoted ? words[arrow - 1].slice(1, -1) : "",
     reply: words[arrow + 1] || "", got,
@@ -92,7 +92,7 @@ const BAR = 22;
 // The picture of a history: a lane for each process, a bar from the begin of a call to its return.
 class HistoryTimeline extends Chart {
   constructor(canvas, calls, fault) {
-    super(canvas, calls.map((it) => `process ${it.process}`));
+    super(canvas, calls.map((it) => `process ${callerWord(it.process)}`));
     this.calls = calls;
     this.fault = fault;
     this.scale = Math.max(20, Math.min(90, this.width / Math.max(1, this.moments)));
@@ -161,12 +161,13 @@ class HistoryPage extends Page {
     this.entries = calls;
     this.timeline = new HistoryTimeline(document.querySelector("canvas"), calls, this.fault);
     this.input("queue").parentElement.hidden = true;
+    this.input("timed").parentElement.hidden = true;
     const kind = this.fault ? "A history that no journal explains" : "A history, undecided";
     this.input("title").textContent = kind;
     this.input("legend").textContent = "a bar: a call, from its begin to its return; dashed: it " +
       "had not returned; \u2717 and thick: its return can't be explained; only the order of moments " +
-      "counts | left and right: step, with Shift in the same process; + and -: zoom; drag: move; " +
-      "/: find; n: next found; e: next error";
+      "counts | left and right: step, with Shift in the same process; + and -, or Ctrl and the " +
+      "wheel: zoom; drag: move; /: find; n: next found; e: next error";
     this.tell();
     this.choose(this.fault ? calls.indexOf(this.fault) : 0);
   }
@@ -182,7 +183,7 @@ class HistoryPage extends Page {
   }
 
   nameOf(i) {
-    return `the ${this.entries[i].call} of process ${this.entries[i].process}`;
+    return `the ${this.entries[i].call} of process ${callerWord(this.entries[i].process)}`;
   }
 
   entryAt(x, y) {
@@ -197,12 +198,13 @@ class HistoryPage extends Page {
     const returned = [it.reply, ...it.got].join(" ");
     const came = it.end === null ? "It had not returned." : `It returned ${returned}.`;
     const line = element("div", it.line, { className: `line${it === this.fault ? " error" : ""}` });
-    const text = `Process ${it.process} ${CALLS[it.call] || it.call}${on}. ${came}`;
+    const text = `${namesOf([it.process])} ${CALLS[it.call] || it.call}${on}. ${came}`;
     const title = it === this.fault ? "The return that can't be explained" : "Call";
     const steps = storyList(this, "What speaks of it", evidenceOf(this.entries, it));
-    this.input("entry").replaceChildren(element("h2", title), line, element("p", text));
+    this.input("entry").replaceChildren(heading(title), line, element("p", text));
+    this.say(`${title}: ${text}`);
     this.input("state").replaceChildren(...steps);
-    this.timeline.reveal(this.timeline.placeOf(i));
+    this.timeline.reveal(i);
     this.draw();
   }
 }

@@ -5,6 +5,36 @@ const SENDS = new Set(["send", "tsend"]);
 const RECEIVES = new Set(["recv", "trecv"]);
 const FIRST_BYTES = 24;
 
+// Callers 1 to 32 are the first threads of the processes 1 to 32, and caller o + 32 t is another
+// thread of process o.
+const PROCESSES = 32;
+
+function ownerOf(caller) {
+  return caller <= PROCESSES ? caller : (caller - 1) % PROCESSES + 1;
+}
+
+// The caller that a word of a journal means: `3`, or `3.2` for the second thread of process 3.
+function callerOf(word) {
+  const [process, thread = "1"] = word.split(".");
+  return Number(process) + PROCESSES * (Number(thread) - 1);
+}
+
+// Whether two callers are threads of one process.
+function share(a, b) {
+  return ownerOf(a) === ownerOf(b);
+}
+
+// The word of a caller.
+function callerWord(caller) {
+  const thread = Math.floor((caller - 1) / PROCESSES) + 1;
+  return caller <= PROCESSES ? `${caller}` : `${ownerOf(caller)}.${thread}`;
+}
+
+// The order of lanes: processes by rising number, the threads of one beside each other.
+function byLane(a, b) {
+  return ownerOf(a) - ownerOf(b) || a - b;
+}
+
 // The entry that a line of a journal has. The payload stays as it is written.
 function entryOf(line) {
   const words = line.split(" ");
@@ -12,7 +42,7 @@ function entryOf(line) {
   const quoted = words[arrow - 1].startsWith('"') && arrow > 3;
   return {
     place: Number(words[0]),
-    process: Number(words[1]),
+    process: callerOf(words[1]),
     call: words[2],
     given: words.slice(3, quoted ? arrow - 1 : arrow),
     payload: quoted ? words[arrow - 1].slice(1, -1) : "",
@@ -35,18 +65,39 @@ function pageOf(text) {
   return { before: JSON.parse(first), entries: entriesOf(rest) };
 }
 
-// Notes the thread and the step of each entry, by lines PLACE THREAD STEP. It returns what is wrong
-// with the lines, or null.
+// Notes the thread and the step of each entry, by lines PLACE THREAD STEP. Lines `step TEXT` are the
+// steps of the run, and lines `end TEXT` say how it ended. It returns these.
 function noteThreads(entries, text) {
   const start = entries.length > 0 ? entries[0].place : 0;
-  const lines = text.split("\n").filter((line) => line !== "");
-  for (const [k, line] of lines.entries()) {
+  const found = { steps: [], ends: [] };
+  for (const line of text.split("\n")) {
     const words = /^(\d+) (\d+) (\d+)$/.exec(line);
-    if (!words) return `Line ${k + 1} of the threads is malformed: ${line}`;
-    const entry = entries[Number(words[1]) - start];
+    const told = /^(step|end) (.*)$/.exec(line);
+    const entry = words && entries[Number(words[1]) - start];
     if (entry) Object.assign(entry, { thread: Number(words[2]), step: Number(words[3]) });
+    if (told) (told[1] === "end" ? found.ends : found.steps).push(told[2].trimEnd());
   }
-  return null;
+  return found;
+}
+
+// The time that a call says: that of its clock, in milliseconds, or null.
+function momentOf(entry) {
+  const at = entry.given.lastIndexOf("at");
+  return at < 0 ? null : Number(entry.given[at + 1]) * 1000 + Number(entry.given[at + 2]) / 1e6;
+}
+
+// The time of each entry, in milliseconds from the first that is known: the latest time that it or
+// an entry before it says. Null if no two entries say different times.
+function timesOf(entries) {
+  const times = new Float64Array(entries.length);
+  let [first, last] = [null, null];
+  entries.forEach((it, i) => {
+    const moment = momentOf(it);
+    if (moment !== null && first === null) first = moment;
+    if (moment !== null) last = last === null ? moment : Math.max(last, moment);
+    times[i] = last === null ? 0 : last - first;
+  });
+  return last === first ? null : times;
 }
 
 function entriesOf(text) {
@@ -123,7 +174,9 @@ function stateOf(json) {
   }
   for (const it of json.processes) {
     const held = new Map(it.descriptors.map((h) => [h.descriptor, h]));
-    state.processes.set(it.process, { ...it, held });
+    const { wait, answered, notices } = it;
+    const own = ownOf(state, it.process) || { held, notices };
+    state.processes.set(it.process, { process: it.process, wait, answered, own });
   }
   return state;
 }
@@ -134,16 +187,37 @@ function copyOf(state) {
     const lists = { messages: [...it.messages], senders: [...it.senders] };
     queues.set(q, { ...it, ...lists, receivers: [...it.receivers] });
   }
+  const owned = new Map();
   const processes = new Map();
   for (const [p, it] of state.processes) {
-    processes.set(p, { ...it, held: new Map(it.held), notices: [...it.notices] });
+    const owner = ownerOf(p);
+    if (!owned.has(owner)) {
+      owned.set(owner, { held: new Map(it.own.held), notices: [...it.own.notices] });
+    }
+    processes.set(p, { ...it, own: owned.get(owner) });
   }
   return { entries: state.entries, queues, processes };
 }
 
+// What the threads of a caller's process have together: descriptors and notices. Undefined if none
+// of them has called.
+function ownOf(state, p) {
+  for (const it of state.processes.values()) {
+    if (ownerOf(it.process) === ownerOf(p)) return it.own;
+  }
+  return undefined;
+}
+
+// The callers in the order of their lanes.
+function callersOf(state) {
+  return [...state.processes.values()].sort((a, b) => byLane(a.process, b.process));
+}
+
+// A caller: its wait, and what its process has.
 function processOf(state, p) {
   if (!state.processes.has(p)) {
-    state.processes.set(p, { process: p, held: new Map(), wait: null, answered: null, notices: [] });
+    const own = ownOf(state, p) || { held: new Map(), notices: [] };
+    state.processes.set(p, { process: p, wait: null, answered: null, own });
   }
   return state.processes.get(p);
 }
@@ -174,7 +248,7 @@ function addMessage(queue, message) {
 function forget(state) {
   const held = new Set();
   for (const it of state.processes.values()) {
-    for (const h of it.held.values()) held.add(h.queue);
+    for (const h of it.own.held.values()) held.add(h.queue);
   }
   for (const [q, it] of state.queues) {
     if (!it.named && !held.has(q)) state.queues.delete(q);
@@ -194,17 +268,17 @@ function followOpen(state, entry, process) {
     state.queues.set(entry.place, queue);
   }
   const flags = entry.given[0];
-  process.held.set(d, {
+  process.own.held.set(d, {
     descriptor: d, queue: queue ? queue.queue : 0, access: flags[0], nonblock: flags.includes("n"),
   });
 }
 
 function followClose(state, entry, process) {
   const d = Number(entry.given[0]);
-  process.held.delete(d);
+  process.own.held.delete(d);
   for (const it of state.queues.values()) {
     const n = it.registration;
-    if (n && n.process === entry.process && n.descriptor === d) it.registration = null;
+    if (n && share(n.process, entry.process) && n.descriptor === d) it.registration = null;
   }
   forget(state);
 }
@@ -220,7 +294,7 @@ function followNotify(entry, queue) {
   if (value !== "-") {
     const descriptor = Number(entry.given[0]);
     queue.registration = { place: entry.place, process: entry.process, descriptor, value };
-  } else if (queue.registration && queue.registration.process === entry.process) {
+  } else if (queue.registration && share(queue.registration.process, entry.process)) {
     queue.registration = null;
   }
 }
@@ -229,7 +303,7 @@ function followNotify(entry, queue) {
 function followNotice(state, entry, queue) {
   const place = named(entry, "notified");
   if (place === null || !queue.registration || queue.registration.place !== place) return;
-  processOf(state, queue.registration.process).notices.push(queue.registration.value);
+  processOf(state, queue.registration.process).own.notices.push(queue.registration.value);
   queue.registration = null;
 }
 
@@ -260,16 +334,15 @@ function followWait(entry, process, queue) {
 
 // The queue that an entry is made on, by the state before it.
 function queueOf(state, entry) {
-  const process = state.processes.get(entry.process);
-  if (!process) return null;
   if (entry.call === "withdraw" || entry.call === "collect") {
+    const { wait } = state.processes.get(entry.process) || { wait: null };
     for (const it of state.queues.values()) {
-      const waits = [...it.senders, ...it.receivers];
-      if (waits.some((w) => w.place === process.wait)) return it;
+      if ([...it.senders, ...it.receivers].some((w) => w.place === wait)) return it;
     }
     return null;
   }
-  const h = process.held.get(Number(entry.given[0]));
+  const own = ownOf(state, entry.process);
+  const h = own && own.held.get(Number(entry.given[0]));
   return entry.call === "open" || !h ? null : state.queues.get(h.queue) || null;
 }
 
@@ -300,12 +373,13 @@ function followDone(state, entry, process, queue) {
 
 function followAttributes(entry, process) {
   const d = Number(entry.given[0]);
-  const h = process.held.get(d);
-  if (entry.call === "setattr" && h) process.held.set(d, { ...h, nonblock: entry.given[1] === "1" });
+  const h = process.own.held.get(d);
+  if (entry.call !== "setattr" || !h) return;
+  process.own.held.set(d, { ...h, nonblock: entry.given[1] === "1" });
 }
 
 function followGiven(entry, process) {
-  if (entry.got[0] !== "none") process.notices.shift();
+  if (entry.got[0] !== "none") process.own.notices.shift();
 }
 
 // How many entries there are at least between two copies of a state, and how many of its messages
@@ -343,7 +417,7 @@ class States {
   note(state, entry) {
     const before = queueOf(state, entry);
     follow(state, entry);
-    const held = state.processes.get(entry.process).held;
+    const { held } = state.processes.get(entry.process).own;
     const opened = entry.reply === "fd" ? held.get(Number(entry.got[0])) : null;
     const queue = opened ? state.queues.get(opened.queue) : before;
     if (queue) this.names.set(queue.queue, queue.name);
@@ -390,10 +464,10 @@ function queueJson(it) {
 }
 
 function processJson(it) {
-  const held = [...it.held.values()].sort((a, b) => a.descriptor - b.descriptor);
+  const held = [...it.own.held.values()].sort((a, b) => a.descriptor - b.descriptor);
   const descriptors = held.map((h) => `{"descriptor":${h.descriptor},"queue":${h.queue},` +
     `"access":"${h.access}","nonblock":${h.nonblock}}`);
-  const notices = it.notices.map((value) => `"${value}"`);
+  const notices = it.own.notices.map((value) => `"${value}"`);
   return `{"process":${it.process},"wait":${it.wait},"answered":${it.answered},` +
     `"descriptors":[${descriptors}],"notices":[${notices}]}`;
 }
@@ -401,14 +475,15 @@ function processJson(it) {
 // A state as `mqlog state --json` writes it.
 function stateJson(state) {
   const queues = [...state.queues.values()].sort((a, b) => a.queue - b.queue).map(queueJson);
-  const processes = [...state.processes.values()]
-    .sort((a, b) => a.process - b.process).map(processJson);
+  const processes = [...state.processes.values()].sort((a, b) => a.process - b.process)
+    .map(processJson);
   return `{"entries":${state.entries},"queues":[${queues}],"processes":[${processes}]}\n`;
 }
 
 if (typeof module !== "undefined") {
   module.exports = {
-    SENDS, RECEIVES, States, copyOf, emptyState, endedWait, entriesOf, entryOf, follow, isError,
-    named, noteThreads, pageOf, queueOf, stateJson, taken,
+    SENDS, RECEIVES, States, byLane, callerOf, callerWord, copyOf, emptyState, endedWait, entriesOf,
+    entryOf, follow, isError, named, noteThreads, ownOf, pageOf, queueOf, share, stateJson,
+    taken, timesOf,
   };
 }

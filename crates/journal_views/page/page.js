@@ -13,10 +13,13 @@ class Page {
 
   // Shows a journal.
   load({ said, before, entries }) {
-    const wrong = noteThreads(entries, document.querySelector("#threads").textContent);
-    this.wrong = wrong || "";
+    const threads = noteThreads(entries, document.querySelector("#threads").textContent);
     this.entries = entries;
-    this.journal = { entries, links: new Links(entries), states: new States(entries, before) };
+    this.journal = {
+      entries, threads, links: new Links(entries), states: new States(entries, before),
+      times: timesOf(entries),
+    };
+    this.input("timed").parentElement.hidden = this.journal.times === null;
     this.timeline = new Timeline(document.querySelector("canvas"), this.journal);
     const { start } = this.journal.links;
     const last = start + entries.length - 1;
@@ -26,6 +29,11 @@ class Page {
     const steps = said ? [{ text: `mqlog judge: ${said}` }, ...found] : found;
     if (steps.length > 0) {
       this.input("findings").replaceChildren(...storyList(this, "What stands out", steps));
+    }
+    if (threads.steps.length > 0) {
+      const text = `The ${counted(threads.steps.length, "step")} of the run`;
+      const list = () => element("pre", threads.steps.join("\n"));
+      this.input("findings").append(folded(text, list, false));
     }
     this.choose(0);
   }
@@ -48,8 +56,8 @@ class Page {
       this.input(name).append(new Option("all", ""));
       for (const [value, text] of values) this.input(name).append(new Option(text, value));
     };
-    const numbers = [...new Set(entries.map((it) => it.process))].sort((a, b) => a - b);
-    fill("process", numbers.map((it) => [it, it]));
+    const numbers = [...new Set(entries.map((it) => it.process))].sort(byLane);
+    fill("process", numbers.map((it) => [it, callerWord(it)]));
     const queues = this.journal ? [...this.journal.states.names] : [];
     fill("queue", queues.map(([q, name]) => [q, `${q} ${name}`]));
     fill("call", [...new Set(entries.map((it) => it.call))].sort().map((it) => [it, it]));
@@ -100,6 +108,11 @@ class Page {
     this.draw();
   }
 
+  // Says what was chosen to who does not see it.
+  say(text) {
+    this.input("said").textContent = text;
+  }
+
   draw() {
     if (this.waiting) return;
     this.waiting = true;
@@ -107,8 +120,7 @@ class Page {
       this.waiting = false;
       this.timeline.draw();
       const note = "Too many entries are shown for arrows: zoom in.";
-      this.input("note").textContent = this.wrong || (this.timeline.tooMany ? note : "");
-      this.input("note").className = this.wrong ? "grave" : "";
+      this.input("note").textContent = this.timeline.tooMany ? note : "";
     });
   }
 
@@ -118,6 +130,10 @@ class Page {
       this.read = null;
       this.draw();
     }));
+    this.input("timed").addEventListener("change", () => {
+      this.timeline.setByTime(this.input("timed").checked);
+      this.draw();
+    });
     const middle = () => this.timeline.width / 2;
     const buttons = {
       back: () => this.choose(this.next(-1)), on: () => this.choose(this.next(1)),
@@ -162,11 +178,15 @@ class Page {
       held = null;
     });
     canvas.addEventListener("wheel", (event) => {
+      const isAcross = event.shiftKey || Math.abs(event.deltaX) > Math.abs(event.deltaY);
+      // Without a key, the wheel scrolls the lanes, as everywhere.
+      if (!event.ctrlKey && !isAcross) return;
       event.preventDefault();
-      if (event.shiftKey || Math.abs(event.deltaX) > Math.abs(event.deltaY)) {
+      if (event.ctrlKey) this.zoom(event.deltaY < 0 ? 1.25 : 0.8, event.offsetX);
+      else {
         this.timeline.pan(event.deltaX || event.deltaY);
         this.draw();
-      } else this.zoom(event.deltaY < 0 ? 1.25 : 0.8, event.offsetX);
+      }
     }, { passive: false });
   }
 

@@ -46,19 +46,22 @@ function rowsOf(state) {
     add(`q${it.queue}`, `${queueName(it)}: ${limits}`);
     it.messages.forEach((m, i) => add(`q${it.queue}m${m.place}`, `  ${messageText(m, i)}`));
     for (const w of it.senders) {
-      const text = `  process ${w.process} waits to send since ${w.place}: priority ${w.priority}`;
+      const text = `  process ${callerWord(w.process)} waits to send since ${w.place}: ` +
+        `priority ${w.priority}`;
       add(`q${it.queue}s${w.place}`, text);
     }
     for (const w of it.receivers) {
-      add(`q${it.queue}r${w.place}`, `  process ${w.process} waits to receive since ${w.place}`);
+      const text = `  process ${callerWord(w.process)} waits to receive since ${w.place}`;
+      add(`q${it.queue}r${w.place}`, text);
     }
     const n = it.registration;
     if (n) {
-      const text = `  process ${n.process} is registered since ${n.place}, with value ${n.value}`;
+      const text = `  process ${callerWord(n.process)} is registered since ${n.place}, ` +
+        `with value ${n.value}`;
       add(`q${it.queue}n`, text);
     }
   }
-  for (const it of [...state.processes.values()].sort((a, b) => a.process - b.process)) {
+  for (const it of callersOf(state)) {
     rows.push(...processRows(it));
   }
   return rows;
@@ -67,21 +70,21 @@ function rowsOf(state) {
 function messageText(m, i) {
   const text = m.text === "" ? "" : ` "${m.text}"`;
   return `${i === 0 ? "next" : "then"}: message ${m.place}, priority ${m.priority}, ` +
-    `${m.length} bytes${text}`;
+    `${counted(Number(m.length), "byte")}${text}`;
 }
 
 function processRows(it) {
   const p = it.process;
   const answered = it.answered === null ? "" : `, answered by ${it.answered}`;
   const waits = it.wait === null ? "" : `: waits since ${it.wait}${answered}`;
-  const rows = [{ key: `p${p}`, text: `process ${p}${waits}` }];
-  for (const h of [...it.held.values()].sort((a, b) => a.descriptor - b.descriptor)) {
+  const rows = [{ key: `p${p}`, text: `process ${callerWord(p)}${waits}` }];
+  for (const h of [...it.own.held.values()].sort((a, b) => a.descriptor - b.descriptor)) {
     const access = { r: "read", w: "write", b: "read and write" }[h.access];
     const text = `  descriptor ${h.descriptor}: queue ${h.queue}, ${access}` +
       `${h.nonblock ? ", nonblocking" : ""}`;
     rows.push({ key: `p${p}d${h.descriptor}`, text });
   }
-  it.notices.forEach((v, i) => rows.push({ key: `p${p}v${i}`, text: `  notice ${v}` }));
+  it.own.notices.forEach((v, i) => rows.push({ key: `p${p}v${i}`, text: `  notice ${v}` }));
   return rows;
 }
 
@@ -177,12 +180,18 @@ function storyItems(page, steps) {
       link.addEventListener("click", (event) => {
         event.preventDefault();
         page.choose(it.i);
+        page.input("entry").querySelector("h2").focus();
       });
       line.append(" ", link);
     }
     list.append(line);
   }
   return list;
+}
+
+// A heading that can have the focus.
+function heading(text) {
+  return element("h2", text, { tabIndex: -1 });
 }
 
 function storyList(page, title, steps) {
@@ -209,13 +218,13 @@ function storiesOf(page, i, after) {
 // Who waits after an entry: a line for each process, behind which the chain stands.
 function waitStories(page, i, after) {
   const { journal } = page;
-  const waiting = [...after.processes.values()].filter((it) => it.wait !== null)
-    .sort((a, b) => a.process - b.process);
+  const waiting = callersOf(after).filter((it) => it.wait !== null);
   if (waiting.length === 0) return [];
   const stuck = stuckProcesses(journal, after);
   const parts = [element("h2", "Who waits, and why?")];
-  if (stuck.size > 0) {
-    const list = [...stuck].sort((a, b) => a - b).join(", ");
+  const open = [...stuck].filter((p) => waitOf(after, p).queue);
+  if (open.length > 0) {
+    const list = open.sort(byLane).map(callerWord).join(", ");
     const text = `Nobody who has the queue open and could answer ${list} runs. ` +
       "Only a process that opens the queue can end this.";
     parts.push(element("p", text, { className: "grave" }));
@@ -239,8 +248,8 @@ function entryPanel(page, i, before, after) {
   const on = queue ? ` on ${queueName(queue)}` : "";
   const line = element("div", entry.line, { className: `line${isError(entry) ? " error" : ""}` });
   const by = entry.thread === undefined ? "" : `, in thread ${entry.thread} at step ${entry.step},`;
-  const text = `Process ${entry.process}${by} ${CALLS[entry.call] || entry.call}${on}` +
+  const text = `${namesOf([entry.process])}${by} ${CALLS[entry.call] || entry.call}${on}` +
     `${replyText(entry)}.`;
-  return [element("h2", `Entry ${entry.place}`), line, element("p", text),
-    ...storiesOf(page, i, after)];
+  page.say(`Entry ${entry.place}: ${text}`);
+  return [heading(`Entry ${entry.place}`), line, element("p", text), ...storiesOf(page, i, after)];
 }

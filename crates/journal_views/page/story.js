@@ -38,6 +38,19 @@ function messageAt(journal, i) {
   return by && by.reply === "handed" ? by.place : null;
 }
 
+function counted(n, what) {
+  return `${n} ${what}${n === 1 ? "" : "s"}`;
+}
+
+function few(list) {
+  return list.length <= 6 ? list.join(", ") : `${list.slice(0, 6).join(", ")} ..`;
+}
+
+// Callers by their words, as in "Process 3.2" or "Processes 1, 2".
+function namesOf(callers) {
+  return `${callers.length === 1 ? "Process" : "Processes"} ${few(callers.map(callerWord))}`;
+}
+
 function queueName(queue) {
   if (!queue) return "a queue from before the window";
   const name = queue.name === "" ? "without a name" : queue.name;
@@ -51,8 +64,9 @@ function messageStory(journal, place) {
   const sent = entries[i];
   if (!sent) return [{ text: `Message ${place} was sent before the window.` }];
   const queue = queueOf(states.at(i), sent);
-  const size = `priority ${sent.given[1]}, ${sent.given[2]} bytes`;
-  const steps = [{ text: `Process ${sent.process} sent it to ${queueName(queue)}: ${size}.`, i }];
+  const size = `priority ${sent.given[1]}, ${counted(Number(sent.given[2]), "byte")}`;
+  const text = `${namesOf([sent.process])} sent it to ${queueName(queue)}: ${size}.`;
+  const steps = [{ text, i }];
   if (sent.reply === "waits") steps.push(...admissionStory(journal, place));
   const end = links.takenAt.get(place);
   if (end === undefined) {
@@ -84,10 +98,10 @@ function admissionStory(journal, place) {
 function receiptStep(journal, end) {
   const entry = journal.entries[end];
   if (entry.reply === "got") {
-    return { text: `Process ${entry.process} received it.`, i: end };
+    return { text: `${namesOf([entry.process])} received it.`, i: end };
   }
   const waiting = journal.entries[Number(entry.got[0]) - journal.links.start];
-  const who = waiting ? `process ${waiting.process}` : "a process";
+  const who = waiting ? `process ${callerWord(waiting.process)}` : "a process";
   return { text: `It was handed to ${who}, which waited for a message.`, i: end };
 }
 
@@ -118,13 +132,14 @@ function countStep(what, found) {
 function registrationStory(journal, i) {
   const { entries, links } = journal;
   const made = entries[i];
-  const steps = [{ text: `Process ${made.process} registered with value ${made.given[1]}.`, i }];
+  const text = `${namesOf([made.process])} registered with value ${made.given[1]}.`;
+  const steps = [{ text, i }];
   const end = links.notifiedAt.get(made.place);
   if (end === undefined) return [...steps, ...lostStory(journal, i)];
   steps.push({ text: "A message came to the empty queue and ended it: a notice.", i: end });
   for (let k = end + 1; k < entries.length; k += 1) {
     const it = entries[k];
-    if (it.process === made.process && it.reply === "notice" && it.got[0] === made.given[1]) {
+    if (share(it.process, made.process) && it.reply === "notice" && it.got[0] === made.given[1]) {
       return [...steps, { text: "The process took the notice.", i: k }];
     }
   }
@@ -157,14 +172,15 @@ function lostStory(journal, i) {
     const now = state.queues.get(queue.queue);
     if (!now || !now.registration || now.registration.place !== made.place) {
       const text = `It ended without a notice: ${entries[k].call} of process ` +
-        `${entries[k].process}.`;
+        `${callerWord(entries[k].process)}.`;
       return [...steps, { text, i: k }];
     }
   }
   return [...steps, { text: "It still stands at the end of the journal." }];
 }
 
-// The queue on which a process waits, and with which kind of call.
+// The queue on which a process waits, and with which kind of call. The queue is null if it is gone,
+// since another thread of the process has closed its last descriptor.
 function waitOf(state, p) {
   const process = state.processes.get(p);
   if (!process || process.wait === null) return null;
@@ -182,12 +198,12 @@ function couldAnswer(state, wait, p) {
   const access = wait.sends ? "r" : "w";
   const found = [];
   for (const it of state.processes.values()) {
-    const held = [...it.held.values()];
+    const held = [...it.own.held.values()];
     const can = held.some((h) => wait.queue && h.queue === wait.queue.queue &&
       (h.access === "b" || h.access === access));
     if (can && it.process !== p) found.push(it.process);
   }
-  return found.sort((a, b) => a - b);
+  return found.sort(byLane);
 }
 
 // The processes that wait for ever unless somebody else comes: none that could answer them runs, and
@@ -198,7 +214,7 @@ function stuckProcesses(journal, state) {
     const wait = waitOf(state, it.process);
     const call = wait && journal.entries[wait.place - journal.links.start];
     const timed = !call || call.call.startsWith("t");
-    if (wait && wait.queue && it.answered === null && !timed) stuck.add(it.process);
+    if (wait && it.answered === null && !timed) stuck.add(it.process);
   }
   let size = -1;
   while (size !== stuck.size) {
@@ -221,7 +237,7 @@ function waitStory(journal, state, p, k) {
     if (!wait || !wait.queue) return;
     for (const other of couldAnswer(state, wait, q)) {
       if (seen.has(other)) {
-        const text = `Process ${other} could answer: it was told of above.`;
+        const text = `${namesOf([other])} could answer: it was told of above.`;
         steps.push({ depth: depth + 1, text });
       } else tell(other, depth + 1);
     }
@@ -231,17 +247,16 @@ function waitStory(journal, state, p, k) {
 }
 
 function waitText(journal, state, p, wait) {
-  const process = state.processes.get(p);
-  if (!wait) return `Process ${p} does not wait: it may call. Its last call was`;
-  if (process.answered !== null) {
-    return `Process ${p} was answered by entry ${process.answered}, and has not gone on yet.`;
-  }
+  const { answered } = state.processes.get(p);
+  const name = namesOf([p]);
+  if (!wait) return `${name} does not wait: it may call. Its last call was`;
+  if (answered !== null) return `${name} was answered by entry ${answered}, and has not gone on yet.`;
+  if (!wait.queue) return `${name} waits since entry ${wait.place} on a queue that is gone.`;
   const what = wait.sends ? "room in" : "a message in";
   const who = couldAnswer(state, wait, p);
   const could = wait.sends ? "could receive from it" : "could send to it";
-  const list = who.length === 0 ? "No other process" :
-    `${who.length === 1 ? "Process" : "Processes"} ${who.join(", ")}`;
-  return `Process ${p} waits for ${what} ${queueName(wait.queue)} since entry ${wait.place}. ` +
+  const list = who.length === 0 ? "No other process" : namesOf(who);
+  return `${name} waits for ${what} ${queueName(wait.queue)} since entry ${wait.place}. ` +
     `${list} ${could}.`;
 }
 

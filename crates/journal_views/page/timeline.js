@@ -1,8 +1,9 @@
-// The picture: time from left to right, a lane for each process.
+// The picture: time from left to right, a lane for each caller, and those of one process beside each
+// other.
 "use strict";
 
 const TOP = 22;
-const LEFT = 64;
+const LEFT = 84;
 
 // The shape of a mark, by what the entry does: readable without its colour.
 function shapeOf(entry) {
@@ -47,6 +48,13 @@ function firstFrom(numbers, n) {
   return low;
 }
 
+// The order of names such as `process 3.2`: by their words, and then by their numbers.
+function byName(a, b) {
+  const [first, second] = [a, b].map((it) => it.split(/[ .]/));
+  return compare(first[0], second[0]) || first[1] - second[1] ||
+    (first[2] || 1) - (second[2] || 1);
+}
+
 // A picture with a lane for each name, which zooms and moves.
 class Chart {
   constructor(canvas, names) {
@@ -54,9 +62,7 @@ class Chart {
     this.from = 0;
     this.chosen = 0;
     this.shows = () => true;
-    const order = (it) => Number(it.split(" ")[1]);
-    this.names = [...new Set(names)].sort((a, b) => compare(a.split(" ")[0], b.split(" ")[0]) ||
-      order(a) - order(b));
+    this.names = [...new Set(names)].sort(byName);
     const lanes = new Map(this.names.map((name, lane) => [name, lane]));
     this.laneOf = Uint16Array.from(names, (it) => lanes.get(it));
     this.lane = this.names.length > 8 ? 34 : 46;
@@ -76,9 +82,9 @@ class Chart {
     return this.top + (this.laneOf[i] + 0.5) * this.lane;
   }
 
-  // Whether an entry lies within what is seen.
-  sees(i) {
-    return i >= this.from && i < this.from + this.width / this.scale;
+  // Whether a place lies within what is seen.
+  sees(place) {
+    return place >= this.from && place < this.from + this.width / this.scale;
   }
 
   bound() {
@@ -101,9 +107,16 @@ class Chart {
     this.bound();
   }
 
+  // Moves the picture, if the entry is not seen. Its lane is brought into the box of the canvas.
   reveal(i) {
-    if (!this.sees(i)) this.from = i - this.width / this.scale / 2;
+    const place = this.placeOf(i);
+    if (!this.sees(place)) this.from = place - this.width / this.scale / 2;
     this.bound();
+    const box = this.canvas.parentElement;
+    const [y, margin] = [this.y(i), this.lane / 2];
+    if (y - margin < box.scrollTop || y + margin > box.scrollTop + box.clientHeight) {
+      box.scrollTop = y - box.clientHeight / 2;
+    }
   }
 
   draw() {
@@ -124,7 +137,7 @@ class Chart {
     c.beginPath();
     c.rect(LEFT, 0, this.width, height);
     c.clip();
-    this.drawParts(c, [first, Math.min(this.count, last + 1)], height);
+    this.drawParts(c, [first, last + 1], height);
     c.restore();
   }
 
@@ -142,7 +155,27 @@ class Chart {
 
 // The lane of an entry: that of its thread, if it is known.
 function laneName(entry) {
-  return entry.thread === undefined ? `process ${entry.process}` : `thread ${entry.thread}`;
+  if (entry.thread !== undefined) return `thread ${entry.thread}`;
+  return `process ${callerWord(entry.process)}`;
+}
+
+// How far apart entries of one time are, in the picture by time.
+const LEAST_GAP = 0.25;
+
+// Where entries with these times stand: as far apart as their times, and a little if these are the
+// same.
+function placesOf(times) {
+  const places = new Float64Array(times.length);
+  const unit = times.length / times[times.length - 1];
+  for (let i = 1; i < times.length; i += 1) {
+    places[i] = places[i - 1] + Math.max(LEAST_GAP, (times[i] - times[i - 1]) * unit);
+  }
+  return places;
+}
+
+// A time in milliseconds, in seconds.
+function secondsText(time) {
+  return `${Number((time / 1000).toPrecision(6))} s`;
 }
 
 class Timeline extends Chart {
@@ -162,17 +195,42 @@ class Timeline extends Chart {
     });
   }
 
-  get count() {
+  // Entries stand by their times, or in their order.
+  setByTime(isByTime) {
+    this.places = isByTime ? placesOf(this.journal.times) : null;
+    this.reveal(this.chosen);
+  }
+
+  get length() {
     return this.journal.entries.length;
+  }
+
+  // How wide the picture is, in the least width of an entry.
+  get count() {
+    return this.length === 0 ? 0 : this.placeOf(this.length - 1) + 1;
+  }
+
+  // Where the i-th entry stands; the end of the journal is one further than the last.
+  placeOf(i) {
+    if (!this.places) return i;
+    return i < this.length ? this.places[i] : this.places[this.length - 1] + 1;
+  }
+
+  x(i) {
+    return super.x(this.placeOf(i));
   }
 
   // The entry at a point of the canvas, or the nearest there is.
   entryAt(x) {
-    const i = Math.floor((x - LEFT) / this.scale + this.from);
-    return Math.max(0, Math.min(this.count - 1, i));
+    const place = (x - LEFT) / this.scale + this.from - 0.5;
+    if (!this.places) return Math.max(0, Math.min(this.length - 1, Math.round(place)));
+    const i = Math.min(this.length - 1, firstFrom(this.places, place));
+    return i > 0 && place - this.places[i - 1] < this.places[i] - place ? i - 1 : i;
   }
 
-  drawParts(c, range, height) {
+  drawParts(c, seen, height) {
+    const index = (place) => (this.places ? firstFrom(this.places, place) : place);
+    const range = [Math.max(0, index(seen[0]) - 1), Math.min(this.length, index(seen[1]) + 1)];
     this.drawChosen(c, height);
     this.drawTicks(c, range, height);
     this.drawWaits(c, range);
@@ -180,20 +238,42 @@ class Timeline extends Chart {
     this.drawMarks(c, range);
   }
 
-  drawTicks(c, [first, last], height) {
+  drawTicks(c, range, height) {
+    if (this.places) this.drawTimes(c, range, height);
+    else this.drawNumbers(c, range, height);
+  }
+
+  drawTick(c, i, text, height) {
+    c.fillStyle = this.colours.line;
+    c.fillRect(this.x(i), 14, 1, height);
+    c.fillStyle = this.colours.faint;
+    c.fillText(text, this.x(i) + 3, 12);
+  }
+
+  // The time of an entry, where there is room for it.
+  drawTimes(c, [first, last], height) {
+    const { times } = this.journal;
+    let drawn = -Infinity;
+    for (let i = first; i < last; i += 1) {
+      const isNew = i === 0 || times[i] > times[i - 1];
+      if (isNew && this.x(i) - drawn >= 80) {
+        this.drawTick(c, i, secondsText(times[i]), height);
+        drawn = this.x(i);
+      }
+    }
+  }
+
+  drawNumbers(c, [first, last], height) {
     const steps = [1, 2, 5, 10, 20, 50, 100, 200, 500, 1000, 2000, 5000, 10000, 50000, 100000];
     const step = steps.find((it) => it * this.scale >= 60) || 500000;
     for (let i = first - (first % step); i < last; i += step) {
-      c.fillStyle = this.colours.line;
-      c.fillRect(this.x(i), 14, 1, height);
-      c.fillStyle = this.colours.faint;
-      c.fillText(String(i + this.journal.links.start), this.x(i) + 3, 12);
+      this.drawTick(c, i, String(i + this.journal.links.start), height);
     }
   }
 
   drawChosen(c, height) {
     c.fillStyle = this.colours.chosen;
-    const width = Math.max(3, this.scale);
+    const width = Math.max(3, this.scale * (this.places ? LEAST_GAP : 1));
     c.fillRect(this.x(this.chosen) - width / 2, 0, width, height);
   }
 
@@ -298,16 +378,17 @@ class Timeline extends Chart {
     SHAPES[shape](c, x, y);
     if (shape === "ring" || shape === "cross") c.stroke();
     else c.fill();
-    if (this.scale >= 50 || i === this.chosen) this.drawLabel(c, entry, x, y);
+    const room = this.x(i + 1) - x;
+    if (room >= 50 || i === this.chosen) this.drawLabel(c, entry, [x, y], room);
   }
 
-  drawLabel(c, entry, x, y) {
+  drawLabel(c, entry, [x, y], room) {
     c.fillStyle = this.colours.text;
     c.fillText(`${entry.call}${entry.reply === "waits" ? " waits" : ""}`, x - 8, y - 10);
     const error = isError(entry) ? entry.reply : "";
     const below = isSent(entry) ? `${entry.given[1]}: ${entry.payload}` : error;
-    if (this.scale < 50) return;
-    const most = Math.floor(this.scale / 7);
+    if (room < 50) return;
+    const most = Math.floor(room / 7);
     c.fillText(below.length > most ? `${below.slice(0, most - 2)}..` : below, x - 8, y + 19);
   }
 }

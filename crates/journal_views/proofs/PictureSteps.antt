@@ -2,6 +2,7 @@
 use Rattle.std.proofs.Common.{◌≡◌, ◌≤◌, ◌+◌, ◌++◌, ◌*◌, ◌∙◌, ◌&&◌, ◌==◌, ℕ, false, List, [], ◌∷◌, length, None, Some, if◌then◌else◌, refl, ap, sym, arith, add-one, append-nil, append_assoc, nat_lt, le-ltb}
 use Rattle.mq_model.specs.Descriptors.{is_place, opened_number}
 use Rattle.mq_model.specs.Record.{Past, Place, Process, Descriptor, Record, first}
+use Rattle.mq_model.specs.Threads.{shares}
 use Rattle.mq_model.specs.Waits.{ended_wait, is_wait}
 use Rattle.std.specs.List.{flat_map}
 use Rattle.std.specs.Option.{option_or}
@@ -68,7 +69,7 @@ pub queue_named-nil : (p : Process) (d : Descriptor) → queue_named [] p d ≡ 
 unfolding queue_named
 queue_named-nil p d = refl
 
-pub queue_named-more : (r : Record) (past : Past) (p : Process) (d : Descriptor) → queue_named (r ∷ past) p d ≡ (if r.entry.process == p && is_place d (opened_number r.entry.call r.entry.reply) then r.payload else queue_named past p d)
+pub queue_named-more : (r : Record) (past : Past) (p : Process) (d : Descriptor) → queue_named (r ∷ past) p d ≡ (if shares r.entry.process p && is_place d (opened_number r.entry.call r.entry.reply) then r.payload else queue_named past p d)
 unfolding queue_named
 queue_named-more r past p d = refl
 

@@ -3,11 +3,12 @@ use Rattle.std.specs.Prelude.{ℕ, ◌≡◌, ◌+◌, ◌<◌, List, [], ◌∷
 use Rattle.std.specs.List.{filter}
 use Rattle.std.specs.Option.{option_and_then, option_map}
 use Rattle.std.specs.Str.{bytes_eq}
-use Rattle.mq_model.specs.Limits.{most_processes}
+use Rattle.mq_model.specs.Limits.{most_callers, most_processes}
 use Rattle.mq_model.specs.Record.{Past, Record, first}
 use Rattle.mq_model.specs.Names.{bound_queue, creates, name_of, unlinks}
 use Rattle.mq_model.specs.Descriptors.{called_queue, descriptor_of}
 use Rattle.mq_model.specs.Owners.{OwnersMirror, held_in}
+use Rattle.mq_model.specs.Callers.{CallersMirror}
 use Rattle.mq_model.specs.declared.entries.Call.{Call}
 use Rattle.mq_model.specs.declared.entries.Entry.{Entry}
 use Rattle.mq_model.specs.declared.owners.Owner.{Owner}
@@ -40,6 +41,8 @@ AreOn past k on = (i : ℕ) (r : Record) → i < k → first (i + 1) past ≡ r 
 pub record Follows (past : Past) (k : ℕ) (f : Followed) : Type 0 where
   pub owners : OwnersMirror (first k past) f.owners.items
   pub owner_count : length f.owners.items ≡ most_processes + 1
+  pub callers : CallersMirror (first k past) f.callers.items
+  pub caller_count : length f.callers.items ≡ most_callers + 1
   pub bound : AreBound past k f.bound.items
   pub on : AreOn past k f.on.items
   pub on_count : length f.on.items ≡ k

@@ -1,21 +1,27 @@
 -- What a picture looks up in a journal.
-use Rattle.std.specs.Prelude.{ℕ, ◌&&◌, ◌==◌, nat_lt, List, [], ◌∷◌, length, take, Option, None, Some, if◌then◌else◌}
+use Rattle.std.specs.Prelude.{ℕ, Bool, ◌&&◌, ◌||◌, ◌==◌, nat_lt, List, [], ◌∷◌, length, take, Option, None, Some, if◌then◌else◌}
 use Rattle.std.specs.List.{count_by, insert, list_any}
 use Rattle.std.specs.Option.{option_or}
 use Rattle.mq_model.specs.Descriptors.{is_place, opened_number}
 use Rattle.mq_model.specs.Record.{Past, Place, Process, Descriptor}
+use Rattle.mq_model.specs.Threads.{owner_of, shares}
 use Rattle.mq_model.specs.Waits.{ended_wait, open_wait}
 use Rattle.mq_model.specs.declared.entries.Call.{Call}
 use Rattle.mq_model.specs.declared.entries.Call.TheVariants.{MqSend, MqTimedSend}
 
--- how many of these processes have a lower number
-abbrev pub count_below : Process → List Process → ℕ
-count_below p ps = count_by (λ q. nat_lt q p) ps
+-- The lane of a caller stands left of another's: processes stand by rising number, and the threads of
+-- one beside each other.
+abbrev pub is_left : Process → Process → Bool
+is_left q p = nat_lt (owner_of q) (owner_of p) || (shares q p && nat_lt q p)
+
+-- how many of these callers have a lane left of p's
+abbrev pub count_left : Process → List Process → ℕ
+count_left p ps = count_by (λ q. is_left q p) ps
 
 abbrev pub with_process : Process → List Process → List Process
-with_process p ps = if list_any (λ q. q == p) ps then ps else take 41 (insert ps (count_below p ps) p)
+with_process p ps = if list_any (λ q. q == p) ps then ps else take 41 (insert ps (count_left p ps) p)
 
--- the processes that occur, by rising number: at most the lowest 41
+-- the callers that occur, in the order of their lanes: at most the first 41
 unfoldable pub processes : Past → List Process
 processes [] = []
 processes (r ∷ past) = with_process r.entry.process (processes past)
@@ -41,7 +47,7 @@ descriptor_sent call = None
 unfoldable pub queue_named : Past → Process → Descriptor → List ℕ
 queue_named [] p d = []
 queue_named (r ∷ past) p d =
-    if r.entry.process == p && is_place d (opened_number r.entry.call r.entry.reply) then r.payload
+    if shares r.entry.process p && is_place d (opened_number r.entry.call r.entry.reply) then r.payload
     else queue_named past p d
 
 abbrev pub name_under : Past → Process → Option Descriptor → List ℕ

@@ -5,8 +5,8 @@ use Rattle.std.specs.List.{flat_map, join_with_byte}
 use Rattle.mq_model.specs.Record.{Past, Place, Process, Record, first}
 use Rattle.mq_model.specs.declared.entries.Reply.{Reply}
 use Rattle.mq_model.specs.declared.entries.Reply.TheVariants as reply
-use Rattle.journal_format.specs.Text.{line_text, payload_text, reply_words}
-use Rattle.journal_views.specs.Found.{count_below, name_by, processes}
+use Rattle.journal_format.specs.Text.{caller_word, line_text, payload_text, reply_words}
+use Rattle.journal_views.specs.Found.{count_left, name_by, processes}
 use Rattle.journal_views.specs.Label.{label, named}
 use Rattle.journal_views.specs.Shapes.{arrow, bar_before, bar_of, height, hue, lane, row}
 use Rattle.journal_views.specs.Style.{style_text}
@@ -45,7 +45,7 @@ bar_text (Some stroke) = codes "<line class=\"wait\" " ++ (ends_text stroke ++ c
 
 -- an arrow in a hue
 unfoldable pub flight_text : Stroke → ℕ → List ℕ
-flight_text stroke hue = codes "<line class=\"message\" stroke=\"hsl(" ++ (decimal hue ++ (codes ",80%,40%)\" " ++ (ends_text stroke ++ (codes " marker-end=\"url(#tip" ++ (decimal hue ++ codes ")\"/>\n")))))
+flight_text stroke hue = codes "<line class=\"message\" stroke=\"hsl(" ++ (decimal hue ++ (codes ",80%,30%)\" " ++ (ends_text stroke ++ (codes " marker-end=\"url(#tip" ++ (decimal hue ++ codes ")\"/>\n")))))
 
 -- the start of the name of a queue, beside this point
 unfoldable pub name_front : ℕ → ℕ → List ℕ
@@ -81,7 +81,7 @@ entries_text past ps from count (suc k) =
 
 -- the number of a process; the last of 41 lanes is shared by all others
 abbrev pub number_text : List Process → Process → List ℕ
-number_text ps p = if nat_lt (count_below p ps) 40 then decimal p else codes "others"
+number_text ps p = if nat_lt (count_left p ps) 40 then caller_word p else codes "others"
 
 -- a text in a lane, at these coordinates
 unfoldable pub head_text : ℕ → ℕ → List ℕ → List ℕ

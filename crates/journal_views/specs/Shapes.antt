@@ -10,13 +10,13 @@ use Rattle.mq_model.specs.declared.entries.Call.{Call}
 use Rattle.mq_model.specs.declared.entries.Entry.{Entry}
 use Rattle.mq_model.specs.declared.entries.Reply.{Reply}
 use Rattle.mq_model.specs.declared.entries.Reply.TheVariants as reply
-use Rattle.journal_views.specs.Found.{count_below, ending, wait_begun}
+use Rattle.journal_views.specs.Found.{count_left, ending, wait_begun}
 use Rattle.journal_views.specs.declared.shapes.Stroke.{Stroke}
 use Rattle.journal_views.specs.declared.shapes.Flight.{Flight}
 
 -- The x coordinate of the lane of a process. The last of 41 is shared by all others.
 abbrev pub lane : List Process → Process → ℕ
-lane ps p = (min (count_below p ps) 40 + 1) * 60
+lane ps p = (min (count_left p ps) 40 + 1) * 60
 
 -- The y coordinate of the k-th entry shown. Rows are 16 points high, and before each fiftieth is a
 -- row for the numbers of the lanes.

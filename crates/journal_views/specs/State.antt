@@ -4,7 +4,7 @@ use Rattle.std.specs.Fmt.{decimal, signed_decimal}
 use Rattle.std.specs.List.{filter, flat_map, join_with_byte, list_any}
 use Rattle.std.specs.Option.{option_map, unwrap_or}
 use Rattle.hex.specs.Hex.{encode_lower}
-use Rattle.mq_model.specs.Limits.{most_descriptors, most_processes}
+use Rattle.mq_model.specs.Limits.{most_descriptors, most_callers}
 use Rattle.mq_model.specs.Record.{Record, Past, Descriptor, Place, Process, Queue, record_at}
 use Rattle.mq_model.specs.Names.{attributes, name_of}
 use Rattle.mq_model.specs.Descriptors.{alive, held, is_named, numbers_from}
@@ -15,16 +15,16 @@ use Rattle.mq_model.specs.declared.entries.Attr.{Attr}
 use Rattle.mq_model.specs.declared.entries.Description.{Description}
 use Rattle.mq_model.specs.declared.entries.Registration.{Registration}
 use Rattle.mq_equivalence.specs.Views.{lined}
-use Rattle.journal_format.specs.Text.{access_letter, escaped, letter_if, payload_text}
+use Rattle.journal_format.specs.Text.{access_letter, caller_word, escaped, letter_if, payload_text}
 use Rattle.journal_views.specs.declared.form.Form.{Form}
 use Rattle.journal_views.specs.declared.form.Form.TheVariants.{Text, Json}
 
 -- what a state has, in the order in which it is written
 -- ----------------------------------------------
 
--- the processes with an entry
-abbrev pub callers : Past → List Process
-callers past = filter (λ p. list_any (λ r. r.entry.process == p) past) (numbers_from 1 most_processes)
+-- the callers with an entry
+unfoldable pub callers : Past → List Process
+callers past = filter (λ p. list_any (λ r. r.entry.process == p) past) (numbers_from 1 most_callers)
 
 -- the descriptors that a process holds
 abbrev pub held_numbers : Past → Process → List Descriptor
@@ -87,14 +87,14 @@ abbrev pub message : Form → Place → Record → List ℕ
 message Text m r = codes "  message " ++ (decimal m ++ sent Text r)
 message Json m r = codes "{\"place\":" ++ (decimal m ++ sent Json r)
 
--- a process that waits to send, given the record of its send
+-- a caller that waits to send, given the record of its send
 abbrev pub sender : Form → Place → Record → List ℕ
-sender Text w r = codes "  sender " ++ (decimal w ++ (codes " process " ++ (decimal r.entry.process ++ sent Text r)))
+sender Text w r = codes "  sender " ++ (decimal w ++ (codes " process " ++ (caller_word r.entry.process ++ sent Text r)))
 sender Json w r = codes "{\"place\":" ++ (decimal w ++ (codes ",\"process\":" ++ (decimal r.entry.process ++ sent Json r)))
 
--- a process that waits to receive, given the record of its receive
+-- a caller that waits to receive, given the record of its receive
 abbrev pub receiver : Form → Place → Record → List ℕ
-receiver Text w r = codes "  receiver " ++ (decimal w ++ (codes " process " ++ (decimal r.entry.process ++ codes "\n")))
+receiver Text w r = codes "  receiver " ++ (decimal w ++ (codes " process " ++ (caller_word r.entry.process ++ codes "\n")))
 receiver Json w r = codes "{\"place\":" ++ (decimal w ++ (codes ",\"process\":" ++ (decimal r.entry.process ++ codes "}")))
 
 -- the text about the record at a place
@@ -105,7 +105,7 @@ at written past m = unwrap_or (option_map (written m) (record_at past m)) []
 -- a program.
 abbrev pub registration : Form → Option Registration → List ℕ
 registration Text None = []
-registration Text (Some n) = codes "  registration " ++ (decimal n.place ++ (codes " process " ++ (decimal n.process ++ (codes " descriptor " ++ (decimal n.d ++ (codes " value " ++ (decimal n.value ++ codes "\n")))))))
+registration Text (Some n) = codes "  registration " ++ (decimal n.place ++ (codes " process " ++ (caller_word n.process ++ (codes " descriptor " ++ (decimal n.d ++ (codes " value " ++ (decimal n.value ++ codes "\n")))))))
 registration Json None = codes "null"
 registration Json (Some n) = codes "{\"place\":" ++ (decimal n.place ++ (codes ",\"process\":" ++ (decimal n.process ++ (codes ",\"descriptor\":" ++ (decimal n.d ++ (codes ",\"value\":\"" ++ (decimal n.value ++ codes "\"}")))))))
 
@@ -143,7 +143,7 @@ abbrev pub notice : Form → ℕ → List ℕ
 notice Text value = codes "  notice " ++ (decimal value ++ codes "\n")
 notice Json value = codes "\"" ++ (decimal value ++ codes "\"")
 
--- the open wait of a process, and the entry that served it
+-- the open wait of a caller, and the entry that served it
 abbrev pub wait : Form → Option Place → Option Place → List ℕ
 wait Text None by = codes "\n"
 wait Text (Some w) None = codes " waits " ++ (decimal w ++ codes "\n")
@@ -151,10 +151,10 @@ wait Text (Some w) (Some by) = codes " waits " ++ (decimal w ++ (codes " answere
 wait Json since by = codes ",\"wait\":" ++ (number_or_null since ++ (codes ",\"answered\":" ++ number_or_null by))
 
 abbrev pub process_head : Form → Process → List ℕ
-process_head Text p = codes "process " ++ decimal p
+process_head Text p = codes "process " ++ caller_word p
 process_head Json p = codes "{\"process\":" ++ decimal p
 
--- a process: its wait, its descriptors, and its notices, the oldest first
+-- a caller: its wait, and the descriptors and notices of its process, the oldest first
 abbrev pub process : Form → Past → Process → List ℕ
 process form past p =
     process_head form p ++ (wait form (open_wait past p) (answered_by past p)

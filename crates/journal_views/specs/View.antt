@@ -1,5 +1,5 @@
 -- What is written when a journal is viewed.
-use Rattle.std.specs.Prelude.{ℕ, ◌≡◌, ◌+◌, ◌-◌, ◌⊎◌, min, nat_lt, IsTrue, List, Option, codes, if◌then◌else◌, length}
+use Rattle.std.specs.Prelude.{ℕ, ◌≡◌, ◌+◌, ◌-◌, ◌&&◌, ◌⊎◌, min, nat_le, nat_lt, Bool, true, false, IsTrue, List, Option, codes, if◌then◌else◌, length}
 use Rattle.std.specs.Io.KnownBytes as known
 use Rattle.text_io.specs.Output.{AppendsTooLittle}
 use Rattle.mq_model.specs.Record.{Past, first}
@@ -9,6 +9,10 @@ use Rattle.journal_format.specs.Text.{journal_text}
 use Rattle.journal_views.specs.State.{state}
 use Rattle.journal_views.specs.declared.form.Form.TheVariants.{Json}
 use Rattle.journal_views.specs.Page.{page_text}
+
+-- a part of a journal of this length from this place on begins behind the last entry
+abbrev pub is_beyond : ℕ → ℕ → Bool
+is_beyond from len = nat_lt 0 from && nat_le len from
 
 -- the place after the last one up to `to`, in a journal of this length
 abbrev pub end_viewed : ℕ → ℕ → ℕ
@@ -37,6 +41,7 @@ pub record Views (bytes : List ℕ) (from to : ℕ) (head tail : List ℕ) (old 
   pub past : Past
   pub fits : AllFit past
   pub text : bytes ≡ journal_text past
+  pub begins : is_beyond from (length past) ≡ false
   pub before : List ℕ
   pub state : IsStateLine (first (first_viewed from to (length past)) past) before
   pub written : known.Appends old new (page_within head tail before from to past)
@@ -46,6 +51,7 @@ pub record ViewsInPart (bytes : List ℕ) (from to : ℕ) (head tail : List ℕ)
   pub past : Past
   pub fits : AllFit past
   pub text : bytes ≡ journal_text past
+  pub begins : is_beyond from (length past) ≡ false
   pub before : List ℕ
   pub state : IsStateLine (first (first_viewed from to (length past)) past) before
   pub written : AppendsTooLittle old new (page_within head tail before from to past)
@@ -61,4 +67,13 @@ pub record IsTooLong (bytes : List ℕ) (from to : ℕ) (head tail : List ℕ) :
   pub past : Past
   pub fits : AllFit past
   pub text : bytes ≡ journal_text past
+  pub begins : is_beyond from (length past) ≡ false
   pub much : IsTrue (nat_lt 1000000 (count_viewed from to (length past))) ⊎ HasLongPage past from to head tail
+
+-- the journal with this text has this many entries, and a part of it from here begins behind them
+pub record IsBeyond (bytes : List ℕ) (from len : ℕ) : Type 0 where
+  pub past : Past
+  pub fits : AllFit past
+  pub text : bytes ≡ journal_text past
+  pub count : len ≡ length past
+  pub behind : is_beyond from len ≡ true

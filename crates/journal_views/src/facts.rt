@@ -1,7 +1,7 @@
 //! Queues, registrations, notices and processes, worked out from a journal.
 #![tactic(auto, using(mq_model::proofs::Prefixes::prefixes))]
 
-ghost use Rattle.std.specs.Prelude.{◌≡◌, ◌≤◌, ◌==◌, ◌++◌, ◌∷◌, [], IfOk, OnOk, if◌then◌else◌, is_some, length, reverse};
+ghost use Rattle.std.specs.Prelude.{◌≡◌, ◌<◌, ◌≤◌, ◌==◌, ℕ, false, ◌++◌, ◌∷◌, [], IfOk, OnOk, if◌then◌else◌, is_some, length, reverse};
 ghost use Rattle.std.specs.List.{list_any};
 ghost use Rattle.std.specs.Option.{option_to_list};
 ghost use Rattle.mq_model.specs.Record.{first};
@@ -13,9 +13,10 @@ ghost use Rattle.journal_views.specs.State.{callers, held_numbers};
 
 use crate::followed::Followed;
 use mq_checker::scan_names::entry_at;
+use mq_model::callers::{answer, share, wait};
 use mq_model::entries::{Call, Description, Registration, Reply};
 use mq_model::journals::Journal;
-use mq_model::limits::{DESCRIPTORS, PROCESSES};
+use mq_model::limits::{CALLERS, DESCRIPTORS};
 use mq_model::owners;
 use mq_model::registrations::{notified, registration_after};
 use std::alloc::{AllocError, Global};
@@ -60,7 +61,7 @@ fn value_of_notify(call: Call) -> Option<u64>
     }
 }
 
-// The value that process `p` gave to its registration at a place before place `k`.
+// The value that the process of caller `p` gave to its registration at a place before place `k`.
 fn value_notified(journal: &Journal, k: u64, p: u32, place: Option<u64>) -> Option<u64>
     requires { k ≤ length journal.now.records }
     ensures { result ≡ value_notified (first k journal.now.records) p place }
@@ -72,7 +73,7 @@ fn value_notified(journal: &Journal, k: u64, p: u32, place: Option<u64>) -> Opti
         return None;
     }
     let entry = entry_at(journal, m);
-    if entry.process == p {
+    if share(entry.process, p) {
         value_of_notify(entry.call)
     } else {
         None
@@ -89,7 +90,7 @@ fn add(values: &mut Vec<u64>, value: Option<u64>) -> Result<(), AllocError>
     Ok(())
 }
 
-// The values of the registrations of process `p` that were notified, in order.
+// The values of the registrations of caller `p`'s process that were notified, in order.
 fn values_notified(alloc: Global, journal: &Journal, p: u32) -> Result<Vec<u64>, AllocError>
     ensures { IfOk result (λ values. values.items ≡ values_notified journal.now.records p) }
 {
@@ -111,21 +112,21 @@ fn gives_notice(reply: Reply) -> bool
     }
 }
 
-// How many notices process `p` has taken.
+// How many notices the process of caller `p` has taken.
 fn notices_given(journal: &Journal, p: u32) -> u64
     ensures { result ≡ notices_given journal.now.records p }
 {
     let mut count = 0;
     for i in 0..journal.len() {
         let entry = entry_at(journal, i);
-        if gives_notice(entry.reply) && entry.process == p {
+        if gives_notice(entry.reply) && share(entry.process, p) {
             count += 1;
         }
     }
     count
 }
 
-/// The notices that process `p` has not yet taken, the oldest first.
+/// The notices that the process of caller `p` has not yet taken, the oldest first.
 pub(crate) fn notices(alloc: Global, journal: &Journal, p: u32) -> Result<Vec<u64>, AllocError>
     ensures { IfOk result (λ values. values.items ≡ notices journal.now.records p) }
 {
@@ -156,19 +157,36 @@ fn add_if(numbers: &mut Vec<u32>, number: u32, is_so: bool) -> Result<(), AllocE
     Ok(())
 }
 
-/// The processes with an entry.
+// The last caller with an entry, or 0.
+fn last_caller(journal: &Journal) -> u32
+    ensures few { result ≤ 2048 }
+    ensures none { (p : ℕ) → result < p → p ≤ 2048 →
+        list_any (λ r. r.entry.process == p) journal.now.records ≡ false }
+{
+    let mut last = 0;
+    for i in 0..journal.len() {
+        let caller = entry_at(journal, i).process;
+        if last < caller && caller <= CALLERS {
+            last = caller;
+        }
+    }
+    last
+}
+
+/// The callers with an entry.
 pub(crate) fn callers(alloc: Global, journal: &Journal) -> Result<Vec<u32>, AllocError>
     ensures { IfOk result (λ found. found.items ≡ callers journal.now.records) }
 {
+    let last = last_caller(journal);
     let mut found = Vec::new(alloc);
-    for p in 1..PROCESSES + 1 {
+    for p in 1..last + 1 {
         let calls = has_entry(journal, p);
         add_if(&mut found, p, calls)?;
     }
     Ok(found)
 }
 
-/// What process `p` holds under descriptor `d`.
+/// What the process of caller `p` holds under descriptor `d`.
 pub(crate) fn held(journal: &Journal, f: &Followed, p: u32, d: u32) -> Option<Description>
     requires { Follows journal.now.records (length journal.now.records) f.now }
     ensures { result ≡ held journal.now.records p d }
@@ -176,7 +194,7 @@ pub(crate) fn held(journal: &Journal, f: &Followed, p: u32, d: u32) -> Option<De
     owners::held(&f.owners, p, d)
 }
 
-// Whether process `p` holds descriptor `d`.
+// Whether the process of caller `p` holds descriptor `d`.
 fn holds(journal: &Journal, f: &Followed, p: u32, d: u32) -> bool
     requires { Follows journal.now.records (length journal.now.records) f.now }
     ensures { result ≡ is_some (held journal.now.records p d) }
@@ -184,7 +202,7 @@ fn holds(journal: &Journal, f: &Followed, p: u32, d: u32) -> bool
     held(journal, f, p, d).is_some()
 }
 
-/// The descriptors that process `p` holds.
+/// The descriptors that the process of caller `p` holds.
 pub(crate) fn held_numbers(
     alloc: Global,
     journal: &Journal,
@@ -202,21 +220,21 @@ pub(crate) fn held_numbers(
     Ok(found)
 }
 
-/// The open wait of process `p`.
+/// The open wait of caller `p`.
 pub(crate) fn open_wait(journal: &Journal, f: &Followed, p: u32) -> Option<u64>
     requires { Follows journal.now.records (length journal.now.records) f.now }
     ensures { result ≡ open_wait journal.now.records p }
 {
-    match owners::wait(&f.owners, p) {
+    match wait(&f.callers, p) {
         None => None,
         Some(wait) => Some(wait.place),
     }
 }
 
-/// The entry that answers the open wait of process `p`.
+/// The entry that answers the open wait of caller `p`.
 pub(crate) fn answered_by(journal: &Journal, f: &Followed, p: u32) -> Option<u64>
     requires { Follows journal.now.records (length journal.now.records) f.now }
     ensures { result ≡ answered_by journal.now.records p }
 {
-    owners::answer(&f.owners, p)
+    answer(&f.callers, p)
 }

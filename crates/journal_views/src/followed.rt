@@ -1,22 +1,26 @@
-//! Tables that are updated for each entry of a journal: what each process has, which queues are
-//! bound to their names, and on which queue each entry is made. They save looking back for the open
-//! of a descriptor.
+//! Tables that are updated for each entry of a journal: what each process holds and each caller waits
+//! for, which queues are bound to their names, and on which queue each entry is made. They save
+//! looking back for the open of a descriptor.
 ghost use Rattle.std.specs.Prelude.{◌≡◌, ◌+◌, ◌<◌, ◌≤◌, ℕ, Bool, IfOk, OnOk, [], ◌∷◌, length, not, None, replicate};
 ghost use Rattle.std.specs.List.{filter};
 ghost use Rattle.std.specs.Str.{bytes_eq};
 ghost use Rattle.std.specs.Option.{unwrap_or};
 ghost use Rattle.mq_model.specs.Limits.{most_processes};
 ghost use Rattle.mq_model.specs.Record.{first};
+ghost use Rattle.mq_model.specs.Threads.{owner_of};
 ghost use Rattle.mq_model.specs.Names.{creates, name_of, unlinks};
 ghost use Rattle.mq_model.specs.Descriptors.{called_queue, is_held, is_named, is_on, opened_queue};
 ghost use Rattle.mq_model.specs.Legality.{Legal};
 ghost use Rattle.mq_model.specs.Owners.{free_owner};
 ghost use Rattle.mq_model.specs.OwnersNoted.{FitsSlots, KeepsMirror};
+ghost use Rattle.mq_model.specs.Callers.{free_caller};
+ghost use Rattle.mq_model.specs.CallersNoted.{KeepsCallers};
 ghost use Rattle.journal_views.specs.Followed.{AreBound, Follows, bound_in, called_in, bound_after};
 
+use mq_model::callers::{self, Caller};
 use mq_model::entries::{Call, Entry, Reply};
 use mq_model::journals::Journal;
-use mq_model::limits::PROCESSES;
+use mq_model::limits::{CALLERS, PROCESSES};
 use mq_model::owners::{self, Owner};
 use std::alloc::{AllocError, Global};
 
@@ -25,6 +29,8 @@ use std::alloc::{AllocError, Global};
 pub(crate) struct Followed {
     // process p has the row at index p
     pub(crate) owners: Vec<Owner>,
+    // caller p has the row at index p
+    pub(crate) callers: Vec<Caller>,
     // the queues that are bound to their names, the latest first
     bound: Vec<u64>,
     // the queue on which each entry is made, through the descriptor that its call names
@@ -132,7 +138,7 @@ fn note_bound(
     Ok(())
 }
 
-// A table of processes without descriptors and waits.
+// A table of processes without descriptors.
 fn free_owners(alloc: Global) -> Result<Vec<Owner>, AllocError>
     ensures { IfOk result (λ v. v.items ≡ replicate (most_processes + 1) free_owner) }
 {
@@ -140,26 +146,45 @@ fn free_owners(alloc: Global) -> Result<Vec<Owner>, AllocError>
     Ok(owners)
 }
 
+// A table of `count` callers without waits.
+fn free_callers(alloc: Global, count: usize) -> Result<Vec<Caller>, AllocError>
+    ensures { IfOk result (λ v. v.items ≡ replicate count free_caller) }
+{
+    let callers = vec![in alloc; Caller::free(); count]?;
+    Ok(callers)
+}
+
 // The tables before the first entry.
 fn start(alloc: Global, journal: &Journal) -> Result<Followed, AllocError>
     ensures { IfOk result (Follows journal.now.records 0) }
 {
     let owners = free_owners(alloc)?;
+    let callers = free_callers(alloc, CALLERS as usize + 1)?;
     Ok(Followed {
         owners,
+        callers,
         bound: Vec::new(alloc),
         on: Vec::new(alloc),
     })
 }
 
 // Updates the table of processes for an entry.
-fn note_owner(owners: &mut Vec<Owner>, here: u64, entry: Entry, queue: u64)
-    requires process { entry.process < length owners.old.items }
+fn note_owner(owners: &mut Vec<Owner>, entry: Entry, queue: u64)
+    requires process { owner_of entry.process < length owners.old.items }
     requires numbers { FitsSlots entry.call entry.reply }
     ensures count { length owners.new.items ≡ length owners.old.items }
-    ensures mirror { KeepsMirror owners.old.items here entry queue owners.new.items }
+    ensures mirror { KeepsMirror owners.old.items entry queue owners.new.items }
 {
-    owners::note(owners, here, entry, queue);
+    owners::note(owners, entry, queue);
+}
+
+// Updates the table of callers for an entry.
+fn note_caller(callers: &mut Vec<Caller>, here: u64, entry: Entry, queue: u64)
+    requires caller { entry.process < length callers.old.items }
+    ensures count { length callers.new.items ≡ length callers.old.items }
+    ensures mirror { KeepsCallers callers.old.items here entry queue callers.new.items }
+{
+    callers::note(callers, here, entry, queue);
 }
 
 // Updates the tables for the entry at place `k`.
@@ -173,7 +198,8 @@ fn note(alloc: Global, journal: &Journal, k: u64, f: &mut Followed) -> Result<()
     let on = called_queue(&f.owners, entry.process, entry.call);
     let queue = entry_queue(journal, k, &f.bound, entry.reply, payload, on);
     note_bound(alloc, journal, k, &mut f.bound, entry, payload)?;
-    note_owner(&mut f.owners, k, entry, queue);
+    note_owner(&mut f.owners, entry, queue);
+    note_caller(&mut f.callers, k, entry, queue);
     f.on.push(on)?;
     Ok(())
 }

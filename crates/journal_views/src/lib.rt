@@ -23,4 +23,4 @@ pub use picture::{MOST_ENTRIES, picture_of};
 pub use prefix::first_entries;
 pub use state::state_of;
 pub use template::{FRONT, HEAD, TAIL};
-pub use view::{Unviewed, Viewed, view_journal};
+pub use view::{Unviewed, Viewed, is_beyond, view_journal};

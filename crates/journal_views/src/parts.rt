@@ -7,6 +7,7 @@ ghost use Rattle.journal_views.specs.declared.form.Form.TheVariants.{Json, Text}
 ghost use Rattle.journal_views.specs.State.{descriptor, first_bytes, message, name_string, notice, number_or_null, process_head, queue_head, receiver, registration, sender, sent, state_head, string_byte, true_or_false, unless_named, wait};
 
 use crate::form::Form;
+use journal_format::caller::caller_text;
 use journal_format::payload::{ESCAPED, payload_text};
 use mq_equivalence::standing::Kind;
 use mq_model::entries::{Access, Attr, Description, Entry, Registration};
@@ -59,7 +60,7 @@ fn message(
     }
 }
 
-// A process that waits to send.
+// A caller that waits to send.
 fn sender(
     alloc: Global,
     form: Form,
@@ -73,12 +74,15 @@ fn sender(
     let process = entry.process;
     let sent = sent(alloc, form, entry, payload)?;
     match form {
-        Form::Text => format!(in alloc; "  sender {place} process {process}{sent}"),
+        Form::Text => {
+            let caller = caller_text(alloc, process)?;
+            format!(in alloc; "  sender {place} process {caller}{sent}")
+        }
         Form::Json => format!(in alloc; "{{\"place\":{place},\"process\":{process}{sent}"),
     }
 }
 
-// A process that waits to receive.
+// A caller that waits to receive.
 fn receiver(
     alloc: Global,
     form: Form,
@@ -92,7 +96,10 @@ fn receiver(
     let _len = payload.len();
     let process = entry.process;
     match form {
-        Form::Text => format!(in alloc; "  receiver {place} process {process}\n"),
+        Form::Text => {
+            let caller = caller_text(alloc, process)?;
+            format!(in alloc; "  receiver {place} process {caller}\n")
+        }
         Form::Json => format!(in alloc; "{{\"place\":{place},\"process\":{process}}}"),
     }
 }
@@ -136,9 +143,12 @@ pub(crate) fn registration(
                     value,
                 },
             ),
-        ) => format!(in alloc;
-            "  registration {place} process {process} descriptor {d} value {value}\n"
-        ),
+        ) => {
+            let caller = caller_text(alloc, process)?;
+            format!(in alloc;
+                "  registration {place} process {caller} descriptor {d} value {value}\n"
+            )
+        }
         (Form::Json, None) => String::from_str(alloc, "null"),
         (
             Form::Json,
@@ -388,7 +398,10 @@ pub(crate) fn process_head(alloc: Global, form: Form, p: u32) -> Result<String, 
     ensures { IfOk result (λ text. string_bytes text ≡ process_head form p) }
 {
     match form {
-        Form::Text => format!(in alloc; "process {p}"),
+        Form::Text => {
+            let caller = caller_text(alloc, p)?;
+            format!(in alloc; "process {caller}")
+        }
         Form::Json => format!(in alloc; "{{\"process\":{p}"),
     }
 }

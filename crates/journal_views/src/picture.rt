@@ -4,9 +4,10 @@ ghost use Rattle.mq_model.specs.Record.{first};
 ghost use Rattle.journal_views.specs.Picture.{arrow_text, bar_text, column, ends_text, entries_text, flight_text, front_text, head_text, heads_text, kind, lane_text, last_text, left_out_text, line_down, mark_front, mark_text, name_front, name_text, note_text, number_text, picture_text, record_text};
 ghost use Rattle.std.specs.List.{flat_map};
 
-use crate::found::{count_below, name_by, processes};
+use crate::found::{count_left, name_by, processes};
 use crate::label::{push_label, push_named};
 use crate::shapes::{Flight, Frame, Stroke, arrow, bar_before, bar_of, height, hue, lane, row};
+use journal_format::caller::caller_text;
 use journal_format::line::line_of;
 use journal_format::payload::payload_text;
 use journal_format::reply::reply_text;
@@ -20,8 +21,9 @@ pub const MOST_ENTRIES: u64 = 2000;
 /// The text in a picture of an empty journal.
 const EMPTY: &[u8] = b"<text class=\"queue\" x=\"60\" y=\"12\">the journal is empty</text>\n";
 
-/// The colours, and the arrowheads: one for each hue.
-const STYLE: &str = "<style>\
+/// The title, the colours, the arrowheads, one for each hue, and the legend.
+const STYLE: &str = "<title>A journal of message queues</title>
+<style>\
 text{font:12px monospace}\
 text.lane{text-anchor:middle;font-weight:bold;paint-order:stroke;stroke:#fff;stroke-width:4}\
 text.queue{font-size:9px;fill:#777}\
@@ -34,19 +36,20 @@ g.notice circle{fill:#2471a3}\
 g.refused{fill:#c0392b}\
 </style>
 <defs>
-<marker id=\"tip0\" viewBox=\"0 0 8 8\" refX=\"10\" refY=\"4\" markerWidth=\"7\" markerHeight=\"7\" orient=\"auto\"><path d=\"M0 0L8 4L0 8z\" fill=\"hsl(0,80%,40%)\"/></marker>
-<marker id=\"tip30\" viewBox=\"0 0 8 8\" refX=\"10\" refY=\"4\" markerWidth=\"7\" markerHeight=\"7\" orient=\"auto\"><path d=\"M0 0L8 4L0 8z\" fill=\"hsl(30,80%,40%)\"/></marker>
-<marker id=\"tip60\" viewBox=\"0 0 8 8\" refX=\"10\" refY=\"4\" markerWidth=\"7\" markerHeight=\"7\" orient=\"auto\"><path d=\"M0 0L8 4L0 8z\" fill=\"hsl(60,80%,40%)\"/></marker>
-<marker id=\"tip90\" viewBox=\"0 0 8 8\" refX=\"10\" refY=\"4\" markerWidth=\"7\" markerHeight=\"7\" orient=\"auto\"><path d=\"M0 0L8 4L0 8z\" fill=\"hsl(90,80%,40%)\"/></marker>
-<marker id=\"tip120\" viewBox=\"0 0 8 8\" refX=\"10\" refY=\"4\" markerWidth=\"7\" markerHeight=\"7\" orient=\"auto\"><path d=\"M0 0L8 4L0 8z\" fill=\"hsl(120,80%,40%)\"/></marker>
-<marker id=\"tip150\" viewBox=\"0 0 8 8\" refX=\"10\" refY=\"4\" markerWidth=\"7\" markerHeight=\"7\" orient=\"auto\"><path d=\"M0 0L8 4L0 8z\" fill=\"hsl(150,80%,40%)\"/></marker>
-<marker id=\"tip180\" viewBox=\"0 0 8 8\" refX=\"10\" refY=\"4\" markerWidth=\"7\" markerHeight=\"7\" orient=\"auto\"><path d=\"M0 0L8 4L0 8z\" fill=\"hsl(180,80%,40%)\"/></marker>
-<marker id=\"tip210\" viewBox=\"0 0 8 8\" refX=\"10\" refY=\"4\" markerWidth=\"7\" markerHeight=\"7\" orient=\"auto\"><path d=\"M0 0L8 4L0 8z\" fill=\"hsl(210,80%,40%)\"/></marker>
-<marker id=\"tip240\" viewBox=\"0 0 8 8\" refX=\"10\" refY=\"4\" markerWidth=\"7\" markerHeight=\"7\" orient=\"auto\"><path d=\"M0 0L8 4L0 8z\" fill=\"hsl(240,80%,40%)\"/></marker>
-<marker id=\"tip270\" viewBox=\"0 0 8 8\" refX=\"10\" refY=\"4\" markerWidth=\"7\" markerHeight=\"7\" orient=\"auto\"><path d=\"M0 0L8 4L0 8z\" fill=\"hsl(270,80%,40%)\"/></marker>
-<marker id=\"tip300\" viewBox=\"0 0 8 8\" refX=\"10\" refY=\"4\" markerWidth=\"7\" markerHeight=\"7\" orient=\"auto\"><path d=\"M0 0L8 4L0 8z\" fill=\"hsl(300,80%,40%)\"/></marker>
-<marker id=\"tip330\" viewBox=\"0 0 8 8\" refX=\"10\" refY=\"4\" markerWidth=\"7\" markerHeight=\"7\" orient=\"auto\"><path d=\"M0 0L8 4L0 8z\" fill=\"hsl(330,80%,40%)\"/></marker>
+<marker id=\"tip0\" viewBox=\"0 0 8 8\" refX=\"10\" refY=\"4\" markerWidth=\"7\" markerHeight=\"7\" orient=\"auto\"><path d=\"M0 0L8 4L0 8z\" fill=\"hsl(0,80%,30%)\"/></marker>
+<marker id=\"tip30\" viewBox=\"0 0 8 8\" refX=\"10\" refY=\"4\" markerWidth=\"7\" markerHeight=\"7\" orient=\"auto\"><path d=\"M0 0L8 4L0 8z\" fill=\"hsl(30,80%,30%)\"/></marker>
+<marker id=\"tip60\" viewBox=\"0 0 8 8\" refX=\"10\" refY=\"4\" markerWidth=\"7\" markerHeight=\"7\" orient=\"auto\"><path d=\"M0 0L8 4L0 8z\" fill=\"hsl(60,80%,30%)\"/></marker>
+<marker id=\"tip90\" viewBox=\"0 0 8 8\" refX=\"10\" refY=\"4\" markerWidth=\"7\" markerHeight=\"7\" orient=\"auto\"><path d=\"M0 0L8 4L0 8z\" fill=\"hsl(90,80%,30%)\"/></marker>
+<marker id=\"tip120\" viewBox=\"0 0 8 8\" refX=\"10\" refY=\"4\" markerWidth=\"7\" markerHeight=\"7\" orient=\"auto\"><path d=\"M0 0L8 4L0 8z\" fill=\"hsl(120,80%,30%)\"/></marker>
+<marker id=\"tip150\" viewBox=\"0 0 8 8\" refX=\"10\" refY=\"4\" markerWidth=\"7\" markerHeight=\"7\" orient=\"auto\"><path d=\"M0 0L8 4L0 8z\" fill=\"hsl(150,80%,30%)\"/></marker>
+<marker id=\"tip180\" viewBox=\"0 0 8 8\" refX=\"10\" refY=\"4\" markerWidth=\"7\" markerHeight=\"7\" orient=\"auto\"><path d=\"M0 0L8 4L0 8z\" fill=\"hsl(180,80%,30%)\"/></marker>
+<marker id=\"tip210\" viewBox=\"0 0 8 8\" refX=\"10\" refY=\"4\" markerWidth=\"7\" markerHeight=\"7\" orient=\"auto\"><path d=\"M0 0L8 4L0 8z\" fill=\"hsl(210,80%,30%)\"/></marker>
+<marker id=\"tip240\" viewBox=\"0 0 8 8\" refX=\"10\" refY=\"4\" markerWidth=\"7\" markerHeight=\"7\" orient=\"auto\"><path d=\"M0 0L8 4L0 8z\" fill=\"hsl(240,80%,30%)\"/></marker>
+<marker id=\"tip270\" viewBox=\"0 0 8 8\" refX=\"10\" refY=\"4\" markerWidth=\"7\" markerHeight=\"7\" orient=\"auto\"><path d=\"M0 0L8 4L0 8z\" fill=\"hsl(270,80%,30%)\"/></marker>
+<marker id=\"tip300\" viewBox=\"0 0 8 8\" refX=\"10\" refY=\"4\" markerWidth=\"7\" markerHeight=\"7\" orient=\"auto\"><path d=\"M0 0L8 4L0 8z\" fill=\"hsl(300,80%,30%)\"/></marker>
+<marker id=\"tip330\" viewBox=\"0 0 8 8\" refX=\"10\" refY=\"4\" markerWidth=\"7\" markerHeight=\"7\" orient=\"auto\"><path d=\"M0 0L8 4L0 8z\" fill=\"hsl(330,80%,30%)\"/></marker>
 </defs>
+<text class=\"queue\" x=\"60\" y=\"24\">time goes downwards, a lane is a process; a bar: a wait; an arrow: a message; red: an error; orange: a call that waits; blue: a notice</text>
 ";
 
 /// A picture of a journal in SVG, with `count` entries from sequence number `from` on.
@@ -178,12 +181,12 @@ fn line_down(alloc: Global, x: u64, down: u64) -> Result<String, AllocError>
     format!(in alloc; "<line class=\"lane\" x1=\"{x}\" y1=\"30\" x2=\"{x}\" y2=\"{down}\"/>\n")
 }
 
-// The number of a process.
+// The word of a caller.
 fn number_text(alloc: Global, processes: &[u32], p: u32) -> Result<String, AllocError>
     ensures { IfOk result (λ text. string_bytes text ≡ number_text processes.now p) }
 {
-    if count_below(p, processes) < 40 {
-        format!(in alloc; "{p}")
+    if count_left(p, processes) < 40 {
+        caller_text(alloc, p)
     } else {
         format!(in alloc; "others")
     }
@@ -405,7 +408,7 @@ fn flight_text(alloc: Global, stroke: Stroke, hue: u32) -> Result<String, AllocE
 {
     let ends = ends_text(alloc, stroke)?;
     format!(in alloc;
-        "<line class=\"message\" stroke=\"hsl({hue},80%,40%)\" {ends} marker-end=\"url(#tip{hue})\"/>\n"
+        "<line class=\"message\" stroke=\"hsl({hue},80%,30%)\" {ends} marker-end=\"url(#tip{hue})\"/>\n"
     )
 }
 

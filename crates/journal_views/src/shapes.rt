@@ -3,7 +3,7 @@ ghost use Rattle.std.specs.Prelude.{◌≡◌, ◌≤◌, ◌<◌, ◌+◌, ◌-
 ghost use Rattle.std.specs.Option.{OnSome};
 ghost use Rattle.journal_views.specs.Shapes.{arrow, arrow_got, arrow_handed, bar, bar_before, bar_of, depth, entry_before, height, hue, lane, row};
 
-use crate::found::{count_below, ending, wait_begun};
+use crate::found::{count_left, ending, wait_begun};
 use mq_model::entries::{Call, Entry, Reply};
 use mq_model::journals::Journal;
 
@@ -37,7 +37,7 @@ pub fn lane(processes: &[u32], p: u32) -> u64
     ensures lane { result ≡ lane processes.now p }
     ensures bound { result < 2 ^ 40 }
 {
-    (count_below(p, processes).min(40) as u64 + 1) * 60
+    (count_left(p, processes).min(40) as u64 + 1) * 60
 }
 
 /// The y coordinate of the k-th entry shown.

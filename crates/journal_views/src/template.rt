@@ -37,7 +37,9 @@ button, select, input { font: inherit; color: inherit; background: var(--back);
 button:focus-visible, select:focus-visible, input:focus-visible, canvas:focus-visible {
   outline: 2px solid var(--up); outline-offset: 1px; }
 #picture { max-height: 46vh; overflow-y: auto; border-bottom: 1px solid var(--line); flex: none; }
-canvas { display: block; width: 100%; cursor: crosshair; }
+canvas { display: block; width: 100%; cursor: crosshair; touch-action: pan-y; }
+#said { position: absolute; width: 1px; height: 1px; margin: 0; overflow: hidden;
+  clip-path: inset(50%); white-space: nowrap; }
 #legend, #note { color: var(--faint); padding: 2px 10px; flex: none; }
 main { display: grid; grid-template-columns: 1fr 1fr; gap: 0 18px; padding: 8px 12px;
   overflow: auto; flex: 1; align-content: start; }
@@ -57,30 +59,32 @@ td.new { background: var(--new); }
 ol, ul { margin: 2px 0 8px; padding-left: 22px; }
 ul { list-style: none; padding-left: 0; }
 a { color: var(--up); cursor: pointer; text-decoration: underline; }
-.grave, #note.grave { font-weight: bold; color: var(--cross); }
+.grave { font-weight: bold; color: var(--cross); }
 @media (max-width: 900px) { main { grid-template-columns: 1fr; } }
 </style>
 </head>
 <body>
 <header>
 <strong id="title"></strong>
-<span><button id="back" title="the entry before (left)">&#9664;</button>
-<button id="on" title="the next entry (right)">&#9654;</button></span>
-<span><button id="out" title="show more (-)">&minus;</button>
-<button id="in" title="show less (+)">+</button></span>
+<span><button id="back" title="the entry before (left)">&#9664; back</button>
+<button id="on" title="the next entry (right)">next &#9654;</button></span>
+<span><button id="out" title="show more (-)">&minus; zoom out</button>
+<button id="in" title="show less (+)">+ zoom in</button></span>
 <label>process <select id="process"></select></label>
 <label>queue <select id="queue"></select></label>
 <label>call <select id="call"></select></label>
 <label><input type="checkbox" id="errors"> errors alone</label>
+<label><input type="checkbox" id="timed"> by time</label>
 <label>find <input id="find" size="14" placeholder="text of a line"></label>
 <button id="theme">dark or light</button>
 </header>
 <div id="picture"><canvas tabindex="0" aria-label="the calls of each process, in order"></canvas></div>
-<div id="legend">time goes to the right; an arrow is a message, from its send to what took it;
+<p id="said" aria-live="polite"></p>
+<div id="legend">order goes to the right, or by time; an arrow is a message, from its send to what took it;
 under a send: its priority and message | &#9650; send &nbsp; &#9660; receive &nbsp; &#9711; waits, and
 the striped bar until it is served &nbsp; &#10007; error &nbsp; &#9670; notify or notice &nbsp; &#9686;
-collect or withdraw &nbsp; &#9632; other | left and right: step, with Shift in the same lane; + and -:
-zoom; drag: move; /: find; n: next found; e: next error</div>
+collect or withdraw &nbsp; &#9632; other | left and right: step, with Shift in the same lane; + and -,
+or Ctrl and the wheel: zoom; drag: move; /: find; n: next found; e: next error</div>
 <div id="note"></div>
 <main><section id="findings"></section><section id="entry"></section><section id="state"></section>
 </main>
@@ -102,6 +106,36 @@ const SENDS = new Set(["send", "tsend"]);
 const RECEIVES = new Set(["recv", "trecv"]);
 const FIRST_BYTES = 24;
 
+// Callers 1 to 32 are the first threads of the processes 1 to 32, and caller o + 32 t is another
+// thread of process o.
+const PROCESSES = 32;
+
+function ownerOf(caller) {
+  return caller <= PROCESSES ? caller : (caller - 1) % PROCESSES + 1;
+}
+
+// The caller that a word of a journal means: `3`, or `3.2` for the second thread of process 3.
+function callerOf(word) {
+  const [process, thread = "1"] = word.split(".");
+  return Number(process) + PROCESSES * (Number(thread) - 1);
+}
+
+// Whether two callers are threads of one process.
+function share(a, b) {
+  return ownerOf(a) === ownerOf(b);
+}
+
+// The word of a caller.
+function callerWord(caller) {
+  const thread = Math.floor((caller - 1) / PROCESSES) + 1;
+  return caller <= PROCESSES ? `${caller}` : `${ownerOf(caller)}.${thread}`;
+}
+
+// The order of lanes: processes by rising number, the threads of one beside each other.
+function byLane(a, b) {
+  return ownerOf(a) - ownerOf(b) || a - b;
+}
+
 // The entry that a line of a journal has. The payload stays as it is written.
 function entryOf(line) {
   const words = line.split(" ");
@@ -109,7 +143,7 @@ function entryOf(line) {
   const quoted = words[arrow - 1].startsWith('"') && arrow > 3;
   return {
     place: Number(words[0]),
-    process: Number(words[1]),
+    process: callerOf(words[1]),
     call: words[2],
     given: words.slice(3, quoted ? arrow - 1 : arrow),
     payload: quoted ? words[arrow - 1].slice(1, -1) : "",
@@ -132,18 +166,39 @@ function pageOf(text) {
   return { before: JSON.parse(first), entries: entriesOf(rest) };
 }
 
-// Notes the thread and the step of each entry, by lines PLACE THREAD STEP. It returns what is wrong
-// with the lines, or null.
+// Notes the thread and the step of each entry, by lines PLACE THREAD STEP. Lines `step TEXT` are the
+// steps of the run, and lines `end TEXT` say how it ended. It returns these.
 function noteThreads(entries, text) {
   const start = entries.length > 0 ? entries[0].place : 0;
-  const lines = text.split("\n").filter((line) => line !== "");
-  for (const [k, line] of lines.entries()) {
+  const found = { steps: [], ends: [] };
+  for (const line of text.split("\n")) {
     const words = /^(\d+) (\d+) (\d+)$/.exec(line);
-    if (!words) return `Line ${k + 1} of the threads is malformed: ${line}`;
-    const entry = entries[Number(words[1]) - start];
+    const told = /^(step|end) (.*)$/.exec(line);
+    const entry = words && entries[Number(words[1]) - start];
     if (entry) Object.assign(entry, { thread: Number(words[2]), step: Number(words[3]) });
+    if (told) (told[1] === "end" ? found.ends : found.steps).push(told[2].trimEnd());
   }
-  return null;
+  return found;
+}
+
+// The time that a call says: that of its clock, in milliseconds, or null.
+function momentOf(entry) {
+  const at = entry.given.lastIndexOf("at");
+  return at < 0 ? null : Number(entry.given[at + 1]) * 1000 + Number(entry.given[at + 2]) / 1e6;
+}
+
+// The time of each entry, in milliseconds from the first that is known: the latest time that it or
+// an entry before it says. Null if no two entries say different times.
+function timesOf(entries) {
+  const times = new Float64Array(entries.length);
+  let [first, last] = [null, null];
+  entries.forEach((it, i) => {
+    const moment = momentOf(it);
+    if (moment !== null && first === null) first = moment;
+    if (moment !== null) last = last === null ? moment : Math.max(last, moment);
+    times[i] = last === null ? 0 : last - first;
+  });
+  return last === first ? null : times;
 }
 
 function entriesOf(text) {
@@ -220,7 +275,9 @@ function stateOf(json) {
   }
   for (const it of json.processes) {
     const held = new Map(it.descriptors.map((h) => [h.descriptor, h]));
-    state.processes.set(it.process, { ...it, held });
+    const { wait, answered, notices } = it;
+    const own = ownOf(state, it.process) || { held, notices };
+    state.processes.set(it.process, { process: it.process, wait, answered, own });
   }
   return state;
 }
@@ -231,16 +288,37 @@ function copyOf(state) {
     const lists = { messages: [...it.messages], senders: [...it.senders] };
     queues.set(q, { ...it, ...lists, receivers: [...it.receivers] });
   }
+  const owned = new Map();
   const processes = new Map();
   for (const [p, it] of state.processes) {
-    processes.set(p, { ...it, held: new Map(it.held), notices: [...it.notices] });
+    const owner = ownerOf(p);
+    if (!owned.has(owner)) {
+      owned.set(owner, { held: new Map(it.own.held), notices: [...it.own.notices] });
+    }
+    processes.set(p, { ...it, own: owned.get(owner) });
   }
   return { entries: state.entries, queues, processes };
 }
 
+// What the threads of a caller's process have together: descriptors and notices. Undefined if none
+// of them has called.
+function ownOf(state, p) {
+  for (const it of state.processes.values()) {
+    if (ownerOf(it.process) === ownerOf(p)) return it.own;
+  }
+  return undefined;
+}
+
+// The callers in the order of their lanes.
+function callersOf(state) {
+  return [...state.processes.values()].sort((a, b) => byLane(a.process, b.process));
+}
+
+// A caller: its wait, and what its process has.
 function processOf(state, p) {
   if (!state.processes.has(p)) {
-    state.processes.set(p, { process: p, held: new Map(), wait: null, answered: null, notices: [] });
+    const own = ownOf(state, p) || { held: new Map(), notices: [] };
+    state.processes.set(p, { process: p, wait: null, answered: null, own });
   }
   return state.processes.get(p);
 }
@@ -271,7 +349,7 @@ function addMessage(queue, message) {
 function forget(state) {
   const held = new Set();
   for (const it of state.processes.values()) {
-    for (const h of it.held.values()) held.add(h.queue);
+    for (const h of it.own.held.values()) held.add(h.queue);
   }
   for (const [q, it] of state.queues) {
     if (!it.named && !held.has(q)) state.queues.delete(q);
@@ -291,17 +369,17 @@ function followOpen(state, entry, process) {
     state.queues.set(entry.place, queue);
   }
   const flags = entry.given[0];
-  process.held.set(d, {
+  process.own.held.set(d, {
     descriptor: d, queue: queue ? queue.queue : 0, access: flags[0], nonblock: flags.includes("n"),
   });
 }
 
 function followClose(state, entry, process) {
   const d = Number(entry.given[0]);
-  process.held.delete(d);
+  process.own.held.delete(d);
   for (const it of state.queues.values()) {
     const n = it.registration;
-    if (n && n.process === entry.process && n.descriptor === d) it.registration = null;
+    if (n && share(n.process, entry.process) && n.descriptor === d) it.registration = null;
   }
   forget(state);
 }
@@ -317,7 +395,7 @@ function followNotify(entry, queue) {
   if (value !== "-") {
     const descriptor = Number(entry.given[0]);
     queue.registration = { place: entry.place, process: entry.process, descriptor, value };
-  } else if (queue.registration && queue.registration.process === entry.process) {
+  } else if (queue.registration && share(queue.registration.process, entry.process)) {
     queue.registration = null;
   }
 }
@@ -326,7 +404,7 @@ function followNotify(entry, queue) {
 function followNotice(state, entry, queue) {
   const place = named(entry, "notified");
   if (place === null || !queue.registration || queue.registration.place !== place) return;
-  processOf(state, queue.registration.process).notices.push(queue.registration.value);
+  processOf(state, queue.registration.process).own.notices.push(queue.registration.value);
   queue.registration = null;
 }
 
@@ -357,16 +435,15 @@ function followWait(entry, process, queue) {
 
 // The queue that an entry is made on, by the state before it.
 function queueOf(state, entry) {
-  const process = state.processes.get(entry.process);
-  if (!process) return null;
   if (entry.call === "withdraw" || entry.call === "collect") {
+    const { wait } = state.processes.get(entry.process) || { wait: null };
     for (const it of state.queues.values()) {
-      const waits = [...it.senders, ...it.receivers];
-      if (waits.some((w) => w.place === process.wait)) return it;
+      if ([...it.senders, ...it.receivers].some((w) => w.place === wait)) return it;
     }
     return null;
   }
-  const h = process.held.get(Number(entry.given[0]));
+  const own = ownOf(state, entry.process);
+  const h = own && own.held.get(Number(entry.given[0]));
   return entry.call === "open" || !h ? null : state.queues.get(h.queue) || null;
 }
 
@@ -397,12 +474,13 @@ function followDone(state, entry, process, queue) {
 
 function followAttributes(entry, process) {
   const d = Number(entry.given[0]);
-  const h = process.held.get(d);
-  if (entry.call === "setattr" && h) process.held.set(d, { ...h, nonblock: entry.given[1] === "1" });
+  const h = process.own.held.get(d);
+  if (entry.call !== "setattr" || !h) return;
+  process.own.held.set(d, { ...h, nonblock: entry.given[1] === "1" });
 }
 
 function followGiven(entry, process) {
-  if (entry.got[0] !== "none") process.notices.shift();
+  if (entry.got[0] !== "none") process.own.notices.shift();
 }
 
 // How many entries there are at least between two copies of a state, and how many of its messages
@@ -440,7 +518,7 @@ class States {
   note(state, entry) {
     const before = queueOf(state, entry);
     follow(state, entry);
-    const held = state.processes.get(entry.process).held;
+    const { held } = state.processes.get(entry.process).own;
     const opened = entry.reply === "fd" ? held.get(Number(entry.got[0])) : null;
     const queue = opened ? state.queues.get(opened.queue) : before;
     if (queue) this.names.set(queue.queue, queue.name);
@@ -487,10 +565,10 @@ function queueJson(it) {
 }
 
 function processJson(it) {
-  const held = [...it.held.values()].sort((a, b) => a.descriptor - b.descriptor);
+  const held = [...it.own.held.values()].sort((a, b) => a.descriptor - b.descriptor);
   const descriptors = held.map((h) => `{"descriptor":${h.descriptor},"queue":${h.queue},` +
     `"access":"${h.access}","nonblock":${h.nonblock}}`);
-  const notices = it.notices.map((value) => `"${value}"`);
+  const notices = it.own.notices.map((value) => `"${value}"`);
   return `{"process":${it.process},"wait":${it.wait},"answered":${it.answered},` +
     `"descriptors":[${descriptors}],"notices":[${notices}]}`;
 }
@@ -498,15 +576,16 @@ function processJson(it) {
 // A state as `mqlog state --json` writes it.
 function stateJson(state) {
   const queues = [...state.queues.values()].sort((a, b) => a.queue - b.queue).map(queueJson);
-  const processes = [...state.processes.values()]
-    .sort((a, b) => a.process - b.process).map(processJson);
+  const processes = [...state.processes.values()].sort((a, b) => a.process - b.process)
+    .map(processJson);
   return `{"entries":${state.entries},"queues":[${queues}],"processes":[${processes}]}\n`;
 }
 
 if (typeof module !== "undefined") {
   module.exports = {
-    SENDS, RECEIVES, States, copyOf, emptyState, endedWait, entriesOf, entryOf, follow, isError,
-    named, noteThreads, pageOf, queueOf, stateJson, taken,
+    SENDS, RECEIVES, States, byLane, callerOf, callerWord, copyOf, emptyState, endedWait, entriesOf,
+    entryOf, follow, isError, named, noteThreads, ownOf, pageOf, queueOf, share, stateJson,
+    taken, timesOf,
   };
 }
 
@@ -548,6 +627,19 @@ function messageAt(journal, i) {
   return by && by.reply === "handed" ? by.place : null;
 }
 
+function counted(n, what) {
+  return `${n} ${what}${n === 1 ? "" : "s"}`;
+}
+
+function few(list) {
+  return list.length <= 6 ? list.join(", ") : `${list.slice(0, 6).join(", ")} ..`;
+}
+
+// Callers by their words, as in "Process 3.2" or "Processes 1, 2".
+function namesOf(callers) {
+  return `${callers.length === 1 ? "Process" : "Processes"} ${few(callers.map(callerWord))}`;
+}
+
 function queueName(queue) {
   if (!queue) return "a queue from before the window";
   const name = queue.name === "" ? "without a name" : queue.name;
@@ -561,8 +653,9 @@ function messageStory(journal, place) {
   const sent = entries[i];
   if (!sent) return [{ text: `Message ${place} was sent before the window.` }];
   const queue = queueOf(states.at(i), sent);
-  const size = `priority ${sent.given[1]}, ${sent.given[2]} bytes`;
-  const steps = [{ text: `Process ${sent.process} sent it to ${queueName(queue)}: ${size}.`, i }];
+  const size = `priority ${sent.given[1]}, ${counted(Number(sent.given[2]), "byte")}`;
+  const text = `${namesOf([sent.process])} sent it to ${queueName(queue)}: ${size}.`;
+  const steps = [{ text, i }];
   if (sent.reply === "waits") steps.push(...admissionStory(journal, place));
   const end = links.takenAt.get(place);
   if (end === undefined) {
@@ -594,10 +687,10 @@ function admissionStory(journal, place) {
 function receiptStep(journal, end) {
   const entry = journal.entries[end];
   if (entry.reply === "got") {
-    return { text: `Process ${entry.process} received it.`, i: end };
+    return { text: `${namesOf([entry.process])} received it.`, i: end };
   }
   const waiting = journal.entries[Number(entry.got[0]) - journal.links.start];
-  const who = waiting ? `process ${waiting.process}` : "a process";
+  const who = waiting ? `process ${callerWord(waiting.process)}` : "a process";
   return { text: `It was handed to ${who}, which waited for a message.`, i: end };
 }
 
@@ -628,13 +721,14 @@ function countStep(what, found) {
 function registrationStory(journal, i) {
   const { entries, links } = journal;
   const made = entries[i];
-  const steps = [{ text: `Process ${made.process} registered with value ${made.given[1]}.`, i }];
+  const text = `${namesOf([made.process])} registered with value ${made.given[1]}.`;
+  const steps = [{ text, i }];
   const end = links.notifiedAt.get(made.place);
   if (end === undefined) return [...steps, ...lostStory(journal, i)];
   steps.push({ text: "A message came to the empty queue and ended it: a notice.", i: end });
   for (let k = end + 1; k < entries.length; k += 1) {
     const it = entries[k];
-    if (it.process === made.process && it.reply === "notice" && it.got[0] === made.given[1]) {
+    if (share(it.process, made.process) && it.reply === "notice" && it.got[0] === made.given[1]) {
       return [...steps, { text: "The process took the notice.", i: k }];
     }
   }
@@ -667,14 +761,15 @@ function lostStory(journal, i) {
     const now = state.queues.get(queue.queue);
     if (!now || !now.registration || now.registration.place !== made.place) {
       const text = `It ended without a notice: ${entries[k].call} of process ` +
-        `${entries[k].process}.`;
+        `${callerWord(entries[k].process)}.`;
       return [...steps, { text, i: k }];
     }
   }
   return [...steps, { text: "It still stands at the end of the journal." }];
 }
 
-// The queue on which a process waits, and with which kind of call.
+// The queue on which a process waits, and with which kind of call. The queue is null if it is gone,
+// since another thread of the process has closed its last descriptor.
 function waitOf(state, p) {
   const process = state.processes.get(p);
   if (!process || process.wait === null) return null;
@@ -692,12 +787,12 @@ function couldAnswer(state, wait, p) {
   const access = wait.sends ? "r" : "w";
   const found = [];
   for (const it of state.processes.values()) {
-    const held = [...it.held.values()];
+    const held = [...it.own.held.values()];
     const can = held.some((h) => wait.queue && h.queue === wait.queue.queue &&
       (h.access === "b" || h.access === access));
     if (can && it.process !== p) found.push(it.process);
   }
-  return found.sort((a, b) => a - b);
+  return found.sort(byLane);
 }
 
 // The processes that wait for ever unless somebody else comes: none that could answer them runs, and
@@ -708,7 +803,7 @@ function stuckProcesses(journal, state) {
     const wait = waitOf(state, it.process);
     const call = wait && journal.entries[wait.place - journal.links.start];
     const timed = !call || call.call.startsWith("t");
-    if (wait && wait.queue && it.answered === null && !timed) stuck.add(it.process);
+    if (wait && it.answered === null && !timed) stuck.add(it.process);
   }
   let size = -1;
   while (size !== stuck.size) {
@@ -731,7 +826,7 @@ function waitStory(journal, state, p, k) {
     if (!wait || !wait.queue) return;
     for (const other of couldAnswer(state, wait, q)) {
       if (seen.has(other)) {
-        const text = `Process ${other} could answer: it was told of above.`;
+        const text = `${namesOf([other])} could answer: it was told of above.`;
         steps.push({ depth: depth + 1, text });
       } else tell(other, depth + 1);
     }
@@ -741,17 +836,16 @@ function waitStory(journal, state, p, k) {
 }
 
 function waitText(journal, state, p, wait) {
-  const process = state.processes.get(p);
-  if (!wait) return `Process ${p} does not wait: it may call. Its last call was`;
-  if (process.answered !== null) {
-    return `Process ${p} was answered by entry ${process.answered}, and has not gone on yet.`;
-  }
+  const { answered } = state.processes.get(p);
+  const name = namesOf([p]);
+  if (!wait) return `${name} does not wait: it may call. Its last call was`;
+  if (answered !== null) return `${name} was answered by entry ${answered}, and has not gone on yet.`;
+  if (!wait.queue) return `${name} waits since entry ${wait.place} on a queue that is gone.`;
   const what = wait.sends ? "room in" : "a message in";
   const who = couldAnswer(state, wait, p);
   const could = wait.sends ? "could receive from it" : "could send to it";
-  const list = who.length === 0 ? "No other process" :
-    `${who.length === 1 ? "Process" : "Processes"} ${who.join(", ")}`;
-  return `Process ${p} waits for ${what} ${queueName(wait.queue)} since entry ${wait.place}. ` +
+  const list = who.length === 0 ? "No other process" : namesOf(who);
+  return `${name} waits for ${what} ${queueName(wait.queue)} since entry ${wait.place}. ` +
     `${list} ${could}.`;
 }
 
@@ -764,36 +858,33 @@ function lastOf(journal, p, k) {
 }
 
 // What stands out in a journal: what a reader should look at first.
-function few(list) {
-  return list.length <= 6 ? list.join(", ") : `${list.slice(0, 6).join(", ")} ..`;
-}
-
-function counted(n, what) {
-  return `${n} ${what}${n === 1 ? "" : "s"}`;
-}
-
 // Who waits at the end, and whether for ever.
 function waitFindings(journal, state) {
   const stuck = stuckProcesses(journal, state);
   const last = journal.entries.length - 1;
-  const names = (list) => `${list.length === 1 ? "Process" : "Processes"} ${few(list)}`;
   const found = [];
-  const ever = [...stuck].sort((a, b) => a - b);
+  const gone = [...stuck].filter((p) => !waitOf(state, p).queue).sort(byLane);
+  if (gone.length > 0) {
+    const text = `${namesOf(gone)} ${gone.length === 1 ? "waits" : "wait"} for ever on a queue that ` +
+      "is gone: another thread of the process has closed its last descriptor.";
+    found.push({ text, i: last, grave: true });
+  }
+  const ever = [...stuck].filter((p) => waitOf(state, p).queue).sort(byLane);
   if (ever.length > 0) {
-    const waits = `${names(ever)} ${ever.length === 1 ? "waits" : "wait"} at the end`;
-    const free = [...state.processes.values()].filter((it) => it.wait === null);
+    const waits = `${namesOf(ever)} ${ever.length === 1 ? "waits" : "wait"} at the end`;
+    const free = callersOf(state).filter((it) => it.wait === null).map((it) => it.process);
     const text = free.length === 0
       ? `Deadlock: ${waits.toLowerCase()}, and nobody who could answer runs.`
       : `${waits}, and nobody who has the ${ever.length === 1 ? "queue" : "queues"} open could ` +
-        `answer. Process ${few(free.map((it) => it.process))} runs, and would have to open ` +
+        `answer. ${namesOf(free)} ${free.length === 1 ? "runs" : "run"}, and would have to open ` +
         `${ever.length === 1 ? "it" : "them"} first.`;
     found.push({ text, i: last, grave: true });
   }
   const others = [...state.processes.values()]
     .filter((it) => it.wait !== null && it.answered === null && !stuck.has(it.process))
-    .map((it) => it.process).sort((a, b) => a - b);
+    .map((it) => it.process).sort(byLane);
   if (others.length > 0) {
-    const text = `${names(others)} still ${others.length === 1 ? "waits" : "wait"} at the end.`;
+    const text = `${namesOf(others)} still ${others.length === 1 ? "waits" : "wait"} at the end.`;
     found.push({ text, i: last });
   }
   return found;
@@ -806,9 +897,9 @@ function registrationFindings(journal, state) {
     const n = queue.registration;
     if (!n || queue.messages.length === 0) continue;
     const lie = queue.messages.length === 1 ? "lies" : "lie";
-    const text = `Process ${n.process} waits for a notice of ${queueName(queue)} that does not ` +
-      `come: ${counted(queue.messages.length, "message")} ${lie} there, and a notice comes only ` +
-      "with a message to an empty queue.";
+    const text = `${namesOf([n.process])} waits for a notice of ${queueName(queue)} ` +
+      `that does not come: ${counted(queue.messages.length, "message")} ${lie} there, and a ` +
+      "notice comes only with a message to an empty queue.";
     found.push({ text, i: n.place - journal.links.start, grave: true });
   }
   return found.filter((it) => journal.entries[it.i]);
@@ -841,11 +932,63 @@ function inversionFindings(journal) {
   return [{ text, i: worst.i, grave: true }];
 }
 
+// The median of numbers.
+function middleOf(numbers) {
+  return [...numbers].sort((a, b) => a - b)[numbers.length >> 1];
+}
+
+// By how much of the period a send may be late that counts as periodic, and how many periods without
+// a send stand out.
+const TOLERANCE = 0.2;
+const MISSED = 1.9;
+
+// What did not happen: sends of one caller to one queue that came with a period, and then for a
+// while did not.
+function missingFindings(journal) {
+  const { entries, states, times } = journal;
+  if (!times) return [];
+  const sends = new Map();
+  entries.forEach((it, i) => {
+    if (!isSent(it)) return;
+    const key = `${it.process} ${states.queues[i]}`;
+    if (!sends.has(key)) sends.set(key, []);
+    sends.get(key).push(i);
+  });
+  return [...sends.values()].flatMap((list) => missingAmong(journal, list));
+}
+
+// The longest gap among periodic sends. The end of the journal counts as a send.
+function missingAmong(journal, sends) {
+  const { entries, states, times, links } = journal;
+  const ends = [...sends.slice(1).map((i) => times[i]), times[entries.length - 1]];
+  const gaps = sends.map((i, k) => ends[k] - times[i]);
+  const period = middleOf(gaps.slice(0, -1));
+  const isRegular = (gap) => Math.abs(gap - period) <= TOLERANCE * period;
+  const odd = gaps.slice(0, -1).filter((gap) => !isRegular(gap)).length;
+  const longest = gaps.reduce((best, gap, k) => (gap > gaps[best] ? k : best), 0);
+  const isPeriodic = period > 0 && gaps.length - 1 - odd >= 2 && odd <= 1;
+  if (!isPeriodic || gaps[longest] < MISSED * period) return [];
+  const i = sends[longest];
+  const queue = queueOf(states.at(i), entries[i]);
+  const text = `${namesOf([entries[i].process])} sent to ${queueName(queue)} every ` +
+    `${secondsText(period)}, but nothing for ${secondsText(gaps[longest])} after entry ` +
+    `${i + links.start}.`;
+  return [{ text, i, grave: true }];
+}
+
+// Calls whose deadline passed. Often that is what was wanted.
+function lateFindings(journal) {
+  const late = journal.entries.filter((it) => it.reply === "ETIMEDOUT");
+  if (late.length === 0) return [];
+  const i = late[0].place - journal.links.start;
+  return [{ text: `${counted(late.length, "deadline")} passed (ETIMEDOUT). The first:`, i }];
+}
+
 function errorFindings(journal) {
   const counts = new Map();
   let first = -1;
   journal.entries.forEach((it, i) => {
-    if (!isError(it)) return;
+    if (!isError(it) || it.reply === "ETIMEDOUT") return;
     if (first < 0) first = i;
     counts.set(it.reply, (counts.get(it.reply) || 0) + 1);
   });
@@ -865,19 +1008,29 @@ function leftFindings(journal, state) {
   return [{ text, i: i < 0 ? undefined : i }];
 }
 
+// How the run ended, if yak-explore has said it: then nobody has to guess from the waits.
+function endFindings({ ends }) {
+  return ends.map((it, k) => (k === 0 ? { text: `The run ended: ${it}`, grave: true } :
+    { text: it, depth: 1 }));
+}
+
 function findingsOf(journal) {
-  if (journal.entries.length === 0) return [];
+  const ended = endFindings(journal.threads);
+  if (journal.entries.length === 0) return ended;
   const state = journal.states.at(journal.entries.length);
-  const found = [...waitFindings(journal, state), ...registrationFindings(journal, state),
-    ...inversionFindings(journal), ...errorFindings(journal), ...leftFindings(journal, state)];
+  const waits = ended.length > 0 ? ended : waitFindings(journal, state);
+  const found = [...waits, ...missingFindings(journal), ...registrationFindings(journal, state),
+    ...inversionFindings(journal), ...errorFindings(journal), ...lateFindings(journal),
+    ...leftFindings(journal, state)];
   return found.length > 0 ? found :
     [{ text: "Nothing: no call failed, nobody waits at the end, and the queues are empty. Whether " +
       "the replies are right, mqlog check tells." }];
 }
 
-// The picture: time from left to right, a lane for each process.
+// The picture: time from left to right, a lane for each caller, and those of one process beside each
+// other.
 const TOP = 22;
-const LEFT = 64;
+const LEFT = 84;
 
 // The shape of a mark, by what the entry does: readable without its colour.
 function shapeOf(entry) {
@@ -922,6 +1075,13 @@ function firstFrom(numbers, n) {
   return low;
 }
 
+// The order of names such as `process 3.2`: by their words, and then by their numbers.
+function byName(a, b) {
+  const [first, second] = [a, b].map((it) => it.split(/[ .]/));
+  return compare(first[0], second[0]) || first[1] - second[1] ||
+    (first[2] || 1) - (second[2] || 1);
+}
+
 // A picture with a lane for each name, which zooms and moves.
 class Chart {
   constructor(canvas, names) {
@@ -929,9 +1089,7 @@ class Chart {
     this.from = 0;
     this.chosen = 0;
     this.shows = () => true;
-    const order = (it) => Number(it.split(" ")[1]);
-    this.names = [...new Set(names)].sort((a, b) => compare(a.split(" ")[0], b.split(" ")[0]) ||
-      order(a) - order(b));
+    this.names = [...new Set(names)].sort(byName);
     const lanes = new Map(this.names.map((name, lane) => [name, lane]));
     this.laneOf = Uint16Array.from(names, (it) => lanes.get(it));
     this.lane = this.names.length > 8 ? 34 : 46;
@@ -951,9 +1109,9 @@ class Chart {
     return this.top + (this.laneOf[i] + 0.5) * this.lane;
   }
 
-  // Whether an entry lies within what is seen.
-  sees(i) {
-    return i >= this.from && i < this.from + this.width / this.scale;
+  // Whether a place lies within what is seen.
+  sees(place) {
+    return place >= this.from && place < this.from + this.width / this.scale;
   }
 
   bound() {
@@ -976,9 +1134,16 @@ class Chart {
     this.bound();
   }
 
+  // Moves the picture, if the entry is not seen. Its lane is brought into the box of the canvas.
   reveal(i) {
-    if (!this.sees(i)) this.from = i - this.width / this.scale / 2;
+    const place = this.placeOf(i);
+    if (!this.sees(place)) this.from = place - this.width / this.scale / 2;
     this.bound();
+    const box = this.canvas.parentElement;
+    const [y, margin] = [this.y(i), this.lane / 2];
+    if (y - margin < box.scrollTop || y + margin > box.scrollTop + box.clientHeight) {
+      box.scrollTop = y - box.clientHeight / 2;
+    }
   }
 
   draw() {
@@ -999,7 +1164,7 @@ class Chart {
     c.beginPath();
     c.rect(LEFT, 0, this.width, height);
     c.clip();
-    this.drawParts(c, [first, Math.min(this.count, last + 1)], height);
+    this.drawParts(c, [first, last + 1], height);
     c.restore();
   }
 
@@ -1017,7 +1182,27 @@ class Chart {
 
 // The lane of an entry: that of its thread, if it is known.
 function laneName(entry) {
-  return entry.thread === undefined ? `process ${entry.process}` : `thread ${entry.thread}`;
+  if (entry.thread !== undefined) return `thread ${entry.thread}`;
+  return `process ${callerWord(entry.process)}`;
+}
+
+// How far apart entries of one time are, in the picture by time.
+const LEAST_GAP = 0.25;
+
+// Where entries with these times stand: as far apart as their times, and a little if these are the
+// same.
+function placesOf(times) {
+  const places = new Float64Array(times.length);
+  const unit = times.length / times[times.length - 1];
+  for (let i = 1; i < times.length; i += 1) {
+    places[i] = places[i - 1] + Math.max(LEAST_GAP, (times[i] - times[i - 1]) * unit);
+  }
+  return places;
+}
+
+// A time in milliseconds, in seconds.
+function secondsText(time) {
+  return `${Number((time / 1000).toPrecision(6))} s`;
 }
 
 class Timeline extends Chart {
@@ -1037,17 +1222,42 @@ class Timeline extends Chart {
     });
   }
 
-  get count() {
+  // Entries stand by their times, or in their order.
+  setByTime(isByTime) {
+    this.places = isByTime ? placesOf(this.journal.times) : null;
+    this.reveal(this.chosen);
+  }
+
+  get length() {
     return this.journal.entries.length;
+  }
+
+  // How wide the picture is, in the least width of an entry.
+  get count() {
+    return this.length === 0 ? 0 : this.placeOf(this.length - 1) + 1;
+  }
+
+  // Where the i-th entry stands; the end of the journal is one further than the last.
+  placeOf(i) {
+    if (!this.places) return i;
+    return i < this.length ? this.places[i] : this.places[this.length - 1] + 1;
+  }
+
+  x(i) {
+    return super.x(this.placeOf(i));
   }
 
   // The entry at a point of the canvas, or the nearest there is.
   entryAt(x) {
-    const i = Math.floor((x - LEFT) / this.scale + this.from);
-    return Math.max(0, Math.min(this.count - 1, i));
+    const place = (x - LEFT) / this.scale + this.from - 0.5;
+    if (!this.places) return Math.max(0, Math.min(this.length - 1, Math.round(place)));
+    const i = Math.min(this.length - 1, firstFrom(this.places, place));
+    return i > 0 && place - this.places[i - 1] < this.places[i] - place ? i - 1 : i;
   }
 
-  drawParts(c, range, height) {
+  drawParts(c, seen, height) {
+    const index = (place) => (this.places ? firstFrom(this.places, place) : place);
+    const range = [Math.max(0, index(seen[0]) - 1), Math.min(this.length, index(seen[1]) + 1)];
     this.drawChosen(c, height);
     this.drawTicks(c, range, height);
     this.drawWaits(c, range);
@@ -1055,20 +1265,42 @@ class Timeline extends Chart {
     this.drawMarks(c, range);
   }
 
-  drawTicks(c, [first, last], height) {
+  drawTicks(c, range, height) {
+    if (this.places) this.drawTimes(c, range, height);
+    else this.drawNumbers(c, range, height);
+  }
+
+  drawTick(c, i, text, height) {
+    c.fillStyle = this.colours.line;
+    c.fillRect(this.x(i), 14, 1, height);
+    c.fillStyle = this.colours.faint;
+    c.fillText(text, this.x(i) + 3, 12);
+  }
+
+  // The time of an entry, where there is room for it.
+  drawTimes(c, [first, last], height) {
+    const { times } = this.journal;
+    let drawn = -Infinity;
+    for (let i = first; i < last; i += 1) {
+      const isNew = i === 0 || times[i] > times[i - 1];
+      if (isNew && this.x(i) - drawn >= 80) {
+        this.drawTick(c, i, secondsText(times[i]), height);
+        drawn = this.x(i);
+      }
+    }
+  }
+
+  drawNumbers(c, [first, last], height) {
     const steps = [1, 2, 5, 10, 20, 50, 100, 200, 500, 1000, 2000, 5000, 10000, 50000, 100000];
     const step = steps.find((it) => it * this.scale >= 60) || 500000;
     for (let i = first - (first % step); i < last; i += step) {
-      c.fillStyle = this.colours.line;
-      c.fillRect(this.x(i), 14, 1, height);
-      c.fillStyle = this.colours.faint;
-      c.fillText(String(i + this.journal.links.start), this.x(i) + 3, 12);
+      this.drawTick(c, i, String(i + this.journal.links.start), height);
     }
   }
 
   drawChosen(c, height) {
     c.fillStyle = this.colours.chosen;
-    const width = Math.max(3, this.scale);
+    const width = Math.max(3, this.scale * (this.places ? LEAST_GAP : 1));
     c.fillRect(this.x(this.chosen) - width / 2, 0, width, height);
   }
 
@@ -1173,16 +1405,17 @@ class Timeline extends Chart {
     SHAPES[shape](c, x, y);
     if (shape === "ring" || shape === "cross") c.stroke();
     else c.fill();
-    if (this.scale >= 50 || i === this.chosen) this.drawLabel(c, entry, x, y);
+    const room = this.x(i + 1) - x;
+    if (room >= 50 || i === this.chosen) this.drawLabel(c, entry, [x, y], room);
   }
 
-  drawLabel(c, entry, x, y) {
+  drawLabel(c, entry, [x, y], room) {
     c.fillStyle = this.colours.text;
     c.fillText(`${entry.call}${entry.reply === "waits" ? " waits" : ""}`, x - 8, y - 10);
     const error = isError(entry) ? entry.reply : "";
     const below = isSent(entry) ? `${entry.given[1]}: ${entry.payload}` : error;
-    if (this.scale < 50) return;
-    const most = Math.floor(this.scale / 7);
+    if (room < 50) return;
+    const most = Math.floor(room / 7);
     c.fillText(below.length > most ? `${below.slice(0, most - 2)}..` : below, x - 8, y + 19);
   }
 }
@@ -1240,19 +1473,22 @@ function rowsOf(state) {
     add(`q${it.queue}`, `${queueName(it)}: ${limits}`);
     it.messages.forEach((m, i) => add(`q${it.queue}m${m.place}`, `  ${messageText(m, i)}`));
     for (const w of it.senders) {
-      const text = `  process ${w.process} waits to send since ${w.place}: priority ${w.priority}`;
+      const text = `  process ${callerWord(w.process)} waits to send since ${w.place}: ` +
+        `priority ${w.priority}`;
       add(`q${it.queue}s${w.place}`, text);
     }
     for (const w of it.receivers) {
-      add(`q${it.queue}r${w.place}`, `  process ${w.process} waits to receive since ${w.place}`);
+      const text = `  process ${callerWord(w.process)} waits to receive since ${w.place}`;
+      add(`q${it.queue}r${w.place}`, text);
     }
     const n = it.registration;
     if (n) {
-      const text = `  process ${n.process} is registered since ${n.place}, with value ${n.value}`;
+      const text = `  process ${callerWord(n.process)} is registered since ${n.place}, ` +
+        `with value ${n.value}`;
       add(`q${it.queue}n`, text);
     }
   }
-  for (const it of [...state.processes.values()].sort((a, b) => a.process - b.process)) {
+  for (const it of callersOf(state)) {
     rows.push(...processRows(it));
   }
   return rows;
@@ -1261,21 +1497,21 @@ function rowsOf(state) {
 function messageText(m, i) {
   const text = m.text === "" ? "" : ` "${m.text}"`;
   return `${i === 0 ? "next" : "then"}: message ${m.place}, priority ${m.priority}, ` +
-    `${m.length} bytes${text}`;
+    `${counted(Number(m.length), "byte")}${text}`;
 }
 
 function processRows(it) {
   const p = it.process;
   const answered = it.answered === null ? "" : `, answered by ${it.answered}`;
   const waits = it.wait === null ? "" : `: waits since ${it.wait}${answered}`;
-  const rows = [{ key: `p${p}`, text: `process ${p}${waits}` }];
-  for (const h of [...it.held.values()].sort((a, b) => a.descriptor - b.descriptor)) {
+  const rows = [{ key: `p${p}`, text: `process ${callerWord(p)}${waits}` }];
+  for (const h of [...it.own.held.values()].sort((a, b) => a.descriptor - b.descriptor)) {
     const access = { r: "read", w: "write", b: "read and write" }[h.access];
     const text = `  descriptor ${h.descriptor}: queue ${h.queue}, ${access}` +
       `${h.nonblock ? ", nonblocking" : ""}`;
     rows.push({ key: `p${p}d${h.descriptor}`, text });
   }
-  it.notices.forEach((v, i) => rows.push({ key: `p${p}v${i}`, text: `  notice ${v}` }));
+  it.own.notices.forEach((v, i) => rows.push({ key: `p${p}v${i}`, text: `  notice ${v}` }));
   return rows;
 }
 
@@ -1371,12 +1607,18 @@ function storyItems(page, steps) {
       link.addEventListener("click", (event) => {
         event.preventDefault();
         page.choose(it.i);
+        page.input("entry").querySelector("h2").focus();
       });
       line.append(" ", link);
     }
     list.append(line);
   }
   return list;
+}
+
+// A heading that can have the focus.
+function heading(text) {
+  return element("h2", text, { tabIndex: -1 });
 }
 
 function storyList(page, title, steps) {
@@ -1403,13 +1645,13 @@ function storiesOf(page, i, after) {
 // Who waits after an entry: a line for each process, behind which the chain stands.
 function waitStories(page, i, after) {
   const { journal } = page;
-  const waiting = [...after.processes.values()].filter((it) => it.wait !== null)
-    .sort((a, b) => a.process - b.process);
+  const waiting = callersOf(after).filter((it) => it.wait !== null);
   if (waiting.length === 0) return [];
   const stuck = stuckProcesses(journal, after);
   const parts = [element("h2", "Who waits, and why?")];
-  if (stuck.size > 0) {
-    const list = [...stuck].sort((a, b) => a - b).join(", ");
+  const open = [...stuck].filter((p) => waitOf(after, p).queue);
+  if (open.length > 0) {
+    const list = open.sort(byLane).map(callerWord).join(", ");
     const text = `Nobody who has the queue open and could answer ${list} runs. ` +
       "Only a process that opens the queue can end this.";
     parts.push(element("p", text, { className: "grave" }));
@@ -1433,10 +1675,10 @@ function entryPanel(page, i, before, after) {
   const on = queue ? ` on ${queueName(queue)}` : "";
   const line = element("div", entry.line, { className: `line${isError(entry) ? " error" : ""}` });
   const by = entry.thread === undefined ? "" : `, in thread ${entry.thread} at step ${entry.step},`;
-  const text = `Process ${entry.process}${by} ${CALLS[entry.call] || entry.call}${on}` +
+  const text = `${namesOf([entry.process])}${by} ${CALLS[entry.call] || entry.call}${on}` +
     `${replyText(entry)}.`;
-  return [element("h2", `Entry ${entry.place}`), line, element("p", text),
-    ...storiesOf(page, i, after)];
+  page.say(`Entry ${entry.place}: ${text}`);
+  return [heading(`Entry ${entry.place}`), line, element("p", text), ...storiesOf(page, i, after)];
 }
 
 // The page: what is chosen, what is shown, and what keys and buttons do.
@@ -1452,10 +1694,13 @@ class Page {
 
   // Shows a journal.
   load({ said, before, entries }) {
-    const wrong = noteThreads(entries, document.querySelector("#threads").textContent);
-    this.wrong = wrong || "";
+    const threads = noteThreads(entries, document.querySelector("#threads").textContent);
     this.entries = entries;
-    this.journal = { entries, links: new Links(entries), states: new States(entries, before) };
+    this.journal = {
+      entries, threads, links: new Links(entries), states: new States(entries, before),
+      times: timesOf(entries),
+    };
+    this.input("timed").parentElement.hidden = this.journal.times === null;
     this.timeline = new Timeline(document.querySelector("canvas"), this.journal);
     const { start } = this.journal.links;
     const last = start + entries.length - 1;
@@ -1465,6 +1710,11 @@ class Page {
     const steps = said ? [{ text: `mqlog judge: ${said}` }, ...found] : found;
     if (steps.length > 0) {
       this.input("findings").replaceChildren(...storyList(this, "What stands out", steps));
+    }
+    if (threads.steps.length > 0) {
+      const text = `The ${counted(threads.steps.length, "step")} of the run`;
+      const list = () => element("pre", threads.steps.join("\n"));
+      this.input("findings").append(folded(text, list, false));
     }
     this.choose(0);
   }
@@ -1487,8 +1737,8 @@ class Page {
       this.input(name).append(new Option("all", ""));
       for (const [value, text] of values) this.input(name).append(new Option(text, value));
     };
-    const numbers = [...new Set(entries.map((it) => it.process))].sort((a, b) => a - b);
-    fill("process", numbers.map((it) => [it, it]));
+    const numbers = [...new Set(entries.map((it) => it.process))].sort(byLane);
+    fill("process", numbers.map((it) => [it, callerWord(it)]));
     const queues = this.journal ? [...this.journal.states.names] : [];
     fill("queue", queues.map(([q, name]) => [q, `${q} ${name}`]));
     fill("call", [...new Set(entries.map((it) => it.call))].sort().map((it) => [it, it]));
@@ -1539,6 +1789,11 @@ class Page {
     this.draw();
   }
 
+  // Says what was chosen to who does not see it.
+  say(text) {
+    this.input("said").textContent = text;
+  }
+
   draw() {
     if (this.waiting) return;
     this.waiting = true;
@@ -1546,8 +1801,7 @@ class Page {
       this.waiting = false;
       this.timeline.draw();
       const note = "Too many entries are shown for arrows: zoom in.";
-      this.input("note").textContent = this.wrong || (this.timeline.tooMany ? note : "");
-      this.input("note").className = this.wrong ? "grave" : "";
+      this.input("note").textContent = this.timeline.tooMany ? note : "";
     });
   }
 
@@ -1557,6 +1811,10 @@ class Page {
       this.read = null;
       this.draw();
     }));
+    this.input("timed").addEventListener("change", () => {
+      this.timeline.setByTime(this.input("timed").checked);
+      this.draw();
+    });
     const middle = () => this.timeline.width / 2;
     const buttons = {
       back: () => this.choose(this.next(-1)), on: () => this.choose(this.next(1)),
@@ -1601,11 +1859,15 @@ class Page {
       held = null;
     });
     canvas.addEventListener("wheel", (event) => {
+      const isAcross = event.shiftKey || Math.abs(event.deltaX) > Math.abs(event.deltaY);
+      // Without a key, the wheel scrolls the lanes, as everywhere.
+      if (!event.ctrlKey && !isAcross) return;
       event.preventDefault();
-      if (event.shiftKey || Math.abs(event.deltaX) > Math.abs(event.deltaY)) {
+      if (event.ctrlKey) this.zoom(event.deltaY < 0 ? 1.25 : 0.8, event.offsetX);
+      else {
         this.timeline.pan(event.deltaX || event.deltaY);
         this.draw();
-      } else this.zoom(event.deltaY < 0 ? 1.25 : 0.8, event.offsetX);
+      }
     }, { passive: false });
   }
 
@@ -1647,7 +1909,7 @@ function callOf(line, index) {
   const end = words[2] === "-" ? null : BigInt(words[2]);
   const got = words.slice(arrow + 2);
   return {
-    index, line, end, begin: BigInt(words[1]), process: Number(words[0]), call: words[3],
+    index, line, end, begin: BigInt(words[1]), process: callerOf(words[0]), call: words[3],
     given: words.slice(4, quoted ? arrow - 1 : arrow),
     payload: quoted ? words[arrow - 1].slice(1, -1) : "",
     reply: words[arrow + 1] || "", got,
@@ -1722,7 +1984,7 @@ const BAR = 22;
 // The picture of a history: a lane for each process, a bar from the begin of a call to its return.
 class HistoryTimeline extends Chart {
   constructor(canvas, calls, fault) {
-    super(canvas, calls.map((it) => `process ${it.process}`));
+    super(canvas, calls.map((it) => `process ${callerWord(it.process)}`));
     this.calls = calls;
     this.fault = fault;
     this.scale = Math.max(20, Math.min(90, this.width / Math.max(1, this.moments)));
@@ -1791,12 +2053,13 @@ class HistoryPage extends Page {
     this.entries = calls;
     this.timeline = new HistoryTimeline(document.querySelector("canvas"), calls, this.fault);
     this.input("queue").parentElement.hidden = true;
+    this.input("timed").parentElement.hidden = true;
     const kind = this.fault ? "A history that no journal explains" : "A history, undecided";
     this.input("title").textContent = kind;
     this.input("legend").textContent = "a bar: a call, from its begin to its return; dashed: it " +
       "had not returned; \u2717 and thick: its return can't be explained; only the order of moments " +
-      "counts | left and right: step, with Shift in the same process; + and -: zoom; drag: move; " +
-      "/: find; n: next found; e: next error";
+      "counts | left and right: step, with Shift in the same process; + and -, or Ctrl and the " +
+      "wheel: zoom; drag: move; /: find; n: next found; e: next error";
     this.tell();
     this.choose(this.fault ? calls.indexOf(this.fault) : 0);
   }
@@ -1812,7 +2075,7 @@ class HistoryPage extends Page {
   }
 
   nameOf(i) {
-    return `the ${this.entries[i].call} of process ${this.entries[i].process}`;
+    return `the ${this.entries[i].call} of process ${callerWord(this.entries[i].process)}`;
   }
 
   entryAt(x, y) {
@@ -1827,12 +2090,13 @@ class HistoryPage extends Page {
     const returned = [it.reply, ...it.got].join(" ");
     const came = it.end === null ? "It had not returned." : `It returned ${returned}.`;
     const line = element("div", it.line, { className: `line${it === this.fault ? " error" : ""}` });
-    const text = `Process ${it.process} ${CALLS[it.call] || it.call}${on}. ${came}`;
+    const text = `${namesOf([it.process])} ${CALLS[it.call] || it.call}${on}. ${came}`;
     const title = it === this.fault ? "The return that can't be explained" : "Call";
     const steps = storyList(this, "What speaks of it", evidenceOf(this.entries, it));
-    this.input("entry").replaceChildren(element("h2", title), line, element("p", text));
+    this.input("entry").replaceChildren(heading(title), line, element("p", text));
+    this.say(`${title}: ${text}`);
     this.input("state").replaceChildren(...steps);
-    this.timeline.reveal(this.timeline.placeOf(i));
+    this.timeline.reveal(i);
     this.draw();
   }
 }

@@ -6,9 +6,9 @@ ghost use Rattle.journal_format.specs.JournalFault.{IsAtFault};
 ghost use Rattle.journal_format.specs.Lines.{ReadsUpTo};
 ghost use Rattle.journal_format.specs.declared.fault.JournalFault.{JournalFault};
 ghost use Rattle.journal_format.specs.declared.fault.JournalFault.TheVariants.{BadLine, Input};
-ghost use Rattle.journal_views.specs.View.{IsStateLine, IsTooLong, Views, ViewsInPart, count_viewed, first_viewed};
+ghost use Rattle.journal_views.specs.View.{IsBeyond, IsStateLine, IsTooLong, Views, ViewsInPart, count_viewed, first_viewed, is_beyond};
 ghost use Rattle.journal_views.specs.declared.view.Unviewed.TheVariants.{Output, Unread};
-ghost use Rattle.journal_views.specs.declared.view.Viewed.TheVariants.{TooLong, Written};
+ghost use Rattle.journal_views.specs.declared.view.Viewed.TheVariants.{Beyond, TooLong, Written};
 
 use crate::form::Form;
 use crate::page::page_of;
@@ -37,6 +37,9 @@ pub enum Viewed {
     Written,
     /// It would have too many entries or bytes, and nothing was written.
     TooLong,
+    /// It would begin behind the last entry, and nothing was written. The journal has this number of
+    /// entries.
+    Beyond(u64),
 }
 
 /// Why no page was written.
@@ -46,6 +49,14 @@ pub enum Unviewed {
     Unread(JournalFault),
     /// A write failed.
     Output,
+}
+
+/// Whether the part of a journal from this sequence number on begins behind the last entry. The
+/// part from its start does not, even if it is empty.
+pub fn is_beyond(from: u64, journal: &Journal) -> bool
+    ensures { result ≡ is_beyond from (length journal.now.records) }
+{
+    from > 0 && from >= journal.len()
 }
 
 // The first sequence number from `from` to `to`, both included, and the number of entries there.
@@ -81,7 +92,8 @@ fn state_line(alloc: Global, journal: &Journal, k: u64) -> Result<Vec<u8>, Alloc
 
 /// Reads a journal line by line, which need not be legal, and writes a page of its entries from
 /// `from` to `to`, both included, with these two parts of a template. The page has the state before
-/// these entries, if the entries before them are legal.
+/// these entries, if the entries before them are legal. If there is no entry `from`, nothing is
+/// written, unless it is the first of an empty journal.
 ///
 /// - `JournalFault::BadLine`: a line is not that of an entry, or is too long for one, and this is
 ///   the first one. No read was made after those that returned it. Nothing is written.
@@ -102,6 +114,10 @@ pub fn view_journal<R: ByteSource, W: Write>(
         (W.contents output.new) }
     ensures too_long { (all : List ℕ) → R.remaining input.old ≡ Some all → result ≡ Ok TooLong →
         IsTooLong (take (MOST_BYTES + 1) all) from to head.now tail.now }
+    ensures beyond { (all : List ℕ) (len : ℕ) → R.remaining input.old ≡ Some all →
+        result ≡ Ok (Beyond len) → IsBeyond (take (MOST_BYTES + 1) all) from len }
+    ensures nothing { (len : ℕ) → result ≡ Ok (Beyond len) →
+        W.contents output.new ≡ W.contents output.old }
     ensures not_written { result ≡ Ok TooLong → W.contents output.new ≡ W.contents output.old }
     ensures bad_line { (all : List ℕ) (line : ℕ) → R.remaining input.old ≡ Some all →
         IsErrOf result (Unread (BadLine line)) → IsAtFault line (take (MOST_BYTES + 1) all) }
@@ -119,6 +135,9 @@ pub fn view_journal<R: ByteSource, W: Write>(
         Ok(journal) => journal,
         Err(fault) => return Err(Unviewed::Unread(fault)),
     };
+    if is_beyond(from, &journal) {
+        return Ok(Viewed::Beyond(journal.len()));
+    }
     let (first, count) = cut(from, to, &journal);
     if count > MOST_VIEWED {
         return Ok(Viewed::TooLong);

@@ -8,6 +8,7 @@ use Rattle.std.proofs.lemmas.Bool.{eqb-false}
 use Rattle.mq_model.specs.Record.{Past}
 use Rattle.mq_model.specs.Descriptors.{held, lowest_held, numbers_from, descriptor_numbers}
 use Rattle.mq_model.specs.Legality.{Appends}
+use Rattle.mq_model.proofs.Mates.{shares_self}
 use Rattle.mq_model.proofs.Places.{split}
 use Rattle.mq_model.specs.declared.entries.Call.TheVariants.{MqClose}
 use Rattle.mq_model.specs.declared.entries.Reply.{Reply}
@@ -43,7 +44,7 @@ pub from-closed : (past : Past) (p d : ℕ) → lowest_held past p ≡ Some d �
 from-closed past p d was e is =
     let x = lowest-held (recorded p (MqClose d) [] Done ∷ past) p e is in
     split (d == e)
-    (λ here. let gone : held (recorded p (MqClose d) [] Done ∷ past) p e ≡ None = rw (eq-eqb p p refl, here) refl in
+    (λ here. let gone : held (recorded p (MqClose d) [] Done ∷ past) p e ≡ None = rw (shares_self p, here) refl in
     absurd (let bad : false ≡ true = rw gone at (x.0) in cc))
     (λ differ. grind (arith, nat_tests, eq-eqb, lowest-first, eqb-false))
 

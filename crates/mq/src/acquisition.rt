@@ -20,6 +20,8 @@ pub struct Acquisition<L: Look<Guarded>> {
     number: u32,
     walk: L::Walk,
     waits: Option<usize>,
+    // whether its last step made no progress
+    is_stuck: bool,
 }
 
 impl<L: Look<Guarded>> Model for Acquisition<L> {
@@ -51,9 +53,14 @@ impl<L: Look<Guarded>> Acquisition<L> {
     }
 
     /// The futex word on which a thread outside Rattle sleeps if the steps do not acquire the lock
-    /// (see [`Mq::futex_words`]).
-    pub fn futex_word(&self) -> u32 {
-        L::futex_word(&self.walk)
+    /// (see [`Mq::futex_words`]). `None` if its last step made progress, or if it has taken none
+    /// behind the fast path: then it waits for nothing that it has looked at, and must not sleep.
+    pub fn futex_word(&self) -> Option<u32> {
+        if self.is_stuck {
+            Some(L::futex_word(&self.walk))
+        } else {
+            None
+        }
     }
 
     /// Takes at most `steps` atomic steps, each one access to a word of the lock. None of them
@@ -77,6 +84,7 @@ impl<L: Look<Guarded>> Acquisition<L> {
             number,
             walk,
             waits,
+            is_stuck: _,
         } = self;
         let tried = mq.lock().take_fast_path(walk);
         if L::is_admitted(&tried) {
@@ -90,6 +98,7 @@ impl<L: Look<Guarded>> Acquisition<L> {
             number,
             walk: tried,
             waits,
+            is_stuck: false,
         };
         if steps == FAST_PATH_STEPS {
             return Err(on_its_way);
@@ -113,6 +122,7 @@ impl<L: Look<Guarded>> Acquisition<L> {
             number,
             mut walk,
             waits,
+            mut is_stuck,
         } = self;
         'steps: for taken in 0..steps {
             if L::is_admitted(&walk) {
@@ -120,7 +130,8 @@ impl<L: Look<Guarded>> Acquisition<L> {
             }
             let (next, has_moved) = mq.lock().step(walk);
             walk = next;
-            if !has_moved {
+            is_stuck = !has_moved;
+            if is_stuck {
                 break;
             }
         }
@@ -129,6 +140,7 @@ impl<L: Look<Guarded>> Acquisition<L> {
                 number,
                 walk,
                 waits,
+                is_stuck,
             });
         }
         Ok(Guard {
@@ -168,6 +180,7 @@ impl<L: Look<Guarded>> Process<L> {
             number: L::number(&seat),
             walk: mq.lock().begin(seat),
             waits,
+            is_stuck: false,
         }
     }
 }

@@ -8,8 +8,8 @@ mod ends;
 mod exits;
 mod reading;
 
+use crate::departed::{Departed, departed_of};
 use crate::guarded::Guarded;
-use crate::process::{Process, process_of};
 use crate::returned::Returned;
 use crate::stays::{begin, depart, depart_after};
 use crate::system::Mq;
@@ -19,10 +19,10 @@ use mq_state::books::Books;
 use std::marker::Model;
 
 /// A process in its critical section. It makes one call, which never waits, and becomes a
-/// [`Process`] again. Contracts see the process as it was before the acquisition, so each call here
-/// has the contract of the same call of [`Process`]. They also see how many accesses to words of
-/// the lock it has made. While a `Guard` exists all other processes stay out. If it is dropped,
-/// they stay out for good.
+/// [`Departed`], which wakes those who wait for this call and is a [`Process`] again. Contracts see
+/// the process as it was before the acquisition, so each call here has the contract of the same
+/// call of [`Process`]. They also see how many accesses to words of the lock it has made. While a
+/// `Guard` exists all other processes stay out. If it is dropped, they stay out for good.
 #[derive(Drop)]
 pub struct Guard<L: Look<Guarded>> {
     pub(crate) number: u32,
@@ -59,7 +59,7 @@ impl<L: Look<Guarded>> Guard<L> {
         call: Call,
         given: &[u8],
         buf: &mut [u8],
-    ) -> (Process<L>, A)
+    ) -> (Departed<L>, A)
         requires made { self.process.lock ≡ mq.now }
         requires free { IsFree self.process }
         requires brings { Brings call given.now (length buf.old) }
@@ -77,11 +77,11 @@ impl<L: Look<Guarded>> Guard<L> {
         let answer = A::ask(&mut state.books, self.number, call, given, buf);
         let returned = A::of_answer(answer);
         let seat = depart_after(mq, inside, state, answer.reply);
-        (process_of(seat, wait_begun(answer.reply, room)), returned)
+        (departed_of(seat, wait_begun(answer.reply, room)), returned)
     }
 
     /// As [`Process::are_blocked`].
-    pub fn are_blocked(self, mq: &Mq<L>, processes: &[u32]) -> (Process<L>, bool)
+    pub fn are_blocked(self, mq: &Mq<L>, processes: &[u32]) -> (Departed<L>, bool)
         requires made { self.process.lock ≡ mq.now }
         ensures blocked { result.1 ≡ list_all (is_blocked result.0.left) processes.now }
         ensures calls { Calls self.process result.0 [] }
@@ -91,11 +91,11 @@ impl<L: Look<Guarded>> Guard<L> {
     {
         let (inside, state) = begin::<L>(self.walk, self.number);
         let blocked = all_blocked(&state.books, processes);
-        (process_of(depart(mq, inside, state), self.waits), blocked)
+        (departed_of(depart(mq, inside, state), self.waits), blocked)
     }
 
     /// Releases the lock without a call.
-    pub fn leave(self, mq: &Mq<L>) -> Process<L>
+    pub fn leave(self, mq: &Mq<L>) -> Departed<L>
         requires made { self.process.lock ≡ mq.now }
         ensures calls { Calls self.process result [] }
         ensures wait { waiting_room result.left result.number ≡

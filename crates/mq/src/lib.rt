@@ -6,6 +6,7 @@
 #![tactic(auto)]
 
 mod acquisition;
+mod departed;
 mod guard;
 mod guarded;
 mod judging;
@@ -17,6 +18,7 @@ mod stays;
 mod system;
 
 pub use acquisition::Acquisition;
+pub use departed::Departed;
 use fast_mutex::FastMutex;
 pub use fast_mutex::Missing;
 pub use guard::Guard;
@@ -52,3 +54,6 @@ pub type FastAcquisition = Acquisition<FastMutex<Guarded>>;
 
 /// A process of that system in its critical section.
 pub type FastGuard = Guard<FastMutex<Guarded>>;
+
+/// A process of that system that has not yet woken those who wait for its call.
+pub type FastDeparted = Departed<FastMutex<Guarded>>;

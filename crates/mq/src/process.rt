@@ -8,8 +8,8 @@ ghost use Rattle.mq.specs.Calls.{ticket_of};
 macro_rules! in_one_stay {
     ($process:ident, $rt:ident, $mq:ident, |$guard:ident| $made:expr) => {{
         let $guard = arrive($rt, $mq, &mut $process.seat, $process.waits);
-        let (process, made) = $made;
-        *$process = process.settled($mq);
+        let (departed, made) = $made;
+        *$process = departed.wake_others($mq);
         made
     }};
 }
@@ -23,7 +23,7 @@ use crate::guard::Guard;
 use crate::guarded::Guarded;
 use crate::returned::Returned;
 use crate::system::Mq;
-use fast_mutex::{Enter, Look};
+use fast_mutex::Look;
 use mq_model::entries::{Attr, Call, OpenFlags, Status};
 use mq_model::faults::Fault;
 use mq_model::names::Name;
@@ -100,29 +100,9 @@ impl<L: Look<Guarded>> Process<L> {
         self.waits
     }
 
-    // The process after a call. It has woken the threads that sleep until that call.
-    #[inline(always)]
-    pub(super) fn settled(self, mq: &Mq<L>) -> Process<L>
-        ensures { result ≡ self }
-    {
-        self.wake_others(mq);
-        self
-    }
-
-    /// Wakes the threads that sleep until this process's last call. Each call of a `Process` ends
-    /// with it; after a call of a [`Guard`] the caller has to make it. A thread that is not woken
-    /// polls again after some milliseconds.
-    #[inline(always)]
-    pub fn wake_others(&self, mq: &Mq<L>) {
-        match &self.seat {
-            Some(seat) => mq.lock().wake(seat),
-            None => unreachable!(),
-        }
-    }
-
     /// The processes whose waits the last call of this process answered, as bits: bit p - 1 stands
-    /// for process p. [`wake_others`](Process::wake_others) wakes them, beside threads that wait
-    /// for the lock. It is a hint: no contract says that it is right.
+    /// for process p. [`Departed::wake_others`](crate::departed::Departed::wake_others) wakes them,
+    /// beside threads that wait for the lock. It is a hint: no contract says that it is right.
     pub fn answered_others(&self) -> u32 {
         match &self.seat {
             Some(seat) => L::answered_by(seat),

@@ -1,4 +1,4 @@
-//! How long a blocked call sleeps.
+//! How long a blocked call sleeps that also looks at something else than its answer.
 use std::time::Duration;
 
 // The first sleep and the longest, in milliseconds.
@@ -6,9 +6,10 @@ const FIRST_SLEEP: u64 = 10;
 
 const LONGEST_SLEEP: u64 = 80;
 
-/// The upper bounds of the sleeps of a blocked call, one after the other: 10 milliseconds, and then
-/// each time twice as long, up to 80. The process that answers a wait wakes the waiting thread.
-/// These times only bound the delay if nobody does.
+/// The upper bounds of the sleeps of a blocked call that looks at something besides its answer, one
+/// after the other: 10 milliseconds, and then each time twice as long, up to 80. The process that
+/// answers a wait wakes the waiting thread. Nobody does if the clock that a timed call was lent
+/// moves.
 #[derive(Drop)]
 pub struct SleepTimes {
     next: u64,

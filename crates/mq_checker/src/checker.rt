@@ -11,7 +11,7 @@ use crate::tables;
 use crate::tables::Tables;
 use mq_model::entries::Call;
 use mq_model::error_order::is_over;
-use mq_model::forms::{is_payload, is_process};
+use mq_model::forms::{is_caller, is_payload};
 use mq_model::journals::Journal;
 use mq_model::replies::is_same;
 
@@ -29,10 +29,10 @@ fn may_call(journal: &Journal, k: u64, tables: &Tables, p: u32, call: Call) -> b
     }
 }
 
-fn all(process: bool, turn: bool, fits: bool, same: bool) -> bool
-    ensures { result ≡ (process && turn && fits && same) }
+fn all(caller: bool, turn: bool, fits: bool, same: bool) -> bool
+    ensures { result ≡ (caller && turn && fits && same) }
 {
-    process && turn && fits && same
+    caller && turn && fits && same
 }
 
 // Whether the record at place `k` may follow those before it.
@@ -43,18 +43,18 @@ fn is_legal_at(journal: &Journal, k: u64, tables: &Tables) -> bool
     ensures { IsTrue result ↔ Legal (first (k + 1) journal.now.records) }
 {
     let (entry, payload) = journal.record(k);
-    let process = is_process(entry.process);
+    let caller = is_caller(entry.process);
     let turn = may_call(journal, k, tables, entry.process, entry.call);
     let fits = is_payload(entry.call, entry.reply, payload);
     let expected = reply_to(journal, k, tables, entry.process, entry.call, payload);
     let same = is_same(entry.reply, expected);
-    all(process, turn, fits, same)
+    all(caller, turn, fits, same)
 }
 
-/// Checks that a journal is legal: the number of each process is 1 to 32, each call is allowed, its
-/// reply is the one that the calls before it determine, and its payload is well-formed. `Err` has
-/// the sequence number of the first entry of which this is not true. It takes no memory, and time
-/// in the square of the journal's length.
+/// Checks that a journal is legal: the number of each caller is 1 to 2,048, each call is allowed,
+/// its reply is the one that the calls before it determine, and its payload is well-formed. `Err`
+/// has the sequence number of the first entry of which this is not true. It takes no memory but
+/// some 170 KB of the stack, and time in the square of the journal's length.
 pub fn check_history(journal: &Journal) -> Result<(), u64>
     ensures legal { IsOk result ↔ Legal journal.now.records }
     ensures first_illegal { IfErr result (IsFirstIllegal journal.now.records) }

@@ -17,11 +17,11 @@ use crate::scan_names::{alive_count, attributes, bound_queue};
 use crate::scan_notices::{next_notice, registered};
 use crate::tables;
 use crate::tables::Tables;
+use mq_model::callers::WaitKind;
 use mq_model::entries::{Attr, Call, Description, OpenFlags, Reply};
 use mq_model::error_order;
 use mq_model::error_order::{NotifyFacts, OpenFacts, ReceiveFacts, SendFacts, StatusFacts};
 use mq_model::journals::Journal;
-use mq_model::owners::WaitKind;
 
 // The number of queues that exist. It matters only if the name of an open is not bound.
 fn queues_unless(journal: &Journal, k: u64, tables: &Tables, bound: bool) -> u64

@@ -9,6 +9,7 @@ ghost use Rattle.mq_model.specs.Descriptors.{opened_queue, held, called_queue, i
 ghost use Rattle.mq_checker.specs.CheckerTables.{TablesMirror};
 
 use crate::tables::{Tables, is_held};
+use mq_model::callers::share;
 use mq_model::entries::{Attr, Call, Description, Entry, Reply};
 use mq_model::error_order::{DEFAULT_ATTRIBUTES, attributes_given};
 use mq_model::journals::Journal;
@@ -55,7 +56,7 @@ pub(crate) fn opened_queue(journal: &Journal, k: u64, name: &[u8], created: bool
     }
 }
 
-/// What process `p` holds under `d` before place `k`.
+/// What the process of caller `p` holds under `d` before place `k`.
 #[tactic(auto, using(mq_model::proofs::Prefixes::prefixes, crate::proofs::Flagged::flagged_twice))]
 pub fn held(journal: &Journal, k: u64, p: u32, d: u32) -> Option<Description>
     requires { k ≤ length journal.now.records }
@@ -64,7 +65,7 @@ pub fn held(journal: &Journal, k: u64, p: u32, d: u32) -> Option<Description>
     let mut flag = None;
     for i in (0..k).rev() {
         let entry = entry_at(journal, i);
-        if entry.process == p {
+        if share(entry.process, p) {
             match entry.call {
                 Call::MqOpen { flags, attr: _ } => {
                     if let Reply::Opened { d: e, created } = entry.reply {
@@ -101,7 +102,7 @@ pub fn held(journal: &Journal, k: u64, p: u32, d: u32) -> Option<Description>
     None
 }
 
-/// Whether a call of process `p` at place `k` is made on queue `q`.
+/// Whether a call of caller `p` at place `k` is made on queue `q`.
 pub fn is_on(journal: &Journal, k: u64, p: u32, call: Call, q: u64) -> bool
     requires { k ≤ length journal.now.records }
     ensures { result ≡ is_place q (called_queue (first k journal.now.records) p call) }

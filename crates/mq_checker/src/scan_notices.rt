@@ -6,6 +6,7 @@ ghost use Rattle.mq_model.specs.Record.{first, record_at};
 ghost use Rattle.mq_model.specs.Notices.{registered, value_of_notify, value_given, gives_notice, notices_given, notices};
 
 use crate::scan_names::{entry_at, is_on};
+use mq_model::callers::share;
 use mq_model::entries::{Call, Registration, Reply};
 use mq_model::journals::Journal;
 use mq_model::registrations::{notified, registration_after, touches_registrations};
@@ -35,7 +36,7 @@ pub(crate) fn value_of_notify(call: Call) -> Option<u64>
     }
 }
 
-// The value that process `p` gave to its registration at a place.
+// The value that the process of caller `p` gave to its registration at a place.
 pub(crate) fn value_given(journal: &Journal, k: u64, p: u32, place: u64) -> Option<u64>
     requires { k ≤ length journal.now.records }
     ensures { result ≡ value_given p (record_at (first k journal.now.records) place) }
@@ -44,7 +45,7 @@ pub(crate) fn value_given(journal: &Journal, k: u64, p: u32, place: u64) -> Opti
     for i in 0..k {
         let (entry, _) = journal.record(i);
         if place == i {
-            value = if entry.process == p {
+            value = if share(entry.process, p) {
                 value_of_notify(entry.call)
             } else {
                 None
@@ -66,6 +67,7 @@ pub(crate) fn gives_notice(reply: Reply) -> bool
     }
 }
 
+// The number of notices that the process of caller `p` took before place `k`.
 pub(crate) fn notices_given(journal: &Journal, k: u64, p: u32) -> u64
     requires { k ≤ length journal.now.records }
     ensures count { result ≡ notices_given (first k journal.now.records) p }
@@ -74,14 +76,14 @@ pub(crate) fn notices_given(journal: &Journal, k: u64, p: u32) -> u64
     let mut count = 0;
     for i in 0..k {
         let (entry, _) = journal.record(i);
-        if entry.process == p && gives_notice(entry.reply) {
+        if share(entry.process, p) && gives_notice(entry.reply) {
             count += 1;
         }
     }
     count
 }
 
-// The notice that process `p` takes next at place `k`.
+// The notice that the process of caller `p` takes next at place `k`.
 pub(crate) fn next_notice(journal: &Journal, k: u64, p: u32) -> Option<u64>
     requires { k ≤ length journal.now.records }
     ensures { result ≡ slice_get (notices (first k journal.now.records) p) 0 }

@@ -1,40 +1,54 @@
 //! The checker's tables, which say what the definitions say about the entries so far: what each
-//! process has, and which messages were taken.
+//! process holds and each caller waits for, and which messages were taken.
 ghost use Rattle.std.specs.Prelude.{◌≡◌, ◌+◌, ◌<◌, ◌≤◌, [], length, Some, None, ℕ, Bool};
 ghost use Rattle.std.specs.Option.{unwrap_or};
-ghost use Rattle.mq_model.specs.Limits.{most_processes};
+ghost use Rattle.mq_model.specs.Limits.{most_callers, most_processes};
 ghost use Rattle.mq_model.specs.Record.{first};
 ghost use Rattle.mq_model.specs.Descriptors.{held, opened_queue, called_queue, lowest_free, is_held};
 ghost use Rattle.mq_model.specs.Messages.{least};
 ghost use Rattle.mq_model.specs.Waits.{open_wait, wait_deadline, answered_by};
-ghost use Rattle.mq_model.specs.Owners.{waiting, OwnersMirror};
+ghost use Rattle.mq_model.specs.Owners.{OwnersMirror};
+ghost use Rattle.mq_model.specs.Callers.{waiting, CallersMirror};
 ghost use Rattle.mq_model.specs.Legality.{Legal};
 ghost use Rattle.mq_checker.specs.CheckerTables.{TablesMirror};
 
 use crate::scan_names::opened_queue;
 use crate::taken;
+use mq_model::callers::{Caller, WaitKind};
 use mq_model::entries::{Call, Deadline, Description, Entry, Reply};
 use mq_model::journals::Journal;
-use mq_model::limits::PROCESSES;
-use mq_model::owners;
-use mq_model::owners::{Owner, WaitKind};
+use mq_model::limits::{CALLERS, PROCESSES};
+use mq_model::owners::Owner;
+use mq_model::{callers, owners};
 
 // The number of rows of the table of processes. Process p has the row at index p.
 const OWNERS: usize = PROCESSES as usize + 1;
 
-/// What each process has, and which messages were taken.
+// The number of rows of the table of callers. Caller p has the row at index p.
+const WAITERS: usize = CALLERS as usize + 1;
+
+/// What each process holds and each caller waits for, and which messages were taken.
 #[derive(Clone, Copy)]
 pub(crate) struct Tables {
     pub(crate) owners: [Owner; OWNERS],
+    pub(crate) callers: [Caller; WAITERS],
     pub(crate) marks: [bool; taken::PLACES],
 }
 
-// The rows of processes without descriptors and waits.
+// The rows of processes without descriptors.
 fn vacant() -> [Owner; OWNERS]
     ensures mirror { OwnersMirror [] result }
     ensures count { length result ≡ most_processes + 1 }
 {
     [Owner::free(); OWNERS]
+}
+
+// The rows of callers without waits.
+fn idle() -> [Caller; WAITERS]
+    ensures mirror { CallersMirror [] result }
+    ensures count { length result ≡ most_callers + 1 }
+{
+    [Caller::free(); WAITERS]
 }
 
 // The tables of the empty journal.
@@ -43,11 +57,12 @@ pub(crate) fn start() -> Tables
 {
     Tables {
         owners: vacant(),
+        callers: idle(),
         marks: taken::unmarked(),
     }
 }
 
-// What process `p` holds under `d` at place `k`.
+// What the process of caller `p` holds under `d` at place `k`.
 pub(crate) fn held(
     journal: &Journal,
     k: u64,
@@ -61,7 +76,7 @@ pub(crate) fn held(
     owners::held(&tables.owners, p, d)
 }
 
-// The lowest descriptor that process `p` does not hold at place `k`.
+// The lowest descriptor that the process of caller `p` does not hold at place `k`.
 pub(crate) fn lowest_free(journal: &Journal, k: u64, tables: &Tables, p: u32) -> Option<u32>
     requires { TablesMirror (first k journal.now.records) tables.now }
     ensures { result ≡ lowest_free (first k journal.now.records) p }
@@ -77,34 +92,34 @@ pub(crate) fn is_held(journal: &Journal, k: u64, tables: &Tables, q: u64) -> boo
     owners::is_held(&tables.owners, q)
 }
 
-// The place of the open wait of process `p` at place `k`.
+// The place of the open wait of caller `p` at place `k`.
 pub(crate) fn wait(journal: &Journal, k: u64, tables: &Tables, p: u32) -> Option<u64>
     requires { TablesMirror (first k journal.now.records) tables.now }
     ensures { result ≡ open_wait (first k journal.now.records) p }
 {
-    match owners::wait(&tables.owners, p) {
+    match callers::wait(&tables.callers, p) {
         None => None,
         Some(wait) => Some(wait.place),
     }
 }
 
-// The deadline of the open wait of process `p` at place `k`.
+// The deadline of the open wait of caller `p` at place `k`.
 pub(crate) fn deadline(journal: &Journal, k: u64, tables: &Tables, p: u32) -> Option<Deadline>
     requires { TablesMirror (first k journal.now.records) tables.now }
     ensures { result ≡ wait_deadline (first k journal.now.records) p }
 {
-    match owners::wait(&tables.owners, p) {
+    match callers::wait(&tables.callers, p) {
         None => None,
         Some(wait) => wait.until,
     }
 }
 
-// The place of the entry that answers the open wait of process `p` at place `k`.
+// The place of the entry that answers the open wait of caller `p` at place `k`.
 pub(crate) fn answer(journal: &Journal, k: u64, tables: &Tables, p: u32) -> Option<u64>
     requires { TablesMirror (first k journal.now.records) tables.now }
     ensures { result ≡ answered_by (first k journal.now.records) p }
 {
-    owners::answer(&tables.owners, p)
+    callers::answer(&tables.callers, p)
 }
 
 // The send, or receive, that has waited longest on queue `q` at place `k`.
@@ -119,7 +134,7 @@ pub(crate) fn first_wait(
     requires legal { Legal (first k journal.now.records) }
     ensures { result ≡ least (waiting (first k journal.now.records) kind q) }
 {
-    match owners::first_wait(&tables.owners, q, kind) {
+    match callers::first_wait(&tables.callers, q, kind) {
         None => None,
         Some((_, place)) => Some(place),
     }
@@ -164,5 +179,6 @@ pub(crate) fn note(journal: &Journal, k: u64, tables: &mut Tables)
     let (entry, payload) = journal.record(k);
     let queue = entry_queue(journal, k, tables, entry, payload);
     taken::note(&mut tables.marks, k, entry.reply);
-    owners::note(&mut tables.owners, k, entry, queue);
+    owners::note(&mut tables.owners, entry, queue);
+    callers::note(&mut tables.callers, k, entry, queue);
 }

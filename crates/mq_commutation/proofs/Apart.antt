@@ -1,13 +1,14 @@
 -- Calls of different processes on different queues commute.
 use Rattle.std.proofs.Common.{◌≡◌, ◌⊎◌, inl, inr, ℕ, ◌<◌, Bool, true, false, ◌&&◌, ◌||◌, List, ◌∷◌, length, Option, Some, None, is_some, sym, ◌∙◌, ap, subst, arith, rules}
 use Rattle.mq_model.specs.Record.{Past}
-use Rattle.mq_model.specs.Descriptors.{held, is_place}
+use Rattle.mq_model.specs.Threads.{owner_of}
+use Rattle.mq_model.specs.Descriptors.{called_queue, held, is_place}
 use Rattle.mq_model.specs.Messages.{is_in}
 use Rattle.mq_model.specs.Notices.{gives_notice, notices}
 use Rattle.mq_model.specs.Waits.{answered_by}
 use Rattle.mq_model.specs.Legality.{IsLegalNext, Legal, reply_to}
 use Rattle.mq_model.specs.declared.entries.Call.{Call}
-use Rattle.mq_model.specs.declared.entries.Call.TheVariants.{NextNotice}
+use Rattle.mq_model.specs.declared.entries.Call.TheVariants.{NextNotice, Collect}
 use Rattle.mq_model.proofs.Places.{split}
 use Rattle.mq_model.proofs.Cases.{Says, reply_says}
 use Rattle.mq_model.proofs.HeldQueues.{called-alive}
@@ -21,7 +22,7 @@ use Rattle.mq_commutation.specs.Independence.{differ, only_reads, whose_notices,
 use Rattle.mq_equivalence.proofs.Notified.{after_notices, notices-step}
 use Rattle.mq_commutation.specs.Commuting.{Commute, is_covered, record_for}
 use Rattle.mq_commutation.proofs.Replies.{SameAt, called-same, reply-same, same-back, same-on}
-use Rattle.mq_commutation.proofs.Structure.{held-other}
+use Rattle.mq_commutation.proofs.Structure.{HoldApart, apart-holders-back, held-collect, held-other}
 use Rattle.mq_commutation.proofs.Frames.{AnswersOn, acts-cases, acts_on, answered-same, answered_at, looks, notices-off, stays-at, stays-look, told-same}
 use Rattle.mq_commutation.proofs.Orders.{Order, apart-back, apart-clash, apart-off, both, commute-by, next-b, on_of, paid, paid-b, queue-back, queue-cases, the-place, touched-is}
 use Rattle.mq_commutation.proofs.Steps.{both-told, message-same, shapes, steps-at}
@@ -31,6 +32,7 @@ use Rattle.mq_state.proofs.QueuesKeep.{alive-below}
 -- the notices of different processes
 pub record AreSeparate (past : Past) (a b : Request) : Type 0 where
   pub processes : (a.process ≡ b.process) → ⊥
+  pub holders : HoldApart a b
   pub calls : (is_covered a.call ≡ true) × (is_covered b.call ≡ true)
   pub queues : (differ (queue_touched past a) (queue_touched past b) || only_reads a.call && only_reads b.call) ≡ true
   pub notices : differ (whose_notices past a) (whose_notices past b) ≡ true
@@ -42,7 +44,7 @@ pub record Two (past : Past) (a b : Request) : Type 0 where
   pub apart : AreSeparate past a b
 
 swap : (past : Past) (a b : Request) → Two past a b → Two past b a
-swap past a b t = search (rules, queue-back, apart-back)
+swap past a b t = search (rules, queue-back, apart-back, apart-holders-back)
 
 module _ (past : Past) (a b : Request) (t : Two past a b) where
   abbrev between : Past
@@ -51,11 +53,24 @@ module _ (past : Past) (a b : Request) (t : Two past a b) where
   legal-between : Legal between
   legal-between = (t.legal, t.first)
 
-  held-b : (d : ℕ) → held between b.process d ≡ held past b.process d
-  held-b d = held-other past a.process a.call (reply_of past a) (paid past a) b.process t.apart.processes d
+  -- the second call finds the same descriptors, or uses none
+  abbrev FindsSame : Type 0
+  FindsSame = ((d : ℕ) → held between b.process d ≡ held past b.process d) ⊎ (b.call ≡ Collect)
+
+  held-b : FindsSame
+  held-b = by t.apart.holders
+    where
+      by : HoldApart a b → FindsSame
+      by (inl far) = inl (λ d. held-other past a.process a.call (reply_of past a) (paid past a) b.process far d)
+      by (inr (inl is)) = inl (λ d. held-collect past a.process a.call (reply_of past a) (paid past a) b.process t.apart.calls.0 is d)
+      by (inr (inr is)) = inr is
 
   called-b : on_of between b ≡ on_of past b
-  called-b = called-same past between b.process held-b b.call
+  called-b = by held-b
+    where
+      by : FindsSame → on_of between b ≡ on_of past b
+      by (inl same) = called-same past between b.process same b.call
+      by (inr is) = ap (called_queue between b.process) is ∙ sym (ap (called_queue past b.process) is)
 
   touched-a : queue_touched past a ≡ on_of past a
   touched-a = touched-is past a.process a.call t.apart.calls.0
@@ -92,12 +107,18 @@ module _ (past : Past) (a b : Request) (t : Two past a b) where
 
   notices-b : b.call ≡ NextNotice → notices between b.process ≡ notices past b.process
   notices-b is =
-      let own : whose_notices past b ≡ Some b.process = ap (λ (c : Call). whose_notices_by past b.process c (reply_to past b.process c b.given)) is in
+      let own : whose_notices past b ≡ Some (owner_of b.process) = ap (λ (c : Call). whose_notices_by past b.process c (reply_to past b.process c b.given)) is in
       notices-step past t.legal a.process a.call (reply_of past a) (paid past a) says-a b.process
-      ∙ notices-off past a.process a.call (reply_of past a) b.process (notices past b.process) t.apart.calls.0 says-a (apart-off (whose_notices past a) (whose_notices past b) b.process t.apart.notices own)
+      ∙ notices-off past a.process a.call (reply_of past a) b.process (notices past b.process) t.apart.calls.0 says-a (apart-off (whose_notices past a) (whose_notices past b) (owner_of b.process) t.apart.notices own)
 
   same-b : outline (reply_of between b) ≡ outline (reply_of past b)
-  same-b = reply-same past between b.process held-b b.call b.given t.apart.calls.1 notices-b at-b
+  same-b = by held-b
+    where
+      by : FindsSame → outline (reply_of between b) ≡ outline (reply_of past b)
+      by (inl same) = reply-same past between b.process same b.call b.given t.apart.calls.1 notices-b at-b
+      by (inr is) =
+          ap (λ (c : Call). outline (reply_to between b.process c b.given)) is
+          ∙ sym (ap (λ (c : Call). outline (reply_to past b.process c b.given)) is)
 
   shaped-b : Rattle.mq_equivalence.specs.Steps.shape (reply_of between b) ≡ Rattle.mq_equivalence.specs.Steps.shape (reply_of past b)
   shaped-b = shapes (reply_of past b) (reply_of between b) same-b
@@ -114,6 +135,7 @@ module _ (past : Past) (a b : Request) (t : Two past a b) where
     first = t.first;
     second = t.second;
     processes = t.apart.processes;
+    holders = t.apart.holders;
     calls = t.apart.calls;
     reply = same-b;
     notified_registration = told-b;
@@ -128,8 +150,8 @@ module _ (past : Past) (a b : Request) (t : Two past a b) where
   act_of c k = acts_on c.process (reply_of past c) (answered_at past c.process c.call (reply_of past c)) k
 
   noting-two : (k : ℕ) (values : List ℕ) → noted_by_call a k (noted_by_call b k values) ≡ noted_by_call b k (noted_by_call a k values)
-  noting-two k values = split (is_place k (whose_notices past b))
-      (λ y. let off : is_place k (whose_notices past a) ≡ false = apart-off (whose_notices past a) (whose_notices past b) k t.apart.notices (the-place k (whose_notices past b) y) in
+  noting-two k values = split (is_place (owner_of k) (whose_notices past b))
+      (λ y. let off : is_place (owner_of k) (whose_notices past a) ≡ false = apart-off (whose_notices past a) (whose_notices past b) (owner_of k) t.apart.notices (the-place (owner_of k) (whose_notices past b) y) in
       notices-off past a.process a.call (reply_of past a) k (noted_by_call b k values) t.apart.calls.0 says-a off
       ∙ sym (ap (noted_by_call b k) (notices-off past a.process a.call (reply_of past a) k values t.apart.calls.0 says-a off)))
       (λ n. ap (noted_by_call a k) (notices-off past b.process b.call (reply_of past b) k values t.apart.calls.1 says-b n)
@@ -153,7 +175,7 @@ module _ (past : Past) (a b : Request) (t : Two past a b) where
           let some : Some x.wait ≡ Some y.wait = sym x.opens ∙ y.opens in
           let wait : x.wait ≡ y.wait = cc in
           apart-clash (on_of past a) (on_of past b) x.queue y.queue far x.on y.on
-          (blocked-once past x.kind y.kind x.queue y.queue y.wait (subst (λ (w : ℕ). is_in (Rattle.mq_model.specs.Owners.blocked past x.kind x.queue) w ≡ true) wait x.blocks) y.blocks).1
+          (blocked-once past x.kind y.kind x.queue y.queue y.wait (subst (λ (w : ℕ). is_in (Rattle.mq_model.specs.Callers.blocked past x.kind x.queue) w ≡ true) wait x.blocks) y.blocks).1
 
       by : ((differ (on_of past a) (on_of past b) ≡ true) ⊎ ((only_reads a.call ≡ true) × (only_reads b.call ≡ true))) → ⊥
       by (inl far) = far-both far

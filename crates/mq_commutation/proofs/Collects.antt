@@ -1,9 +1,10 @@
 -- A collect and a call of another process commute.
-use Rattle.std.proofs.Common.{◌≡◌, ℕ, ◌≤◌, ◌==◌, Bool, true, false, not, List, [], ◌∷◌, length, map, Option, Some, None, is_some, if◌then◌else◌, refl, sym, ◌∙◌, ap, subst, arith, eqb-true}
+use Rattle.std.proofs.Common.{◌≡◌, inl, inr, ℕ, ◌≤◌, ◌==◌, Bool, true, false, not, List, [], ◌∷◌, length, map, Option, Some, None, is_some, if◌then◌else◌, refl, sym, ◌∙◌, ap, subst, arith, eqb-true}
 use Rattle.std.proofs.lemmas.Bool.{eqb-false}
 use Rattle.std.specs.List.{filter}
 use Rattle.std.specs.Option.{option_map, unwrap_or}
 use Rattle.mq_model.specs.Record.{Record, Past}
+use Rattle.mq_model.specs.Threads.{shares}
 use Rattle.mq_model.specs.Names.{bound_queue}
 use Rattle.mq_model.specs.Descriptors.{alive, called_queue, held, is_place}
 use Rattle.mq_model.specs.Messages.{ended_receives, ended_sends, is_in}
@@ -35,10 +36,10 @@ use Rattle.mq_equivalence.proofs.Effects.{after_answer, after_contents, after_re
 use Rattle.mq_equivalence.proofs.Notified.{after_notices, notices-step, notified_as}
 use Rattle.mq_equivalence.proofs.Registrations.{after_registered, registered-step}
 use Rattle.mq_equivalence.proofs.Going.{room-step, blocked_sends-new, blocked_receives-new}
-use Rattle.mq_commutation.specs.Independence.{are_independent, changes_names}
+use Rattle.mq_commutation.specs.Independence.{changes_names}
 use Rattle.mq_commutation.specs.Commuting.{Commute, collect_of, is_covered, is_withdrawal, record_for}
 use Rattle.mq_commutation.proofs.Orders.{option-id, own-two, stays-answered}
-use Rattle.mq_commutation.proofs.Independent.{independent-commute}
+use Rattle.mq_commutation.proofs.Apart.{AreSeparate, apart-commute}
 use Rattle.mq_state.proofs.QueuesNoted.{registered-later}
 use Rattle.mq_state.proofs.QueuesKeep.{alive-below}
 
@@ -143,7 +144,7 @@ abbrev collect : ℕ → ℕ → Record
 collect p b = rec p Collect (Collected b) []
 
 collect-held : (past : Past) (p b k d : ℕ) → held (collect p b ∷ past) k d ≡ held past k d
-collect-held past p b k d = split (p == k) (λ t. rw t refl) (λ f. rw f refl)
+collect-held past p b k d = split (shares p k) (λ t. rw t refl) (λ f. rw f refl)
 
 collect-alive : (past : Past) (p b : ℕ) → alive (collect p b ∷ past) ≡ alive past
 collect-alive past p b = alive-same_queues past (collect p b) refl refl (λ e. refl)
@@ -361,8 +362,8 @@ names-else call e f = grind arith
 
 pub collect-commutes : (past : Past) (p : ℕ) (b : Request) → Legal past → IsLegalNext past (record_for past (collect_of p)) → IsLegalNext past (record_for past b) → (p == b.process) ≡ false → is_withdrawal b.call ≡ false → Commute past (collect_of p) b
 collect-commutes past p b legal first second ne kept = split (is_covered b.call)
-    (λ covered. independent-commute past (collect_of p) b legal first second refl covered (apart covered))
+    (λ covered. apart-commute past (collect_of p) b (record { legal = legal; first = first; second = second; apart = apart covered }))
     (λ uncovered. names-commute past p b.process b.call b.given legal first second (eqb-false p b.process ne) (names-else b.call uncovered kept))
   where
-    apart : is_covered b.call ≡ true → are_independent past (collect_of p) b ≡ true
-    apart covered = let off : changes_names b.call ≡ false = names-off b.call covered in rw (ne, off) refl
+    apart : is_covered b.call ≡ true → AreSeparate past (collect_of p) b
+    apart covered = record { processes = eqb-false p b.process ne; holders = inr (inl refl); calls = (refl, covered); queues = refl; notices = refl }

@@ -4,6 +4,7 @@ use Rattle.std.specs.List.{Contains, list_all}
 use Rattle.std.proofs.lemmas.Bool.{and_parts, not-true, or_cases, or_left, or_right}
 use Rattle.std.proofs.lemmas.List.Sums.{AllPass-from_list_all}
 use Rattle.mq_model.specs.Record.{Past, Queue}
+use Rattle.mq_model.specs.Threads.{shares}
 use Rattle.mq_model.proofs.Places.{split}
 use Rattle.mq_equivalence.specs.Runs.{Request}
 use Rattle.mq_commutation.specs.Independence as calls
@@ -21,7 +22,7 @@ among : {X : Type 0} (p : X → Bool) (xs : List X) (x : X) → list_all p xs �
 among {X} p xs x all (k, within, at) = grind (arith, AllPass-from_list_all)
 
 apart-processes : (a b : Request) (d e : Deed) → OwnThreads a b d e →
-    not (d.choice.thread == e.choice.thread) ≡ true → not (a.process == b.process) ≡ true
+    not (d.choice.thread == e.choice.thread) ≡ true → not (shares a.process b.process) ≡ true
 apart-processes a b d e threads apart = grind (arith, eq-eqb, eqb-true, not-true)
 
 apart-queues : (object : ℕ → ℕ) (o u : Option ℕ) (m n : ℕ) → ((q : ℕ) → o ≡ Some q → object q ≡ m) →

@@ -3,6 +3,7 @@ use Rattle.std.proofs.lemmas.Bool.Decides.{nat_tests}
 use Rattle.std.proofs.Common.{◌≡◌, ◌⊎◌, ℕ, ◌<◌, ◌==◌, Bool, true, false, ◌&&◌, not, List, ◌∷◌, length, Option, Some, None, is_some, if◌then◌else◌, refl, sym, ◌∙◌, ap, subst, eqb-true, arith}
 use Rattle.std.specs.Option.{option_map, option_and_then, unwrap_or}
 use Rattle.mq_model.specs.Record.{Record, Past}
+use Rattle.mq_model.specs.Threads.{owner_of, shares}
 use Rattle.mq_model.specs.Descriptors.{called_queue, is_place}
 use Rattle.mq_model.specs.Messages.{is_in, least, waiting_receives, waiting_sends}
 use Rattle.mq_model.specs.Notices.{gives_notice, notified}
@@ -14,9 +15,9 @@ use Rattle.mq_model.specs.declared.entries.Call.{Call}
 use Rattle.mq_model.specs.declared.entries.Call.TheVariants.{MqClose, MqSend, MqReceive, MqTimedSend, MqTimedReceive, MqGetattr, MqSetattr, MqNotify}
 use Rattle.mq_model.specs.declared.entries.Reply.{Reply}
 use Rattle.mq_model.specs.declared.entries.Reply.TheVariants.{Handed, Got, Collected, Attrs, Refused}
-use Rattle.mq_model.specs.declared.owners.WaitKind.{WaitKind}
-use Rattle.mq_model.specs.declared.owners.WaitKind.TheVariants.{Send, Receive}
-use Rattle.mq_model.specs.Owners.{blocked}
+use Rattle.mq_model.specs.declared.callers.WaitKind.{WaitKind}
+use Rattle.mq_model.specs.declared.callers.WaitKind.TheVariants.{Send, Receive}
+use Rattle.mq_model.specs.Callers.{blocked}
 use Rattle.mq_model.proofs.Places.{is_in-filter}
 use Rattle.mq_model.proofs.Frames.{attributes-older}
 use Rattle.mq_model.proofs.Cases.{AttrsReply, Says}
@@ -70,7 +71,7 @@ senders-off p call payload reply ss = grind arith
 receivers-off : (p : ℕ) (call : Call) (reply : Reply) (rs : List (Option ℕ)) → after_receivers p call false reply rs ≡ rs
 receivers-off p call reply rs = grind arith
 
-registered-off : (p : ℕ) (call : Call) (reply : Reply) (before : Option Registered) → is_covered call ≡ true → ((c : ℕ) → call ≡ MqClose c → (x : Registered) → before ≡ Some x → (c == x.d && p == x.process) ≡ false) → after_registered false p call reply before ≡ before
+registered-off : (p : ℕ) (call : Call) (reply : Reply) (before : Option Registered) → is_covered call ≡ true → ((c : ℕ) → call ≡ MqClose c → (x : Registered) → before ≡ Some x → (c == x.d && shares p x.process) ≡ false) → after_registered false p call reply before ≡ before
 registered-off p call reply before on safe = grind arith
 
 -- notices and answers ---------------------------------------------------------------------------------------------------------
@@ -167,13 +168,13 @@ looks-attrs reply says = grind (arith, same-attrs, answers, same-refused)
 pub looks : (past : Past) (p : ℕ) (call : Call) (reply : Reply) → only_reads call ≡ true → Says past p call reply → Looks reply
 looks past p call reply look says = grind (arith, looks-attrs)
 
-off-queue : (past : Past) (p : ℕ) (call : Call) (reply : Reply) (k : ℕ) (values : List ℕ) → is_on_queue call ≡ true → Says past p call reply → is_place k (option_map (λ (n : Registered). n.process) (notified_registration past p call reply)) ≡ false → after_notices p (gives_notice reply) (notified_registration past p call reply) k values ≡ values
+off-queue : (past : Past) (p : ℕ) (call : Call) (reply : Reply) (k : ℕ) (values : List ℕ) → is_on_queue call ≡ true → Says past p call reply → is_place (owner_of k) (option_map (λ (n : Registered). owner_of n.process) (notified_registration past p call reply)) ≡ false → after_notices p (gives_notice reply) (notified_registration past p call reply) k values ≡ values
 off-queue past p call reply k values on says off = grind (arith, gives-none, gain)
 
 closed-off : (past : Past) (p c : ℕ) (reply : Reply) (k : ℕ) (values : List ℕ) → Says past p (MqClose c) reply → after_notices p (gives_notice reply) (notified_registration past p (MqClose c) reply) k values ≡ values
 closed-off past p c reply k values says = grind arith
 
-pub notices-off : (past : Past) (p : ℕ) (call : Call) (reply : Reply) (k : ℕ) (values : List ℕ) → is_covered call ≡ true → Says past p call reply → is_place k (whose_notices_by past p call reply) ≡ false → after_notices p (gives_notice reply) (notified_registration past p call reply) k values ≡ values
+pub notices-off : (past : Past) (p : ℕ) (call : Call) (reply : Reply) (k : ℕ) (values : List ℕ) → is_covered call ≡ true → Says past p call reply → is_place (owner_of k) (whose_notices_by past p call reply) ≡ false → after_notices p (gives_notice reply) (notified_registration past p call reply) k values ≡ values
 notices-off past p call reply k values on says off = grind (arith, off-queue, after_notices, closed-off)
 
 module _ (past : Past) (legal : Legal past) (p : ℕ) (call : Call) (reply : Reply) (payload : List ℕ) (next : IsLegalNext past (rec p call reply payload)) (on : is_covered call ≡ true) where
@@ -196,7 +197,7 @@ module _ (past : Past) (legal : Legal past) (p : ℕ) (call : Call) (reply : Rep
     registration = registered-step past p call reply payload next k ∙ ap (λ (b : Bool). after_registered b p call reply (registered_as past k)) off ∙ registered-off p call reply (registered_as past k) on safe;
   }
     where
-      safe : (c : ℕ) → call ≡ MqClose c → (x : Registered) → registered_as past k ≡ Some x → (c == x.d && p == x.process) ≡ false
+      safe : (c : ℕ) → call ≡ MqClose c → (x : Registered) → registered_as past k ≡ Some x → (c == x.d && shares p x.process) ≡ false
       safe c is x stands = closed-elsewhere past legal p call c k x is stands off
 
   -- a call that only reads changes nothing at any queue

@@ -1,8 +1,10 @@
 -- Two calls in both orders.
 use Rattle.std.proofs.Common.{◌≡◌, ◌⊎◌, inl, inr, ℕ, ◌<◌, ◌==◌, Bool, true, false, ◌&&◌, ◌||◌, List, [], ◌∷◌, length, Option, Some, None, is_some, if◌then◌else◌, refl, sym, ◌∙◌, ap, subst, arith, eqb-true, eq-eqb, ne_eqb, IsTrue}
+use Rattle.std.proofs.lemmas.Bool.{eqb-false}
 use Rattle.std.specs.List.{filter}
 use Rattle.std.specs.Option.{option_map}
 use Rattle.mq_model.specs.Record.{Record, Past}
+use Rattle.mq_model.specs.Threads.{owner_of, shares}
 use Rattle.mq_model.specs.Names.{bound_queue, name_of}
 use Rattle.mq_model.specs.Descriptors.{alive, called_queue, created, held, is_held, is_named, is_place}
 use Rattle.mq_model.specs.Messages.{is_in}
@@ -13,6 +15,7 @@ use Rattle.mq_model.specs.Legality.{IsLegalNext, Legal, is_payload, may_call, pa
 use Rattle.mq_model.specs.declared.entries.Deadline.{Deadline}
 use Rattle.mq_model.specs.declared.entries.Description.{Description}
 use Rattle.mq_model.specs.declared.entries.Call.{Call}
+use Rattle.mq_model.specs.declared.entries.Call.TheVariants.{Collect}
 use Rattle.mq_model.specs.declared.entries.Reply.{Reply}
 use Rattle.mq_model.proofs.Places.{split, is_in-filter}
 use Rattle.mq_model.proofs.Frames.{created-below, filter-same}
@@ -33,7 +36,7 @@ use Rattle.mq_commutation.specs.Independence.{differ, reply_of, notified_registr
 use Rattle.mq_equivalence.proofs.Notified.{after_notices, notices-step}
 use Rattle.mq_commutation.specs.Commuting.{Commute, Unaffected, is_covered, record_for}
 use Rattle.mq_commutation.proofs.Replies.{SameAt}
-use Rattle.mq_commutation.proofs.Structure.{created-stay, flagged, flagged-shape, held-by, names-stay}
+use Rattle.mq_commutation.proofs.Structure.{HoldApart, created-stay, flagged, flagged-collect, flagged-shape, held-by, names-stay}
 use Rattle.mq_commutation.proofs.Frames.{AnswersOn, acted, acted-shape, acts-cases, acts-shape, acts_on, answer-acted, answered_at}
 use Rattle.mq_commutation.proofs.Steps.{both-give, both-wait, shapes}
 
@@ -52,8 +55,8 @@ turn-other past r p call ne on e = grind (arith, stays-answered)
 same-reply : (past : Past) (p : ℕ) (call : Call) (given : List ℕ) → is_covered call ≡ true → reply_to past p call given ≡ reply_to past p call (payload_of call (reply_to past p call given) given)
 same-reply past p call given on = grind arith
 
-held-step : (past : Past) (p : ℕ) (call : Call) (reply : Reply) (payload : List ℕ) → is_covered call ≡ true → (k d : ℕ) → held (rec p call reply payload ∷ past) k d ≡ (if p == k then flagged call reply d (held past k d) else held past k d)
-held-step past p call reply payload on k d = ap (λ (v : Option Description). if p == k then v else held past k d) (held-by past call payload reply d (held past k d) on)
+held-step : (past : Past) (p : ℕ) (call : Call) (reply : Reply) (payload : List ℕ) → is_covered call ≡ true → (k d : ℕ) → held (rec p call reply payload ∷ past) k d ≡ (if shares p k then flagged call reply d (held past k d) else held past k d)
+held-step past p call reply payload on k d = ap (λ (v : Option Description). if shares p k then v else held past k d) (held-by past call payload reply d (held past k d) on)
 
 -- numbers and choices ------------------------------------------------------------------------------------------------------------
 
@@ -69,6 +72,23 @@ apart-clash o u k j e ok uj same = grind (arith, apart-off, eq-eqb)
 -- a value of each process, which only a call of that process changes
 pub own-two : {Z : Type 0} (p q k : ℕ) → (p ≡ q → ⊥) → (va vb h : Z) → (if p == k then va else (if q == k then vb else h)) ≡ (if q == k then vb else (if p == k then va else h))
 own-two p q k ne va vb h = grind (arith, eqb-true)
+
+-- what a call makes of a descriptor of caller k's process
+abbrev pub stepped : Past → Request → ℕ → ℕ → Option Description → Option Description
+stepped past c k d before = if shares c.process k then flagged c.call (reply_of past c) d before else before
+
+stepped-collect : (past : Past) (c : Request) (k d : ℕ) (before : Option Description) → c.call ≡ Collect → stepped past c k d before ≡ before
+stepped-collect past c k d before is = split (shares c.process k)
+    (λ t. rw t (flagged-collect c.call (reply_of past c) d before is))
+    (λ f. rw f refl)
+
+stepped-two : (past : Past) (a b : Request) (k d : ℕ) (before : Option Description) → HoldApart a b → stepped past a k d (stepped past b k d before) ≡ stepped past b k d (stepped past a k d before)
+stepped-two past a b k d before (inl far) = split (shares a.process k)
+    (λ y. let other : shares b.process k ≡ false = ne_eqb (owner_of b.process) (owner_of k) (λ e. eqb-false (owner_of a.process) (owner_of b.process) far (eqb-true (owner_of a.process) (owner_of k) y ∙ sym e)) in
+    rw (y, other) refl)
+    (λ n. rw n refl)
+stepped-two past a b k d before (inr (inl is)) = stepped-collect past a k d (stepped past b k d before) is ∙ ap (stepped past b k d) (sym (stepped-collect past a k d before is))
+stepped-two past a b k d before (inr (inr is)) = ap (stepped past a k d) (stepped-collect past b k d before is) ∙ sym (stepped-collect past b k d (stepped past a k d before) is)
 
 either-two : {Z : Type 0} (u v : Bool) → (u ≡ true → v ≡ true → ⊥) → (x y h : Z) → (if u then x else (if v then y else h)) ≡ (if v then y else (if u then x else h))
 either-two u v never x y h = grind arith
@@ -99,6 +119,7 @@ pub record Order (past : Past) (a b : Request) : Type 0 where
   pub first : IsLegalNext past (record_for past a)
   pub second : IsLegalNext past (record_for past b)
   pub processes : (a.process ≡ b.process) → ⊥
+  pub holders : HoldApart a b
   pub calls : (is_covered a.call ≡ true) × (is_covered b.call ≡ true)
   pub reply : outline (reply_of (record_for past a ∷ past) b) ≡ outline (reply_of past b)
   pub notified_registration : notified_registration (record_for past a ∷ past) b.process b.call (reply_of (record_for past a ∷ past) b) ≡ notified_registration past b.process b.call (reply_of past b)
@@ -160,14 +181,14 @@ module _ (past : Past) (a b : Request) (t : Order past a b) where
   both = record_for mid b ∷ mid
 
   -- each process after the two calls
-  pub held-two : (k d : ℕ) → held both k d ≡ (if b.process == k then flagged b.call (reply_of past b) d (held past k d) else (if a.process == k then flagged a.call (reply_of past a) d (held past k d) else held past k d))
+  pub held-two : (k d : ℕ) → held both k d ≡ stepped past b k d (stepped past a k d (held past k d))
   held-two k d =
       held-step mid b.process b.call (reply_of mid b) (paid mid b) t.calls.1 k d
-      ∙ split (b.process == k)
-      (λ y. let other : (a.process == k) ≡ false = ne_eqb a.process k (λ e. t.processes (e ∙ sym (eqb-true b.process k y))) in
-      rw (y, other)
-      (sym (flagged-shape b.call (reply_of mid b) d (held past k d)) ∙ ap (λ (r : Reply). flagged b.call r d (held past k d)) shaped-b ∙ flagged-shape b.call (reply_of past b) d (held past k d)))
-      (λ n. rw n (held-step past a.process a.call (reply_of past a) (paid past a) t.calls.0 k d))
+      ∙ (λ i. if shares b.process k then alike i else held mid k d)
+      ∙ ap (stepped past b k d) (held-step past a.process a.call (reply_of past a) (paid past a) t.calls.0 k d)
+    where
+      alike : flagged b.call (reply_of mid b) d (held mid k d) ≡ flagged b.call (reply_of past b) d (held mid k d)
+      alike = sym (flagged-shape b.call (reply_of mid b) d (held mid k d)) ∙ ap (λ (r : Reply). flagged b.call r d (held mid k d)) shaped-b ∙ flagged-shape b.call (reply_of past b) d (held mid k d)
 
   pub waits-two : (k : ℕ) → is_some (open_wait both k) ≡ (if b.process == k then is_wait (reply_of past b) else (if a.process == k then is_wait (reply_of past a) else is_some (open_wait past k)))
   waits-two k =
@@ -236,7 +257,7 @@ module _ (past : Past) (a b : Request) (t : Order past a b) where
 held-same : (past : Past) (a b : Request) (t : Order past a b) (s : Order past b a) (k d : ℕ) → held (both past b a s) k d ≡ held (both past a b t) k d
 held-same past a b t s k d =
     held-two past b a s k d
-    ∙ own-two a.process b.process k t.processes (flagged a.call (reply_of past a) d (held past k d)) (flagged b.call (reply_of past b) d (held past k d)) (held past k d)
+    ∙ stepped-two past a b k d (held past k d) t.holders
     ∙ sym (held-two past a b t k d)
 
 alive-two : (past : Past) (a b : Request) (t : Order past a b) (s : Order past b a) → alive (both past b a s) ≡ alive (both past a b t)

@@ -1,7 +1,8 @@
 -- A message is queued after the one that a receive gets: the send and the receive commute.
-use Rattle.std.proofs.Common.{◌≡◌, ℕ, suc, ◌<◌, ◌==◌, Bool, true, false, not, List, [], ◌∷◌, length, Option, Some, None, is_some, is_none, if◌then◌else◌, refl, sym, ◌∙◌, ap, subst, arith, eqb-true, eq-eqb, ℤ, int_le, nat_le, pos, ◌≤◌}
+use Rattle.std.proofs.Common.{◌≡◌, inl, ℕ, suc, ◌<◌, ◌==◌, Bool, true, false, not, List, [], ◌∷◌, length, Option, Some, None, is_some, is_none, if◌then◌else◌, refl, sym, ◌∙◌, ap, subst, arith, eqb-true, eq-eqb, ℤ, int_le, nat_le, pos, ◌≤◌}
 use Rattle.std.specs.Option.{option_map, option_and_then}
 use Rattle.mq_model.specs.Record.{Record, Past}
+use Rattle.mq_model.specs.Threads.{shares}
 use Rattle.mq_model.specs.Names.{attributes}
 use Rattle.mq_model.specs.Descriptors.{called_queue, held, is_place}
 use Rattle.mq_model.specs.Messages.{best, is_send, least, present, priority, priority_given, waiting_receives, waiting_sends}
@@ -32,7 +33,7 @@ use Rattle.mq_equivalence.proofs.Seen.{is_got}
 use Rattle.mq_commutation.specs.Independence.{stays_filled, reply_of, notified_registration}
 use Rattle.mq_commutation.specs.Commuting.{Commute, is_covered, record_for}
 use Rattle.mq_commutation.proofs.Replies.{SameAt, called-same, receive-any, send-any, same-back, same-on}
-use Rattle.mq_commutation.proofs.Structure.{held-other}
+use Rattle.mq_commutation.proofs.Structure.{held-other, shares-back}
 use Rattle.mq_equivalence.proofs.Notified.{after_notices, viewed}
 use Rattle.mq_commutation.proofs.Frames.{not-withdrawn, acts_on, answered_at, stays-at}
 use Rattle.mq_commutation.proofs.Orders.{Order, both, commute-by, legal-mid, next-b, noting, on_of, paid, paid-b}
@@ -104,6 +105,7 @@ pub record Passing (past : Past) (a b : Request) : Type 0 where
   pub first : IsLegalNext past (record_for past a)
   pub second : IsLegalNext past (record_for past b)
   pub processes : (a.process ≡ b.process) → ⊥
+  pub owners : shares a.process b.process ≡ false
   pub calls : (is_covered a.call ≡ true) × (is_covered b.call ≡ true)
   pub sends : is_send a.call ≡ true
   pub queued : reply_of past a ≡ Queued None
@@ -290,7 +292,7 @@ module _ (past : Past) (a b : Request) (t : Passing past a b) where
 
   -- the receive after the send
   held-b : (d : ℕ) → held sent_first b.process d ≡ held past b.process d
-  held-b d = held-other past a.process a.call (reply_of past a) (paid past a) b.process t.processes d
+  held-b d = held-other past a.process a.call (reply_of past a) (paid past a) b.process t.owners d
 
   found-b : FoundFull past sent_first k
   found-b = record {
@@ -310,7 +312,7 @@ module _ (past : Past) (a b : Request) (t : Passing past a b) where
 
   -- the send after the receive
   held-a : (d : ℕ) → held got_first a.process d ≡ held past a.process d
-  held-a d = held-other past b.process b.call (reply_of past b) (paid past b) a.process (λ e. t.processes (sym e)) d
+  held-a d = held-other past b.process b.call (reply_of past b) (paid past b) a.process (shares-back a.process b.process t.owners) d
 
   nothing-told : is_some (if length (present got_first k) == 0 then registered_place got_first k else None) ≡ false
   nothing-told = split (is_none (registered_as past k))
@@ -370,6 +372,7 @@ module _ (past : Past) (a b : Request) (t : Passing past a b) where
     first = t.first;
     second = t.second;
     processes = t.processes;
+    holders = inl t.owners;
     calls = t.calls;
     reply = reply-b;
     notified_registration = calm-later-b.notified_registration sent_first b.process b.call ∙ sym (calm-b.notified_registration past b.process b.call);
@@ -386,6 +389,7 @@ module _ (past : Past) (a b : Request) (t : Passing past a b) where
     first = t.second;
     second = t.first;
     processes = λ e. t.processes (sym e);
+    holders = inl (shares-back a.process b.process t.owners);
     calls = (t.calls.1, t.calls.0);
     reply = reply-a;
     notified_registration = calm-later-a.notified_registration got_first a.process a.call ∙ sym (calm-a.notified_registration past a.process a.call);

@@ -5,6 +5,7 @@ use Rattle.std.proofs.Common.{◌≡◌, ℕ, ◌==◌, Bool, true, false, ◌&&
 use Rattle.std.specs.Option.{option_map}
 use Rattle.std.proofs.lemmas.Bool.{and_parts}
 use Rattle.mq_model.specs.Record.{Past}
+use Rattle.mq_model.specs.Threads.{shares}
 use Rattle.mq_model.specs.Descriptors.{called_queue, held, held_after, is_on, is_place}
 use Rattle.mq_model.specs.Notices.{ends, only_if, registered, registration_of, unless}
 use Rattle.mq_model.specs.Legality.{IsLegalNext, Legal}
@@ -14,6 +15,7 @@ use Rattle.mq_model.specs.declared.entries.Call.{Call}
 use Rattle.mq_model.specs.declared.entries.Call.TheVariants.{MqOpen, MqClose, MqUnlink, MqSend, MqReceive, MqTimedSend, MqTimedReceive, MqGetattr, MqSetattr, MqNotify, NextNotice, Collect, Withdraw}
 use Rattle.mq_model.specs.declared.entries.Reply.{Reply}
 use Rattle.mq_model.specs.declared.entries.Reply.TheVariants.{Opened, Queued, Handed, Waits, Got, Collected, Attrs, Notice, Done, Refused, Withdrawn}
+use Rattle.mq_model.proofs.Mates.{held-mates}
 use Rattle.mq_model.proofs.Places.{split}
 use Rattle.mq_model.proofs.Presence.{place-is}
 use Rattle.mq_model.proofs.OpenReplies.{lowest_free-is, opened-says}
@@ -34,7 +36,7 @@ stood : (ended : Registration → Bool) (o : Option Registration) (n : Registrat
 stood ended o n e = grind arith
 
 -- an entry that does not end the registration does not close its descriptor
-keeps : (past : Past) (p : ℕ) (call : Call) (reply : Reply) (payload : List ℕ) (q : ℕ) (n : Registration) → IsLegalNext past (record { entry = record { process = p; call = call; reply = reply }; payload = payload }) → p ≡ n.process → ends (is_place q (called_queue past p call)) (record { process = p; call = call; reply = reply }) n ≡ false → HeldOn (held past p n.d) q → HeldOn (held_after past call payload reply n.d (held past p n.d)) q
+keeps : (past : Past) (p : ℕ) (call : Call) (reply : Reply) (payload : List ℕ) (q : ℕ) (n : Registration) → IsLegalNext past (record { entry = record { process = p; call = call; reply = reply }; payload = payload }) → shares p n.process ≡ true → ends (is_place q (called_queue past p call)) (record { process = p; call = call; reply = reply }) n ≡ false → HeldOn (held past p n.d) q → HeldOn (held_after past call payload reply n.d (held past p n.d)) q
 keeps past p (MqSend d prio len) (Opened e new) payload q n next own kept h = h
 keeps past p (MqReceive d room) (Opened e new) payload q n next own kept h = h
 keeps past p (MqTimedSend d prio len until now) (Opened e new) payload q n next own kept h = h
@@ -85,7 +87,7 @@ keeps past p (MqNotify d value) Done payload q n next own kept h = h
 keeps past p (MqOpen flags attr) Done payload q n next own kept h = h
 keeps past p (MqClose d) Done payload q n next own kept h =
     split (d == n.d)
-    (λ t. let mine : (p == n.process) ≡ true = eq-eqb p n.process own in let bad : true ≡ false = rw (t, mine) at kept in absurd (cc))
+    (λ t. let bad : true ≡ false = rw (t, own) at kept in absurd (cc))
     (λ f. rw f h)
 keeps past p MqUnlink Done payload q n next own kept h = h
 keeps past p NextNotice Done payload q n next own kept h = h
@@ -113,24 +115,25 @@ registered-held (r ∷ past) legal q n e = by (only_if (is_on past r.entry q) (r
         let old : unless (ends (is_on past r.entry q) r.entry) (registered past q) ≡ Some n = rw is at e in
         let x = stood (ends (is_on past r.entry q) r.entry) (registered past q) n old in
         let h = rest x.before in
-        split (r.entry.process == n.process)
-        (λ t. let own : r.entry.process ≡ n.process = eqb-true _ _ t in
-        let mine : HeldOn (held past r.entry.process n.d) q = subst (λ (j : ℕ). HeldOn (held past j n.d) q) (sym own) h in
-        let after = keeps past r.entry.process r.entry.call r.entry.reply r.payload q n legal.1 own x.kept mine in
-        rw t (subst (λ (j : ℕ). HeldOn (held_after past r.entry.call r.payload r.entry.reply n.d (held past j n.d)) q) own after))
+        split (shares r.entry.process n.process)
+        (λ t. let mates : held past r.entry.process n.d ≡ held past n.process n.d = held-mates past r.entry.process n.process (eqb-true _ _ t) n.d in
+        let mine : HeldOn (held past r.entry.process n.d) q = subst (λ (o : Option Description). HeldOn o q) (sym mates) h in
+        let after = keeps past r.entry.process r.entry.call r.entry.reply r.payload q n legal.1 t x.kept mine in
+        rw t (subst (λ (o : Option Description). HeldOn (held_after past r.entry.call r.payload r.entry.reply n.d o) q) mates after))
         (λ f. rw f h)
     by (Some m) is e rest =
         grind (arith, nat_tests, only-is, place-is, held-queue, eq-eqb)
 
 -- a close of a descriptor for another queue ends no registration on this one
-pub closed-elsewhere : (past : Past) → Legal past → (p : ℕ) (call : Call) (c k : ℕ) (x : Registered) → call ≡ MqClose c → registered_as past k ≡ Some x → is_place k (called_queue past p call) ≡ false → (c == x.d && p == x.process) ≡ false
-closed-elsewhere past legal p call c k x is stands off = split (c == x.d && p == x.process)
-    (λ t. by (registered past k) refl stands (and_parts (c == x.d) (p == x.process) t))
+pub closed-elsewhere : (past : Past) → Legal past → (p : ℕ) (call : Call) (c k : ℕ) (x : Registered) → call ≡ MqClose c → registered_as past k ≡ Some x → is_place k (called_queue past p call) ≡ false → (c == x.d && shares p x.process) ≡ false
+closed-elsewhere past legal p call c k x is stands off = split (c == x.d && shares p x.process)
+    (λ t. by (registered past k) refl stands (and_parts (c == x.d) (shares p x.process) t))
     (λ f. f)
   where
-    by : (o : Option Registration) → registered past k ≡ o → option_map viewed o ≡ Some x → ((c == x.d) ≡ true) × ((p == x.process) ≡ true) → (c == x.d && p == x.process) ≡ false
+    by : (o : Option Registration) → registered past k ≡ o → option_map viewed o ≡ Some x → ((c == x.d) ≡ true) × (shares p x.process ≡ true) → (c == x.d && shares p x.process) ≡ false
     by None e view both = absurd (cc)
     by (Some n) e view both =
         let same : viewed n ≡ x = cc in
         let h = registered-held past legal k n e in
+        let mates = held-mates past p x.process (eqb-true _ _ both.1) x.d in
         grind (arith, nat_tests, eqb-true, eq-eqb)

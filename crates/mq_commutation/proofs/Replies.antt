@@ -3,6 +3,7 @@
 use Rattle.std.proofs.Common.{◌≡◌, ℕ, ◌==◌, Bool, true, false, List, length, Option, Some, None, is_some, if◌then◌else◌, refl, sym, ◌∙◌, ap, arith, slice_get}
 use Rattle.std.specs.Option.{option_map, option_and_then}
 use Rattle.mq_model.specs.Record.{Past}
+use Rattle.mq_model.specs.Threads.{shares}
 use Rattle.mq_model.specs.Names.{attributes}
 use Rattle.mq_model.specs.Descriptors.{called_queue, descriptor_of, held}
 use Rattle.mq_model.specs.Messages.{best, least, present, waiting_receives, waiting_sends}
@@ -111,7 +112,7 @@ module _ (x y : Past) (p : ℕ) (same : (d : ℕ) → held y p d ≡ held x p d)
     where
       view : Option Registered → Bool
       view None = false
-      view (Some n) = n.process == k
+      view (Some n) = shares n.process k
 
       of-view : (o : Option Registration) → is_of k o ≡ view (option_map (λ (n : Registration). record { process = n.process; d = n.d; value = n.value }) o)
       of-view None = refl

@@ -2,6 +2,7 @@
 use Rattle.std.specs.Prelude.{◌≡◌, ℕ, true, false, Some, None}
 use Rattle.std.specs.List.{Contains}
 use Rattle.mq_model.specs.Record.{Past, Queue}
+use Rattle.mq_model.specs.Threads.{shares}
 use Rattle.mq_model.specs.Messages as messages
 use Rattle.mq_model.specs.declared.entries.Reply.TheVariants.{Queued, Got}
 use Rattle.mq_equivalence.specs.Runs.{Request}
@@ -37,4 +38,4 @@ pub record IsCall (past : Past) (object : Queue → ℕ) (a : Request) (d : Deed
 
 -- one thread makes the calls of one process
 pub record OwnThreads (a b : Request) (d e : Deed) : Type 0 where
-  pub own : a.process ≡ b.process → d.choice.thread ≡ e.choice.thread
+  pub own : shares a.process b.process ≡ true → d.choice.thread ≡ e.choice.thread

@@ -3,6 +3,7 @@
 use Rattle.std.specs.Prelude.{ℕ, Bool, true, false, ◌&&◌, ◌||◌, not, ◌==◌, nat_le, [], ◌∷◌, length, Option, Some, None, is_some, is_none, if◌then◌else◌}
 use Rattle.std.specs.Option.{option_map, option_and_then}
 use Rattle.mq_model.specs.Record.{Past, Process, Queue}
+use Rattle.mq_model.specs.Threads.{owner_of, shares}
 use Rattle.mq_model.specs.Descriptors.{called_queue}
 use Rattle.mq_model.specs.Messages.{is_send, present, priority, priority_given}
 use Rattle.mq_model.specs.Notices.{notified}
@@ -42,9 +43,9 @@ notified_registration past p call reply =
 -- The process whose notices a call changes: its own process if it takes the next notice, else the
 -- process that it notifies.
 abbrev pub whose_notices_by : Past → Process → Call → Reply → Option Process
-whose_notices_by past p NextNotice reply = Some p
+whose_notices_by past p NextNotice reply = Some (owner_of p)
 whose_notices_by past p call reply =
-    option_map (λ (n : Registered). n.process) (notified_registration past p call reply)
+    option_map (λ (n : Registered). owner_of n.process) (notified_registration past p call reply)
 
 abbrev pub whose_notices : Past → Request → Option Process
 whose_notices past a = whose_notices_by past a.process a.call (reply_of past a)
@@ -93,7 +94,7 @@ passes past a b =
 -- the other receives an older one or one of higher priority.
 abbrev pub are_independent : Past → Request → Request → Bool
 are_independent past a b =
-    not (a.process == b.process)
+    not (shares a.process b.process)
     && not (changes_names a.call && changes_queues b.call
     || changes_names b.call && changes_queues a.call)
     && differ (whose_notices past a) (whose_notices past b)

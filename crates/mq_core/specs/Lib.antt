@@ -10,6 +10,11 @@ pub use Rattle.mq_model.specs.Waits
 pub use Rattle.mq_model.specs.Legality
 pub use Rattle.mq_model.specs.Owners
 pub use Rattle.mq_model.specs.OwnersNoted
+pub use Rattle.mq_model.specs.Threads
+pub use Rattle.mq_model.specs.Callers
+pub use Rattle.mq_model.specs.CallersNoted
 pub use Rattle.mq_laws.specs.Laws
 pub use Rattle.mq_laws.specs.Refusals
 pub use Rattle.mq_laws.specs.Registrations
+pub use Rattle.mq_laws.specs.Before
+pub use Rattle.mq_laws.specs.Sharing

@@ -5,4 +5,4 @@
 pub use mq_checker::checker;
 pub use mq_checker::checker::check_history;
 pub use mq_laws as laws;
-pub use mq_model::{clock, entries, faults, journals, names, owners, registrations};
+pub use mq_model::{callers, clock, entries, faults, journals, names, owners, registrations};

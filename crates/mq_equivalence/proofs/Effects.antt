@@ -12,7 +12,7 @@ use Rattle.mq_model.specs.Legality.{Legal}
 use Rattle.mq_model.specs.declared.entries.Call.{Call}
 use Rattle.mq_model.specs.declared.entries.Reply.{Reply}
 use Rattle.mq_model.specs.declared.entries.Reply.TheVariants.{Opened, Queued, Handed, Waits, Got, Collected, Attrs, Notice, Done, Refused, Withdrawn}
-use Rattle.mq_model.specs.declared.owners.WaitKind.TheVariants.{Send, Receive}
+use Rattle.mq_model.specs.declared.callers.WaitKind.TheVariants.{Send, Receive}
 use Rattle.mq_model.proofs.Places.{split, is_in-filter, find-in}
 use Rattle.mq_model.proofs.Cases.{Says}
 use Rattle.mq_model.proofs.Frames.{answered_by-step}

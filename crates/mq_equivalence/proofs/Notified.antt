@@ -1,7 +1,8 @@
 -- The registration that a reply notifies, and what an entry makes of the notices.
-use Rattle.std.proofs.Common.{◌≡◌, ℕ, ◌==◌, Bool, false, ◌&&◌, List, [], ◌∷◌, ◌++◌, drop, Option, Some, None, is_some, if◌then◌else◌, refl, sym, ◌∙◌, ap, arith}
+use Rattle.std.proofs.Common.{◌≡◌, ℕ, Bool, false, ◌&&◌, List, [], ◌∷◌, ◌++◌, drop, Option, Some, None, is_some, if◌then◌else◌, refl, sym, ◌∙◌, ap, arith}
 use Rattle.std.specs.Option.{option_map, option_and_then}
 use Rattle.mq_model.specs.Record.{Past}
+use Rattle.mq_model.specs.Threads.{shares}
 use Rattle.mq_model.specs.Descriptors.{called_queue}
 use Rattle.mq_model.specs.Notices.{gives_notice, notices, notified, registered}
 use Rattle.mq_model.specs.Legality.{Legal}
@@ -40,14 +41,14 @@ notifies past p call reply j says e = grind (arith, sends, receives)
 abbrev pub notified_as : Past → ℕ → Call → Reply → Option Registered
 notified_as past p call reply = if is_some (notified reply) then option_and_then (registered_as past) (called_queue past p call) else None
 
--- the notices of process k, with that of this registration
+-- the notices of caller k's process, with that of this registration
 abbrev pub gain : Option Registered → ℕ → List ℕ → List ℕ
 gain None k values = values
-gain (Some n) k values = if n.process == k then values ++ n.value ∷ [] else values
+gain (Some n) k values = if shares n.process k then values ++ n.value ∷ [] else values
 
--- what a call of process p makes of the notices of process k
+-- what a call of caller p makes of the notices of caller k's process
 abbrev pub after_notices : ℕ → Bool → Option Registered → ℕ → List ℕ → List ℕ
-after_notices p gives o k values = if gives && p == k then drop 1 (gain o k values) else gain o k values
+after_notices p gives o k values = if gives && shares p k then drop 1 (gain o k values) else gain o k values
 
 brings : (past : Past) → Legal past → (p : ℕ) (call : Call) (reply : Reply) (payload : List ℕ) (j : ℕ) → notified reply ≡ Some j → gives_notice reply ≡ false → Notifies past p call j → (k : ℕ) →
     notices (rec p call reply payload ∷ past) k ≡ gain (option_and_then (registered_as past) (called_queue past p call)) k (notices past k)

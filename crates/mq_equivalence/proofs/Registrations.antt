@@ -4,6 +4,7 @@ use Rattle.std.proofs.Common.{◌≡◌, ℕ, ◌<◌, ◌==◌, Bool, false, �
 use Rattle.std.specs.Option.{option_map}
 use Rattle.std.proofs.lemmas.Bool.{eqb-false}
 use Rattle.mq_model.specs.Record.{Past}
+use Rattle.mq_model.specs.Threads.{shares}
 use Rattle.mq_model.specs.Descriptors.{called_queue, is_on, is_place}
 use Rattle.mq_model.specs.Notices.{closes, ends, notified, only_if, or_else, registered, registration_of, removes, unless}
 use Rattle.mq_model.specs.Legality.{IsLegalNext}
@@ -79,7 +80,7 @@ over None before = before
 over (Some n) before = Some n
 
 abbrev ended : Bool → ℕ → Call → Reply → Registered → Bool
-ended on p call reply n = (on && is_some (notified reply)) || ((removes call reply && on || closes call reply n.d) && p == n.process)
+ended on p call reply n = (on && is_some (notified reply)) || ((removes call reply && on || closes call reply n.d) && shares p n.process)
 
 abbrev left : Bool → ℕ → Call → Reply → Option Registered → Option Registered
 left on p call reply None = None

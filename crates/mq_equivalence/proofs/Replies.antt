@@ -1,9 +1,10 @@
 -- After equivalent journals the replies to a call differ in places alone, and the same calls may be made.
-use Rattle.std.proofs.Common.{◌≡◌, ℕ, ◌==◌, Bool, true, false, ◌&&◌, not, List, length, map, Option, Some, None, is_some, is_none, if◌then◌else◌, refl, sym, ◌∙◌, ap, arith, slice_get}
+use Rattle.std.proofs.Common.{◌≡◌, ℕ, Bool, true, false, ◌&&◌, not, List, length, map, Option, Some, None, is_some, is_none, if◌then◌else◌, refl, sym, ◌∙◌, ap, arith, slice_get}
 use Rattle.std.proofs.lemmas.List.{length-map}
 use Rattle.std.specs.List.{find}
 use Rattle.std.specs.Option.{option_map}
 use Rattle.mq_model.specs.Record.{Past}
+use Rattle.mq_model.specs.Threads.{shares}
 use Rattle.mq_model.specs.Names.{attributes, bound_queue}
 use Rattle.mq_model.specs.Descriptors.{alive, descriptor_numbers, held, lowest_free}
 use Rattle.mq_model.specs.Messages.{best, is_in, least, present, waiting_receives, waiting_sends}
@@ -180,7 +181,7 @@ module _ {received : Bool} (to : ℕ → ℕ) (x y : Past) (equivalent : AgreeUn
     where
       view : Option Registered → Bool
       view None = false
-      view (Some n) = n.process == p
+      view (Some n) = shares n.process p
 
       of-view : (o : Option Registration) → is_of p o ≡ view (option_map (λ (n : Registration). record { process = n.process; d = n.d; value = n.value }) o)
       of-view None = refl

@@ -1,9 +1,10 @@
 -- Journals with one key are equivalent.
 use Rattle.std.proofs.lemmas.Bool.Decides.{nat_tests}
-use Rattle.std.proofs.Common.{◌≡◌, ℕ, suc, ◌≤◌, ◌==◌, Bool, true, false, ◌||◌, List, [], ◌∷◌, ◌++◌, map, Option, Some, None, is_some, if◌then◌else◌, refl, sym, ◌∙◌, ap, subst, arith, append_assoc, eqb-true, eq-eqb, ne_eqb, leb-true, leb-false, nat_le}
+use Rattle.std.proofs.Common.{◌≡◌, ℕ, suc, ◌≤◌, ◌<◌, ◌==◌, Bool, true, false, ◌||◌, List, [], ◌∷◌, ◌++◌, map, Option, Some, None, is_some, if◌then◌else◌, refl, sym, ◌∙◌, ap, subst, arith, append_assoc, eqb-true, eq-eqb, ne_eqb, leb-true, leb-false, nat_le}
 use Rattle.std.specs.Option.{option_map}
 use Rattle.std.proofs.lemmas.Bool.{eqb-false}
 use Rattle.mq_model.specs.Record.{Past}
+use Rattle.mq_model.specs.Threads.{owner_of}
 use Rattle.mq_model.specs.Names.{attributes, bound_queue}
 use Rattle.mq_model.specs.Descriptors.{alive, held, numbers_from}
 use Rattle.mq_model.specs.Messages.{is_in}
@@ -13,12 +14,14 @@ use Rattle.mq_model.specs.Legality.{Legal}
 use Rattle.mq_model.specs.declared.entries.Description.{Description}
 use Rattle.mq_model.proofs.Alive.{bound-name, bound-named, named-bound}
 use Rattle.mq_model.proofs.HeldQueues.{held-alive}
+use Rattle.mq_model.proofs.Mates.{held-mates, owner_owner}
+use Rattle.mq_model.proofs.NoticeSteps.{notices-mates}
 use Rattle.mq_model.proofs.Places.{split}
 use Rattle.mq_state.specs.Buffers.{room_of, waiting_call, waiting_room}
 use Rattle.mq_equivalence.specs.Views.{answer, at, bound_name, contents, joined, lined, receivers, registered_as, seen, seen_senders, senders, told}
 use Rattle.mq_equivalence.specs.Key.{bytes_code, deadline_code, description_code, index_of, key_if, key_within, limits_code, listed, message_code, name_rank, number, number_bound, optional, process_bound, process_code, queue_code, queues_by_name, registered_code, sender_code}
 use Rattle.mq_equivalence.proofs.Appends.{listed-map}
-use Rattle.mq_equivalence.proofs.Bounds.{IsIdle, held-above, idle-above}
+use Rattle.mq_equivalence.proofs.Bounds.{IsIdle, HasNothing, held-above, idle-above, nothing-above}
 use Rattle.mq_equivalence.proofs.Codes.{Pairs, SameHeld, listed-numbered, decodable-bytes_code, decodable-deadline, told-held, decodable-limits, decodable-listed, decodable-message, decodable-number, decodable-optional, told-pairs, decodable-registered, decodable-sender}
 use Rattle.mq_equivalence.proofs.Falling.{Falls}
 use Rattle.mq_equivalence.specs.Equivalence.{Agree}
@@ -222,15 +225,36 @@ told-process x y n m wide_x wide_y p u v e =
     flatten : (a b c d h u : List ℕ) → (a ++ (b ++ (c ++ (d ++ h)))) ++ u ≡ a ++ (b ++ (c ++ (d ++ (h ++ u))))
     flatten a b c d h u = simp append_assoc
 
-idle-same : (x y : Past) (p : ℕ) → IsIdle x p → IsIdle y p → SameProcess x y p
-idle-same x y p i j = grind (arith, none-held)
+idle-same : (x y : Past) (p : ℕ) → IsIdle x p → IsIdle y p → HasNothing x p → HasNothing y p → SameProcess x y p
+idle-same x y p i j u v = grind (arith, none-held)
+
+-- a caller without a wait is as the first thread of its process, but for the wait
+owner-same : (x y : Past) (p : ℕ) → IsIdle x p → IsIdle y p → SameProcess x y (owner_of p) → SameProcess x y p
+owner-same x y p i j s =
+    let mates = sym (owner_owner p) in
+    record {
+      room = rw (i.waits, j.waits) refl;
+      deadline = i.deadline ∙ sym j.deadline;
+      answered = rw (i.answered, j.answered) refl;
+      notices = notices-mates x p (owner_of p) mates ∙ s.notices ∙ sym (notices-mates y p (owner_of p) mates);
+      holds = λ d. rw (held-mates x p (owner_of p) mates d, held-mates y p (owner_of p) mates d) (s.holds d);
+    }
+
+-- callers at or above the bounds, if those below them are the same
+above-same : (x y : Past) (n p : ℕ) → process_bound x ≤ n → process_bound y ≤ n → n ≤ p → ((k : ℕ) → k < n → SameProcess x y k) → SameProcess x y p
+above-same x y n p high_x high_y le each =
+    let i = idle-above x p (omega arith) in
+    let j = idle-above y p (omega arith) in
+    split (nat_le n (owner_of p))
+    (λ t. idle-same x y p i j (nothing-above x p (omega (arith, leb-true _ _ t))) (nothing-above y p (omega (arith, leb-true _ _ t))))
+    (λ f. owner-same x y p i j (each (owner_of p) (omega (arith, leb-false _ _ f))))
 
 -- the whole key ------------------------------------------------------------------------------------
 
 by-name : (past : Past) (q : ℕ) → is_in (alive past) q ≡ true → is_in (queues_by_name past) q ≡ true
 by-name past q h = in-lined (name_rank past) (alive past) q ∙ h
 
-existing : (past : Past) (q : ℕ) → is_in (queues_by_name past) q ≡ true → is_in (alive past) q ≡ true
+pub existing : (past : Past) (q : ℕ) → is_in (queues_by_name past) q ≡ true → is_in (alive past) q ≡ true
 existing past q h = sym (in-lined (name_rank past) (alive past) q) ∙ h
 
 names-differ : (past : Past) → Differ (queues_by_name past)
@@ -324,7 +348,7 @@ same-within received x y n m w v legal_x legal_y high_x high_y wide_x wide_y e =
     let processes = listed-numbered (process_code w x) (process_code v y) (SameProcess x y) (told-process x y w v wide_x wide_y) n m [] [] ends in
     equivalent-by received x y legal_x legal_y queues.0
     (λ p. split (nat_le n p)
-    (λ t. idle-same x y p (idle-above x p (omega (arith, leb-true _ _ t, high_x))) (idle-above y p (omega (arith, leb-true _ _ t, processes.count, high_y))))
+    (λ t. above-same x y n p high_x (omega (arith, processes.count, high_y)) (leb-true _ _ t) processes.each)
     (λ f. processes.each p (omega (arith, leb-false _ _ f))))
 
 pub same-key : (received : Bool) (x y : Past) → Legal x → Legal y → key_if received x ≡ key_if received y → Agree received x y

@@ -7,6 +7,7 @@ use Rattle.std.specs.Str.{bytes_eq}
 use Rattle.std.specs.Option.{option_map, unwrap_or}
 use Rattle.std.proofs.lemmas.Bool.{eqb-false}
 use Rattle.mq_model.specs.Record.{Record, Past}
+use Rattle.mq_model.specs.Threads.{shares}
 use Rattle.mq_model.specs.Names.{attributes, bound_queue, creates, name_of, unlinks}
 use Rattle.mq_model.specs.Descriptors.{after_close, after_open, after_setattr, alive, created, description, held, held_after, is_held, is_named, opened_queue, with_nonblock}
 use Rattle.mq_model.specs.Messages.{is_in}
@@ -18,6 +19,7 @@ use Rattle.mq_model.specs.declared.entries.Call.{Call}
 use Rattle.mq_model.specs.declared.entries.Call.TheVariants.{MqOpen, MqClose, MqSetattr}
 use Rattle.mq_model.specs.declared.entries.Reply.{Reply}
 use Rattle.mq_model.specs.declared.entries.Reply.TheVariants.{Opened, Attrs, Done}
+use Rattle.mq_model.proofs.Mates.{held-mates}
 use Rattle.mq_model.proofs.Places.{split, is_in-filter}
 use Rattle.mq_model.proofs.Frames.{attributes-older, created-below}
 use Rattle.mq_model.proofs.HeldQueues.{after-cases, bound-created, created-held, in-filter}
@@ -118,7 +120,7 @@ fewer-needed past r legal k lt e = split (is_named (r ∷ past) k)
         named-by past r.payload k (old.1 ∙ ap Some same)
 
     was-held : (p d : ℕ) (h : Description) → held (r ∷ past) p d ≡ Some h → h.queue ≡ k → is_needed past k ≡ true
-    was-held p d h is on = split (r.entry.process == p)
+    was-held p d h is on = split (shares r.entry.process p)
         (λ own. let after : held_after past r.entry.call r.payload r.entry.reply d (held past p d) ≡ Some h = rw own at is in
         after-cases _ past r.entry.call r.payload r.entry.reply d (held past p d) h after
         (λ j was same. held-by past p d k j was (same ∙ on))
@@ -239,8 +241,8 @@ module _ (to : ℕ → ℕ) (x y : Past) (p : ℕ) (call : Call) (payload : List
       ∙ ap (option_map (renumbered onto)) (held-shape x call payload a d (held x p d))
 
   descriptors-stay : (k d : ℕ) → held (ry ∷ y) k d ≡ option_map (renumbered onto) (held (rx ∷ x) k d)
-  descriptors-stay k d = split (p == k)
-      (λ t. rw t (subst (λ (j : ℕ). held_after y call payload b d (held y j d) ≡ option_map (renumbered onto) (held_after x call payload a d (held x j d))) (eqb-true _ _ t) (own-held d)))
+  descriptors-stay k d = split (shares p k)
+      (λ t. let mates = eqb-true _ _ t in rw (t, ← held-mates y p k mates d, ← held-mates x p k mates d) (own-held d))
       (λ f. rw f (held-before k d))
 
   -- the queues

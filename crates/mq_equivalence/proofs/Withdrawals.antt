@@ -7,7 +7,7 @@ use Rattle.mq_model.specs.Record.{Record, Past, record_at}
 use Rattle.mq_model.specs.Messages.{blocked_receives, blocked_sends, ended_receives, ended_sends, is_in, waiting_receives, waiting_sends}
 use Rattle.mq_model.specs.Waits.{open_wait}
 use Rattle.mq_model.specs.Legality.{Legal}
-use Rattle.mq_model.specs.declared.owners.WaitKind.TheVariants.{Send, Receive}
+use Rattle.mq_model.specs.declared.callers.WaitKind.TheVariants.{Send, Receive}
 use Rattle.mq_model.specs.declared.entries.Call.{Call}
 use Rattle.mq_model.specs.declared.entries.Reply.TheVariants.{Withdrawn}
 use Rattle.mq_model.proofs.Places.{split, is_in-filter}

@@ -6,4 +6,3 @@ pub mod Structure
 pub mod Outline
 pub mod Equivalence
 pub mod Runs
-pub mod Scans

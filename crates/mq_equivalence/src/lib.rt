@@ -16,7 +16,6 @@ ghost use Rattle.mq_equivalence.specs.Runs.{Request, after_calls};
 pub mod keys;
 pub mod lines;
 mod naming;
-mod notices;
 pub mod parts;
 pub mod scans;
 pub mod short;

@@ -1,25 +1,23 @@
 //! The parts of a key.
 #![tactic(auto, using(crate::proofs::Appends::appends))]
 
-ghost use Rattle.std.specs.Prelude.{◌≡◌, ◌≤◌, ◌<◌, ◌^◌, ◌++◌, IfOk, None, Some, if◌then◌else◌, length, map};
-ghost use Rattle.std.specs.Option.{option_map};
+ghost use Rattle.std.specs.Prelude.{◌≡◌, ◌≤◌, ◌<◌, ◌^◌, ◌++◌, IfOk, IsTrue, None, Some, if◌then◌else◌, length, map};
+ghost use Rattle.std.specs.Option.{option_map, option_to_list};
 ghost use Rattle.mq_model.specs.Names.{attributes};
-ghost use Rattle.mq_model.specs.Descriptors.{held, numbers_from};
-ghost use Rattle.mq_model.specs.Notices.{notices, registered};
-ghost use Rattle.mq_equivalence.specs.Views.{answer, at, author, bound_name, sender, sent, told, unplaced, unsent};
+ghost use Rattle.mq_model.specs.Descriptors.{alive, held, numbers_from};
+ghost use Rattle.mq_model.specs.Messages.{is_in};
+ghost use Rattle.mq_model.specs.Notices.{notices};
+ghost use Rattle.mq_equivalence.specs.Views.{answer, at, author, sender, sent, told, unplaced, unsent};
 ghost use Rattle.mq_equivalence.specs.Key.{above_number, access_number, bytes_code, deadline_code, description_code, index_of, limits_code, listed, message_code, number, number_bound, optional, process_bound, process_code, queue_code, queues_by_name, registered_code, sender_code, signed, test};
-ghost use Rattle.mq_equivalence.specs.Kinds.{IsLeft, kind_code, place_code};
-ghost use Rattle.mq_equivalence.specs.Scans.{IsScanned};
+ghost use Rattle.mq_equivalence.specs.Kinds.{kind_code, place_code};
 
-use crate::naming::is_named;
-use crate::notices::{notices, registers};
-use crate::scans::{answered_by, wait_deadline, waiting_room};
-use crate::standing::{Kind, Left, in_order, left_of};
-use mq_checker::scan_names::{entry_at, held};
-use mq_checker::scan_notices::registered;
+use crate::naming::bound_name;
+use crate::standing::{Kind, in_order};
+use mq_checker::scan_names::entry_at;
 use mq_model::entries::{Access, Attr, Deadline, Description, Entry, Registration, Reply};
 use mq_model::error_order::{DEFAULT_ATTRIBUTES, attributes_given};
 use mq_model::journals::Journal;
+use mq_state::trail::Trail;
 use std::alloc::{AllocError, Global};
 use std::cmp;
 
@@ -206,25 +204,39 @@ fn push_place(
     }
 }
 
-// Appends everything of a kind that queue `q` has.
-fn push_kind(
-    alloc: Global,
+// Appends what of a kind is at these places.
+fn push_places(
     key: &mut Vec<u64>,
     journal: &Journal,
     received: bool,
-    left: &Left,
+    kind: Kind,
+    places: &[u64],
+) -> Result<(), AllocError>
+    ensures { IfOk result (λ _. key.new.items ≡ key.old.items
+        ++ listed (place_code received kind journal.now.records) places.now) }
+{
+    push_number(key, places.len() as u64)?;
+    for i in 0..places.len() {
+        push_place(key, journal, received, kind, places[i])?;
+    }
+    Ok(())
+}
+
+// Appends everything of a kind that queue `q` has, which exists.
+fn push_kind(
+    alloc: Global,
+    key: &mut Vec<u64>,
+    trail: &Trail,
+    received: bool,
     kind: Kind,
     q: u64,
 ) -> Result<(), AllocError>
-    requires { IsLeft kind journal.now.records left.now }
+    requires { IsTrue (is_in (alive trail.now) q) }
     ensures { IfOk result (λ _. key.new.items ≡ key.old.items
-        ++ kind_code received kind journal.now.records q) }
+        ++ kind_code received kind trail.now q) }
 {
-    let places = in_order(alloc, journal, left, kind, q)?;
-    push_number(key, places.len() as u64)?;
-    for place in &places {
-        push_place(key, journal, received, kind, *place)?;
-    }
+    let places = in_order(alloc, trail, kind, q)?;
+    push_places(key, trail.journal(), received, kind, &places)?;
     Ok(())
 }
 
@@ -238,20 +250,16 @@ fn attributes(journal: &Journal, q: u64) -> Attr
 }
 
 // Appends the name of a queue, if it is still bound to it.
-fn push_name(key: &mut Vec<u64>, journal: &Journal, q: u64) -> Result<(), AllocError>
+fn push_name(key: &mut Vec<u64>, name: Option<&[u8]>) -> Result<(), AllocError>
     ensures { IfOk result (λ _. key.new.items ≡ key.old.items
-        ++ optional bytes_code (bound_name journal.now.records q)) }
+        ++ optional bytes_code (option_map (λ bytes. bytes.now) name.entry)) }
 {
-    let n = journal.len();
-    if q >= n {
-        return push_number(key, 0);
-    }
-    let (_, name) = journal.record(q);
-    if is_named(journal, n, q) {
-        push_number(key, 1)?;
-        push_listed_bytes(key, name)
-    } else {
-        push_number(key, 0)
+    match name {
+        None => push_number(key, 0),
+        Some(name) => {
+            push_number(key, 1)?;
+            push_listed_bytes(key, name)
+        }
     }
 }
 
@@ -273,84 +281,25 @@ fn push_registration(
     }
 }
 
-/// What is left of each kind, and whether a call registers a process for notification.
-#[derive(Drop)]
-pub(crate) struct Scanned {
-    messages: Left,
-    senders: Left,
-    receivers: Left,
-    registers: bool,
-}
-
-/// What the keys of all queues and processes need, by a few scans.
-pub(crate) fn scan(alloc: Global, journal: &Journal) -> Result<Scanned, AllocError>
-    ensures { IfOk result (IsScanned journal.now.records) }
-{
-    let messages = left_of(alloc, journal, Kind::Messages)?;
-    let senders = left_of(alloc, journal, Kind::Senders)?;
-    let receivers = left_of(alloc, journal, Kind::Receivers)?;
-    Ok(Scanned {
-        messages,
-        senders,
-        receivers,
-        registers: registers(journal),
-    })
-}
-
-// The registration on queue `q`.
-fn registered_if(journal: &Journal, scanned: &Scanned, q: u64) -> Option<Registration>
-    requires { IsScanned journal.now.records scanned.now }
-    ensures { result ≡ registered journal.now.records q }
-{
-    if !scanned.registers {
-        return None;
-    }
-    registered(journal, journal.len(), q)
-}
-
-/// Appends a queue: its name, its limits, its messages, the waits on it, and its registration.
+/// Appends a queue that exists: its name, its limits, its messages, the waits on it, and its
+/// registration.
 pub(crate) fn push_queue(
     alloc: Global,
     key: &mut Vec<u64>,
-    journal: &Journal,
-    scanned: &Scanned,
+    trail: &Trail,
     received: bool,
     q: u64,
 ) -> Result<(), AllocError>
-    requires { IsScanned journal.now.records scanned.now }
+    requires { IsTrue (is_in (alive trail.now) q) }
     ensures { IfOk result (λ _. key.new.items ≡ key.old.items
-        ++ queue_code received journal.now.records q) }
+        ++ queue_code received trail.now q) }
 {
-    push_name(key, journal, q)?;
-    push_limits(key, attributes(journal, q))?;
-    push_kind(
-        alloc,
-        key,
-        journal,
-        received,
-        &scanned.messages,
-        Kind::Messages,
-        q,
-    )?;
-    push_kind(
-        alloc,
-        key,
-        journal,
-        received,
-        &scanned.senders,
-        Kind::Senders,
-        q,
-    )?;
-    push_kind(
-        alloc,
-        key,
-        journal,
-        received,
-        &scanned.receivers,
-        Kind::Receivers,
-        q,
-    )?;
-    push_registration(key, registered_if(journal, scanned, q))
+    push_name(key, bound_name(trail, q))?;
+    push_limits(key, attributes(trail.journal(), q))?;
+    push_kind(alloc, key, trail, received, Kind::Messages, q)?;
+    push_kind(alloc, key, trail, received, Kind::Senders, q)?;
+    push_kind(alloc, key, trail, received, Kind::Receivers, q)?;
+    push_registration(key, trail.registration(q))
 }
 
 // Appends what the entry at a place hands to the process whose wait it answers.
@@ -385,15 +334,15 @@ fn push_message_if(
     }
 }
 
-fn push_answer(key: &mut Vec<u64>, journal: &Journal, p: u32) -> Result<(), AllocError>
+fn push_answer(key: &mut Vec<u64>, trail: &Trail, p: u32) -> Result<(), AllocError>
     ensures { IfOk result (λ _. key.new.items ≡ key.old.items
-        ++ optional (optional (optional message_code)) (answer journal.now.records p)) }
+        ++ optional (optional (optional message_code)) (answer trail.now p)) }
 {
-    match answered_by(journal, journal.len(), p) {
+    match trail.answer(p) {
         None => push_number(key, 0),
         Some(by) => {
             push_number(key, 1)?;
-            push_told(key, journal, by)
+            push_told(key, trail.journal(), by)
         }
     }
 }
@@ -424,25 +373,25 @@ fn push_deadline(key: &mut Vec<u64>, until: Option<Deadline>) -> Result<(), Allo
     }
 }
 
-// Appends the notices that process `p` has not yet taken.
-fn push_notices(
-    alloc: Global,
-    key: &mut Vec<u64>,
-    journal: &Journal,
-    scanned: &Scanned,
-    p: u32,
-) -> Result<(), AllocError>
-    requires { IsScanned journal.now.records scanned.now }
-    ensures { IfOk result (λ _. key.new.items ≡ key.old.items
-        ++ listed number (notices journal.now.records p)) }
+// Appends a number, if there is one.
+fn push_some(key: &mut Vec<u64>, value: Option<u64>) -> Result<(), AllocError>
+    ensures { IfOk result (λ _. key.new.items ≡ key.old.items ++ option_to_list value) }
 {
-    if !scanned.registers {
-        return push_number(key, 0);
+    if let Some(value) = value {
+        push_number(key, value)?;
     }
-    let values = notices(alloc, journal, p)?;
-    push_number(key, values.len() as u64)?;
-    for value in &values {
-        push_number(key, *value)?;
+    Ok(())
+}
+
+// Appends the notices that process `p` has not yet taken.
+fn push_notices(key: &mut Vec<u64>, trail: &Trail, p: u32) -> Result<(), AllocError>
+    ensures { IfOk result (λ _. key.new.items ≡ key.old.items
+        ++ listed number (notices trail.now p)) }
+{
+    let count = trail.notice_count(p);
+    push_number(key, count as u64)?;
+    for index in 0..count {
+        push_some(key, trail.notice(p, index))?;
     }
     Ok(())
 }
@@ -450,7 +399,7 @@ fn push_notices(
 // Appends what process `p` holds under each number below `width`.
 fn push_holdings(
     key: &mut Vec<u64>,
-    journal: &Journal,
+    trail: &Trail,
     queues: &[u64],
     width: u64,
     p: u32,
@@ -458,11 +407,11 @@ fn push_holdings(
     requires { width ≤ 2 ^ 32 }
     ensures { IfOk result (λ _. key.new.items ≡ key.old.items
         ++ listed (optional (description_code queues.now))
-        (map (held journal.now.records p) (numbers_from 0 width))) }
+        (map (held trail.now p) (numbers_from 0 width))) }
 {
     push_number(key, width)?;
     for d in 0..width {
-        push_held(key, queues, held(journal, journal.len(), p, d as u32))?;
+        push_held(key, queues, trail.held(p, d as u32))?;
     }
     Ok(())
 }
@@ -470,44 +419,39 @@ fn push_holdings(
 /// Appends a process: the buffer length and the deadline of its open wait, what answered the wait,
 /// its notices, and what it holds of these queues under each number below `width`.
 pub(crate) fn push_process(
-    alloc: Global,
     key: &mut Vec<u64>,
-    journal: &Journal,
-    scanned: &Scanned,
+    trail: &Trail,
     queues: &[u64],
     width: u64,
     p: u32,
 ) -> Result<(), AllocError>
-    requires scanned { IsScanned journal.now.records scanned.now }
     requires bound { width ≤ 2 ^ 32 }
-    requires queues { queues.now ≡ queues_by_name journal.now.records }
+    requires queues { queues.now ≡ queues_by_name trail.now }
     ensures { IfOk result (λ _. key.new.items ≡ key.old.items
-        ++ process_code width journal.now.records p) }
+        ++ process_code width trail.now p) }
 {
-    let n = journal.len();
-    push_room(key, waiting_room(journal, n, p))?;
-    push_deadline(key, wait_deadline(journal, n, p))?;
-    push_answer(key, journal, p)?;
-    push_notices(alloc, key, journal, scanned, p)?;
-    push_holdings(key, journal, queues, width, p)
+    push_room(key, trail.waiting_room(p))?;
+    push_deadline(key, trail.deadline(p))?;
+    push_answer(key, trail, p)?;
+    push_notices(key, trail, p)?;
+    push_holdings(key, trail, queues, width, p)
 }
 
 /// Appends the queues that exist.
 pub(crate) fn push_queues(
     alloc: Global,
     key: &mut Vec<u64>,
-    journal: &Journal,
-    scanned: &Scanned,
+    trail: &Trail,
     received: bool,
     queues: &[u64],
 ) -> Result<(), AllocError>
-    requires { IsScanned journal.now.records scanned.now }
+    requires { queues.now ≡ queues_by_name trail.now }
     ensures { IfOk result (λ _. key.new.items ≡ key.old.items
-        ++ listed (queue_code received journal.now.records) queues.now) }
+        ++ listed (queue_code received trail.now) queues.now) }
 {
     push_number(key, queues.len() as u64)?;
-    for q in queues {
-        push_queue(alloc, key, journal, scanned, received, *q)?;
+    for i in 0..queues.len() {
+        push_queue(alloc, key, trail, received, queues[i])?;
     }
     Ok(())
 }
@@ -550,24 +494,21 @@ pub fn number_bound(journal: &Journal) -> u64
 
 /// Appends the processes below `count`.
 pub(crate) fn push_processes(
-    alloc: Global,
     key: &mut Vec<u64>,
-    journal: &Journal,
-    scanned: &Scanned,
+    trail: &Trail,
     queues: &[u64],
     count: u64,
     width: u64,
 ) -> Result<(), AllocError>
-    requires scanned { IsScanned journal.now.records scanned.now }
     requires count { count ≤ 2 ^ 32 }
     requires width { width ≤ 2 ^ 32 }
-    requires queues { queues.now ≡ queues_by_name journal.now.records }
+    requires queues { queues.now ≡ queues_by_name trail.now }
     ensures { IfOk result (λ _. key.new.items ≡ key.old.items
-        ++ listed (process_code width journal.now.records) (numbers_from 0 count)) }
+        ++ listed (process_code width trail.now) (numbers_from 0 count)) }
 {
     push_number(key, count)?;
     for p in 0..count {
-        push_process(alloc, key, journal, scanned, queues, width, p as u32)?;
+        push_process(key, trail, queues, width, p as u32)?;
     }
     Ok(())
 }

@@ -24,8 +24,8 @@ use Rattle.mq_laws.proofs.LegalPlaces.{has-record, has-here, has-cases, record-o
 use Rattle.mq_model.specs.declared.entries.Call.{Call}
 use Rattle.mq_model.specs.declared.entries.Reply.{Reply}
 use Rattle.mq_model.specs.declared.entries.Reply.TheVariants.{Queued, Handed, Waits, Got, Withdrawn}
-use Rattle.mq_model.specs.declared.owners.WaitKind.{WaitKind}
-use Rattle.mq_model.specs.declared.owners.WaitKind.TheVariants.{Send, Receive}
+use Rattle.mq_model.specs.declared.callers.WaitKind.{WaitKind}
+use Rattle.mq_model.specs.declared.callers.WaitKind.TheVariants.{Send, Receive}
 
 pub with-first : (k : ℕ) (xs : List ℕ) → is_in (with_place (Some k) xs) k ≡ true
 with-first k xs = rw (eq-eqb k k refl) refl

@@ -1,8 +1,9 @@
 -- A queue that ceased to exist never exists again.
 use Rattle.std.proofs.lemmas.Bool.Decides.{nat_tests}
-use Rattle.std.proofs.Common.{◌≡◌, ℕ, suc, ◌<◌, ◌≤◌, ◌==◌, Bool, true, false, ◌&&◌, ◌||◌, not, List, [], ◌∷◌, length, Option, Some, None, is_some, refl, sym, ◌∙◌, ap, subst, arith, ◌⊎◌, inl, inr, ◌-◌, leb-true, leb-false, rules, nat_le, unwrap_or}
+use Rattle.std.proofs.Common.{◌≡◌, ℕ, suc, ◌<◌, ◌≤◌, Bool, true, false, ◌&&◌, ◌||◌, not, List, [], ◌∷◌, length, Option, Some, None, is_some, refl, sym, ◌∙◌, ap, subst, arith, ◌⊎◌, inl, inr, ◌-◌, leb-true, leb-false, rules, nat_le, unwrap_or}
 use Rattle.std.specs.Str.{bytes_eq}
 use Rattle.std.proofs.lemmas.Bool.{not-true, false_from_ne_true}
+use Rattle.mq_model.specs.Threads.{shares}
 use Rattle.mq_model.specs.Record.{Record, Past, record_at, first}
 use Rattle.mq_model.specs.Names.{creates, unlinks, bound_queue, name_of}
 use Rattle.mq_model.specs.Descriptors.{held, held_after, opened_queue, created, alive, is_named, is_held}
@@ -35,7 +36,7 @@ needed-before past r legal q lt e = split (is_named (r ∷ past) q)
     (λ t. by-name (bound_queue-before (name_of (r ∷ past) q) (named-bound (r ∷ past) q t)))
     (λ f. let holds : is_held (r ∷ past) q ≡ true = rw f at e in
     let x = is_held-holder (r ∷ past) q holds in
-    split (r.entry.process == x.process)
+    split (shares r.entry.process x.process)
     (λ own. let after : held_after past r.entry.call r.payload r.entry.reply x.d (held past x.process x.d) ≡ Some x.description = rw own at x.held in
     after-cases _ past r.entry.call r.payload r.entry.reply x.d (held past x.process x.d) x.description after
     (λ k was same. by-hold (held-is_held past x.process x.d q k was (same ∙ x.on)))

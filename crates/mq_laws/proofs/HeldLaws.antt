@@ -1,14 +1,18 @@
 -- What the processes held at the sends, receives, collects and withdrawals of a legal journal, and
 -- which messages its receives got.
 use Rattle.std.proofs.lemmas.Bool.Decides.{nat_tests}
-use Rattle.std.proofs.Common.{◌≡◌, ℕ, ◌<◌, ◌==◌, Bool, true, false, not, [], ◌∷◌, length, Some, is_some, refl, ◌∙◌, ap, arith, unwrap_or}
+use Rattle.std.proofs.Common.{◌≡◌, ℕ, ◌<◌, ◌==◌, Bool, true, false, not, ◌||◌, [], ◌∷◌, length, Some, is_some, refl, sym, ◌∙◌, ap, arith, eqb-true, unwrap_or}
 use Rattle.mq_model.specs.Record.{Past, first}
 use Rattle.mq_model.specs.Descriptors.{held, descriptor_of, called_queue}
 use Rattle.mq_model.specs.Messages.{is_send, is_receive}
 use Rattle.mq_model.specs.Waits.{open_wait, answered_by}
 use Rattle.mq_model.specs.ErrorOrder.{is_read_only, is_write_only}
 use Rattle.mq_model.specs.Legality.{Legal, is_refused, may_call}
-use Rattle.mq_laws.specs.Laws.{message_given, GivesBest, HoldsDescriptors}
+use Rattle.mq_laws.specs.Laws.{message_given, is_lone, GivesBest, HoldsDescriptors}
+use Rattle.mq_model.specs.Threads.{shares}
+use Rattle.mq_model.specs.Record.{Record}
+use Rattle.mq_model.proofs.Mates.{shares_self}
+use Rattle.std.proofs.lemmas.Bool.{and_parts}
 use Rattle.mq_model.proofs.Places.{split}
 use Rattle.mq_model.proofs.Cases.{Says, SendSays, ReceiveSays}
 use Rattle.mq_model.proofs.LegalReplies.{legal_says, got_says}
@@ -62,25 +66,39 @@ send-holds past p d prio len reply says e = grind arith
 receive-holds : (past : Past) (p d room : ℕ) (reply : Reply) → ReceiveSays past (held past p d) room reply → is_refused reply ≡ false → IsHeldWith past p d (λ h. not (is_write_only h.access))
 receive-holds past p d room reply says e = grind arith
 
--- a process that waits holds what it held when its wait began
-pub wait-holds : (past : Past) (p w : ℕ) → open_wait past p ≡ Some w → (d : ℕ) → held past p d ≡ held (first w past) p d
-wait-holds [] p w e d = absurd (cc)
-wait-holds (r ∷ past) p w e d = split (r.entry.process == p)
-    (λ own. grind (arith, nat_tests, first-older, first-all))
+lone-parts : (past : Past) (r : Record) (p : ℕ) → is_lone (r ∷ past) p ≡ true → ((r.entry.process == p) ≡ false → shares r.entry.process p ≡ false) × (is_lone past p ≡ true)
+lone-parts past r p e =
+    let parts = and_parts (not (shares r.entry.process p) || r.entry.process == p) (is_lone past p) e in
+    (λ other. apart (shares r.entry.process p) (r.entry.process == p) parts.0 other, parts.1)
+  where
+    apart : (a b : Bool) → (not a || b) ≡ true → b ≡ false → a ≡ false
+    apart a b h f = grind arith
+
+-- a process with one thread that waits holds what it held when its wait began
+pub wait-holds : (past : Past) (p w : ℕ) → open_wait past p ≡ Some w → is_lone past p ≡ true → (d : ℕ) → held past p d ≡ held (first w past) p d
+wait-holds [] p w e lone d = absurd (cc)
+wait-holds (r ∷ past) p w e lone d = split (r.entry.process == p)
+    (λ own.
+    let same : r.entry.process ≡ p = eqb-true _ _ own in
+    let shared : shares r.entry.process p ≡ true = rw same (shares_self p) in
+    grind (arith, nat_tests, first-older, first-all))
     (λ other.
     let old : open_wait past p ≡ Some w = rw other at e in
-    grind (arith, nat_tests, open_wait-below, first-older, wait-holds past p w old d))
+    let parts = lone-parts past r p lone in
+    let apart : shares r.entry.process p ≡ false = parts.0 other in
+    let lt = open_wait-below past p w old in
+    rw apart (wait-holds past p w old parts.1 d ∙ ap (λ before. held before p d) (sym (first-older past r w (omega (arith, lt))))))
 
 -- an answered process waits
 pub answered-waits : (past : Past) (p : ℕ) → is_some (answered_by past p) ≡ true → (w : ℕ) × (open_wait past p ≡ Some w)
 answered-waits past p t = grind (arith, answered_by-none)
 
 -- the same for a wait that is open at a place
-wait-held : (past : Past) (k p w : ℕ) → k < length past → open_wait (first k past) p ≡ Some w → (d : ℕ) → held (first k past) p d ≡ held (first w past) p d
-wait-held past k p w below e d =
+wait-held : (past : Past) (k p w : ℕ) → k < length past → open_wait (first k past) p ≡ Some w → is_lone (first k past) p ≡ true → (d : ℕ) → held (first k past) p d ≡ held (first w past) p d
+wait-held past k p w below e lone d =
     let lt = open_wait-below (first k past) p w e in
     let same : first w (first k past) ≡ first w past = first-first past w k (let long = length-first k past (omega (arith, below)) in omega (arith, lt, long)) in
-    wait-holds (first k past) p w e d ∙ ap (λ before. held before p d) same
+    wait-holds (first k past) p w e lone d ∙ ap (λ before. held before p d) same
 
 pub holds-descriptors : (past : Past) → Legal past → HoldsDescriptors past
 holds-descriptors past legal = record {

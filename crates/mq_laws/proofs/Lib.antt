@@ -9,9 +9,14 @@ pub mod GoneQueues
 pub mod SendingOrder
 pub mod Refusals
 pub mod Registered
+pub mod AsBefore
+pub mod LegalBefore
+pub mod Sharing
+pub mod OneWait
 pub mod Needing
 pub mod Needs
 pub mod WorkedJournals
 pub mod WorkedWaits
 pub mod WorkedDeadlines
 pub mod WorkedRefusals
+pub mod WorkedThreads

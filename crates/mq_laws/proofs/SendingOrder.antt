@@ -30,7 +30,7 @@ use Rattle.mq_laws.proofs.GoneQueues.{same-queue, sent-first}
 use Rattle.mq_model.specs.declared.entries.Call.{Call}
 use Rattle.mq_model.specs.declared.entries.Reply.{Reply}
 use Rattle.mq_model.specs.declared.entries.Reply.TheVariants.{Queued, Handed, Waits, Got, Withdrawn}
-use Rattle.mq_model.specs.declared.owners.WaitKind.TheVariants.{Send}
+use Rattle.mq_model.specs.declared.callers.WaitKind.TheVariants.{Send}
 use Rattle.mq_model.proofs.HeldQueues.{in-filter}
 
 abbrev rec : ℕ → Call → Reply → List ℕ → Record

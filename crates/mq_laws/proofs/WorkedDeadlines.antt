@@ -1,6 +1,7 @@
 -- A worked journal with deadlines, latest entry first: it is legal, by computation. Withdrawals
 -- that are not legal follow.
 use Rattle.std.proofs.Common.{ℕ, [], ◌∷◌, refl, true, false, Some, None, pos, negsuc, codes}
+use Rattle.mq_model.specs.Threads.{owner_of}
 use Rattle.mq_model.specs.Record.{Past}
 use Rattle.mq_model.specs.Descriptors.{descriptor_numbers}
 use Rattle.mq_model.specs.Legality.{Legal, IsLegalNext}
@@ -38,17 +39,17 @@ deadlines_pass =
     send_waits
 
 pub deadlines_pass-legal : Legal deadlines_pass
-unfolding descriptor_numbers
+unfolding descriptor_numbers owner_of
 deadlines_pass-legal = legal-by-replies deadlines_pass refl refl
 
 -- a withdrawal before the deadline
 pub early_withdrawal-refused : IsLegalNext send_waits (made 2 (Withdraw (second 9)) (Withdrawn 5) []) → ⊥
-unfolding descriptor_numbers
+unfolding descriptor_numbers owner_of
 early_withdrawal-refused h = let wrong = h.turn in cc
 
 -- a withdrawal by a process that does not wait
 pub idle_withdrawal-refused : IsLegalNext send_waits (made 1 (Withdraw (second 10)) (Withdrawn 5) []) → ⊥
-unfolding descriptor_numbers
+unfolding descriptor_numbers owner_of
 idle_withdrawal-refused h = let wrong = h.turn in cc
 
 -- a withdrawal of a wait that an entry names
@@ -58,10 +59,10 @@ send_admitted =
     send_waits
 
 pub answered_withdrawal-refused : IsLegalNext send_admitted (made 2 (Withdraw (second 10)) (Withdrawn 5) []) → ⊥
-unfolding descriptor_numbers
+unfolding descriptor_numbers owner_of
 answered_withdrawal-refused h = let wrong = h.turn in cc
 
 -- a collect of a wait that no entry names, though its deadline has passed
 pub unanswered_collect-refused : IsLegalNext send_waits (made 2 Collect (Collected 5) []) → ⊥
-unfolding descriptor_numbers
+unfolding descriptor_numbers owner_of
 unanswered_collect-refused h = let wrong = h.turn in cc

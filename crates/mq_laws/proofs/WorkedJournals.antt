@@ -1,6 +1,7 @@
 -- Worked journals, latest entry first: each is legal, by computation.
 use Rattle.std.proofs.Common.{ℕ, ℤ, List, [], ◌∷◌, refl, Bool, true, false, Some, None, arith, ◌≡◌, ◌&&◌, nat_le, pos, negsuc, codes, replicate}
-use Rattle.mq_model.specs.Limits.{most_processes}
+use Rattle.mq_model.specs.Threads.{owner_of}
+use Rattle.mq_model.specs.Limits.{most_callers}
 use Rattle.mq_model.specs.Record.{Record, Past}
 use Rattle.mq_model.specs.Descriptors.{descriptor_numbers}
 use Rattle.mq_model.specs.Legality.{Legal, is_payload, may_call, reply_to}
@@ -33,7 +34,7 @@ abbrev pub are_made : Past → Bool
 are_made [] = true
 are_made (r ∷ past) =
     are_made past
-    && nat_le 1 r.entry.process && nat_le r.entry.process most_processes
+    && nat_le 1 r.entry.process && nat_le r.entry.process most_callers
     && may_call past r.entry.process r.entry.call
     && is_payload r.entry.call r.entry.reply r.payload
 
@@ -51,7 +52,7 @@ all-of-five a b c d e h = grind arith
 pub legal-by-replies : (past : Past) → are_made past ≡ true → replies past ≡ due_replies past → Legal past
 legal-by-replies [] made due = tt
 legal-by-replies (r ∷ past) made due =
-    let all = all-of-five (are_made past) (nat_le 1 r.entry.process) (nat_le r.entry.process most_processes) (may_call past r.entry.process r.entry.call) (is_payload r.entry.call r.entry.reply r.payload) made in
+    let all = all-of-five (are_made past) (nat_le 1 r.entry.process) (nat_le r.entry.process most_callers) (may_call past r.entry.process r.entry.call) (is_payload r.entry.call r.entry.reply r.payload) made in
     let reply : r.entry.reply ≡ reply_to past r.entry.process r.entry.call r.payload = cc in
     let before : replies past ≡ due_replies past = cc in
     (legal-by-replies past all.0 before, record { process = all.1; turn = all.2; payload = all.3; reply = reply })
@@ -67,7 +68,7 @@ two_of_one_priority =
     []
 
 pub two_of_one_priority-legal : Legal two_of_one_priority
-unfolding descriptor_numbers
+unfolding descriptor_numbers owner_of
 two_of_one_priority-legal = legal-by-replies two_of_one_priority refl refl
 
 -- the highest priority leaves first; 32,768 is not a priority
@@ -84,7 +85,7 @@ highest_priority_first =
     []
 
 pub highest_priority_first-legal : Legal highest_priority_first
-unfolding descriptor_numbers
+unfolding descriptor_numbers owner_of
 highest_priority_first-legal = legal-by-replies highest_priority_first refl refl
 
 -- messages of 0 to msgsize bytes; a receive with a shorter buffer fails
@@ -101,7 +102,7 @@ message_sizes =
     []
 
 pub message_sizes-legal : Legal message_sizes
-unfolding descriptor_numbers
+unfolding descriptor_numbers owner_of
 message_sizes-legal = legal-by-replies message_sizes refl refl
 
 -- with a nonblocking descriptor a call fails when it would wait; setattr returns the attributes
@@ -118,7 +119,7 @@ nonblocking =
     []
 
 pub nonblocking-legal : Legal nonblocking
-unfolding descriptor_numbers
+unfolding descriptor_numbers owner_of
 nonblocking-legal = legal-by-replies nonblocking refl refl
 
 -- access modes, closed descriptors, and the lowest free number
@@ -137,7 +138,7 @@ access_modes =
     []
 
 pub access_modes-legal : Legal access_modes
-unfolding descriptor_numbers
+unfolding descriptor_numbers owner_of
 access_modes-legal = legal-by-replies access_modes refl refl
 
 -- an unlinked queue exists while it is held, beside a new one of the same name
@@ -156,7 +157,7 @@ unlinked_queue =
     []
 
 pub unlinked_queue-legal : Legal unlinked_queue
-unfolding descriptor_numbers
+unfolding descriptor_numbers owner_of
 unlinked_queue-legal = legal-by-replies unlinked_queue refl refl
 
 -- attributes are checked only if a queue is created
@@ -178,7 +179,7 @@ attributes_given =
     []
 
 pub attributes_given-legal : Legal attributes_given
-unfolding descriptor_numbers
+unfolding descriptor_numbers owner_of
 attributes_given-legal = legal-by-replies attributes_given refl refl
 
 -- a queue without descriptors exists until its unlink
@@ -198,7 +199,7 @@ queue_outlives_descriptors =
     []
 
 pub queue_outlives_descriptors-legal : Legal queue_outlives_descriptors
-unfolding descriptor_numbers
+unfolding descriptor_numbers owner_of
 queue_outlives_descriptors-legal = legal-by-replies queue_outlives_descriptors refl refl
 
 -- which process may register and remove, and what a close ends
@@ -225,7 +226,7 @@ registrations =
     []
 
 pub registrations-legal : Legal registrations
-unfolding descriptor_numbers
+unfolding descriptor_numbers owner_of
 registrations-legal = legal-by-replies registrations refl refl
 
 -- no send works with a closed descriptor
@@ -240,7 +241,7 @@ closed_descriptor =
     []
 
 pub closed_descriptor-legal : Legal closed_descriptor
-unfolding descriptor_numbers
+unfolding descriptor_numbers owner_of
 closed_descriptor-legal = legal-by-replies closed_descriptor refl refl
 
 -- a message that arrives at a queue that is not empty leaves the registration, and two notices come
@@ -264,7 +265,7 @@ pending_notices =
     []
 
 pub pending_notices-legal : Legal pending_notices
-unfolding descriptor_numbers
+unfolding descriptor_numbers owner_of
 pending_notices-legal = legal-by-replies pending_notices refl refl
 
 -- a removal on one queue leaves a registration on another, and works through any descriptor for its
@@ -284,7 +285,7 @@ removal_of_one_queue =
     []
 
 pub removal_of_one_queue-legal : Legal removal_of_one_queue
-unfolding descriptor_numbers
+unfolding descriptor_numbers owner_of
 removal_of_one_queue-legal = legal-by-replies removal_of_one_queue refl refl
 
 -- a name has up to 255 bytes after its slash
@@ -295,5 +296,5 @@ longest_name =
     []
 
 pub longest_name-legal : Legal longest_name
-unfolding descriptor_numbers
+unfolding descriptor_numbers owner_of
 longest_name-legal = legal-by-replies longest_name refl refl

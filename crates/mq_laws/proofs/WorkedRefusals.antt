@@ -1,5 +1,6 @@
 -- Worked counterexamples: none of these records may follow these journals, by computation.
 use Rattle.std.proofs.Common.{[], ◌∷◌, true, false, Some, None, pos, codes, replicate}
+use Rattle.mq_model.specs.Threads.{owner_of}
 use Rattle.mq_model.specs.Record.{Past}
 use Rattle.mq_model.specs.Descriptors.{descriptor_numbers}
 use Rattle.mq_model.specs.Legality.{IsLegalNext}
@@ -18,7 +19,7 @@ exchanged_receives =
     []
 
 pub exchanged_receives-refused : IsLegalNext exchanged_receives (made 1 (MqReceive 0 8) (Got 2 None None) []) → ⊥
-unfolding descriptor_numbers
+unfolding descriptor_numbers owner_of
 exchanged_receives-refused h = let wrong = h.reply in cc
 
 -- the first process is 1
@@ -27,7 +28,7 @@ no_process_0 =
     []
 
 pub no_process_0-refused : IsLegalNext no_process_0 (made 0 (opening_with Both true false false (pos 2) (pos 8)) (Opened 0 true) (codes "/q")) → ⊥
-unfolding descriptor_numbers
+unfolding descriptor_numbers owner_of
 no_process_0-refused h = let wrong = h.process in cc
 
 -- a name with a second slash
@@ -36,7 +37,7 @@ malformed_name =
     []
 
 pub malformed_name-refused : IsLegalNext malformed_name (made 1 (opening_with Both true false false (pos 2) (pos 8)) (Opened 0 true) (codes "/a/b")) → ⊥
-unfolding descriptor_numbers
+unfolding descriptor_numbers owner_of
 malformed_name-refused h = let wrong = h.payload in cc
 
 -- NoMemory has no entry
@@ -46,12 +47,12 @@ want_of_memory =
     []
 
 pub want_of_memory-refused : IsLegalNext want_of_memory (made 1 (MqSend 0 1 1) (Refused NoMemory) []) → ⊥
-unfolding descriptor_numbers
+unfolding descriptor_numbers owner_of
 want_of_memory-refused h = let wrong = h.reply in cc
 
 -- JournalFull has no entry
 pub full_journal-refused : IsLegalNext want_of_memory (made 1 (MqSend 0 1 1) (Refused JournalFull) []) → ⊥
-unfolding descriptor_numbers
+unfolding descriptor_numbers owner_of
 full_journal-refused h = let wrong = h.reply in cc
 
 -- a message without its bytes
@@ -62,7 +63,7 @@ lost_payload =
     []
 
 pub lost_payload-refused : IsLegalNext lost_payload (made 1 (MqSend 0 1 1) (Queued None) []) → ⊥
-unfolding descriptor_numbers
+unfolding descriptor_numbers owner_of
 lost_payload-refused h = let wrong = h.payload in cc
 
 -- a collect without an open wait
@@ -76,7 +77,7 @@ collect_unasked =
     []
 
 pub collect_unasked-refused : IsLegalNext collect_unasked (made 1 Collect (Collected 3) []) → ⊥
-unfolding descriptor_numbers
+unfolding descriptor_numbers owner_of
 collect_unasked-refused h = let wrong = h.turn in cc
 
 -- a collect names the entry that answered its own wait
@@ -94,7 +95,7 @@ collect_of_another =
     []
 
 pub collect_of_another-refused : IsLegalNext collect_of_another (made 1 Collect (Collected 7) []) → ⊥
-unfolding descriptor_numbers
+unfolding descriptor_numbers owner_of
 collect_of_another-refused h = let wrong = h.reply in cc
 
 -- a process with an open wait can only collect
@@ -108,7 +109,7 @@ send_while_waiting =
     []
 
 pub send_while_waiting-refused : IsLegalNext send_while_waiting (made 1 (MqSend 0 0 1) (Queued None) (codes "a")) → ⊥
-unfolding descriptor_numbers
+unfolding descriptor_numbers owner_of
 send_while_waiting-refused h = let wrong = h.turn in cc
 
 -- the unlink of a name with a second slash
@@ -117,7 +118,7 @@ malformed_unlink =
     []
 
 pub malformed_unlink-refused : IsLegalNext malformed_unlink (made 1 MqUnlink (Refused NoEntry) (codes "/a/b")) → ⊥
-unfolding descriptor_numbers
+unfolding descriptor_numbers owner_of
 malformed_unlink-refused h = let wrong = h.payload in cc
 
 -- a name with 256 bytes after its slash
@@ -126,17 +127,17 @@ name_too_long =
     []
 
 pub name_too_long-refused : IsLegalNext name_too_long (made 1 (opening Both true false false) (Opened 0 true) (47 ∷ replicate 256 97)) → ⊥
-unfolding descriptor_numbers
+unfolding descriptor_numbers owner_of
 name_too_long-refused h = let wrong = h.payload in cc
 
--- the last process is 32
-abbrev process_33 : Past
-process_33 =
+-- the last caller is 2048
+abbrev caller_2049 : Past
+caller_2049 =
     []
 
-pub process_33-refused : IsLegalNext process_33 (made 33 (opening Both true false false) (Opened 0 true) (codes "/q")) → ⊥
-unfolding descriptor_numbers
-process_33-refused h = let wrong = h.process in cc
+pub caller_2049-refused : IsLegalNext caller_2049 (made 2049 (opening Both true false false) (Opened 0 true) (codes "/q")) → ⊥
+unfolding descriptor_numbers owner_of
+caller_2049-refused h = let wrong = h.process in cc
 
 -- an open gives the lowest free number
 abbrev highest_number : Past
@@ -144,7 +145,7 @@ highest_number =
     []
 
 pub highest_number-refused : IsLegalNext highest_number (made 1 (opening Both true false false) (Opened 15 true) (codes "/q")) → ⊥
-unfolding descriptor_numbers
+unfolding descriptor_numbers owner_of
 highest_number-refused h = let wrong = h.reply in cc
 
 -- a send is handed to the receive that waits
@@ -156,7 +157,7 @@ queued_past_receive =
     []
 
 pub queued_past_receive-refused : IsLegalNext queued_past_receive (made 2 (MqSend 0 0 1) (Queued None) (codes "a")) → ⊥
-unfolding descriptor_numbers
+unfolding descriptor_numbers owner_of
 queued_past_receive-refused h = let wrong = h.reply in cc
 
 -- a message that arrives at a queue that is not empty notifies no process
@@ -168,7 +169,7 @@ notified_while_occupied =
     []
 
 pub notified_while_occupied-refused : IsLegalNext notified_while_occupied (made 1 (MqSend 0 0 1) (Queued (Some 2)) (codes "b")) → ⊥
-unfolding descriptor_numbers
+unfolding descriptor_numbers owner_of
 notified_while_occupied-refused h = let wrong = h.reply in cc
 
 -- a close ends the registration that was made with its descriptor
@@ -181,5 +182,5 @@ closed_registration =
     []
 
 pub closed_registration-refused : IsLegalNext closed_registration (made 1 (MqSend 1 0 1) (Queued (Some 2)) (codes "a")) → ⊥
-unfolding descriptor_numbers
+unfolding descriptor_numbers owner_of
 closed_registration-refused h = let wrong = h.reply in cc

@@ -1,5 +1,6 @@
 -- Worked journals with calls that wait, latest entry first: each is legal, by computation.
 use Rattle.std.proofs.Common.{[], ◌∷◌, refl, true, false, Some, None, pos, codes}
+use Rattle.mq_model.specs.Threads.{owner_of}
 use Rattle.mq_model.specs.Record.{Past}
 use Rattle.mq_model.specs.Descriptors.{descriptor_numbers}
 use Rattle.mq_model.specs.Legality.{Legal}
@@ -28,7 +29,7 @@ oldest_receive_first =
     []
 
 pub oldest_receive_first-legal : Legal oldest_receive_first
-unfolding descriptor_numbers
+unfolding descriptor_numbers owner_of
 oldest_receive_first-legal = legal-by-replies oldest_receive_first refl refl
 
 -- a waiting message that enters an emptied queue gives a notice
@@ -46,7 +47,7 @@ admission_notifies =
     []
 
 pub admission_notifies-legal : Legal admission_notifies
-unfolding descriptor_numbers
+unfolding descriptor_numbers owner_of
 admission_notifies-legal = legal-by-replies admission_notifies refl refl
 
 -- the send that has waited longest is admitted first, whatever its priority
@@ -69,7 +70,7 @@ oldest_send_first =
     []
 
 pub oldest_send_first-legal : Legal oldest_send_first
-unfolding descriptor_numbers
+unfolding descriptor_numbers owner_of
 oldest_send_first-legal = legal-by-replies oldest_send_first refl refl
 
 -- a receive that waits and a send that waits, each with its collect
@@ -87,5 +88,5 @@ blocked_calls =
     []
 
 pub blocked_calls-legal : Legal blocked_calls
-unfolding descriptor_numbers
+unfolding descriptor_numbers owner_of
 blocked_calls-legal = legal-by-replies blocked_calls refl refl

@@ -1,5 +1,6 @@
 -- The registration on a queue, as a property of whole journals (mq_notify, mq_close).
 use Rattle.std.specs.Prelude.{ℕ, ◌≡◌, ◌<◌, ◌≤◌, Option, Some, None, ◌⊎◌}
+use Rattle.mq_model.specs.Threads.{owner_of}
 use Rattle.mq_model.specs.Record.{Record, Past, record_at, first}
 use Rattle.mq_model.specs.Descriptors.{called_queue}
 use Rattle.mq_model.specs.Notices.{notified, registered}
@@ -7,17 +8,18 @@ use Rattle.mq_model.specs.declared.entries.Registration.{Registration}
 use Rattle.mq_model.specs.declared.entries.Call.TheVariants.{MqClose, MqNotify}
 use Rattle.mq_model.specs.declared.entries.Reply.TheVariants.{Done}
 
--- the record, of process p, removes the registration on queue q; `before` are the records before it
+-- the record, of a thread of p's process, removes the registration on queue q; `before` are the
+-- records before it
 pub record IsRemoval (before : Past) (r : Record) (q p : ℕ) : Type 0 where
   pub d : ℕ
-  pub process : r.entry.process ≡ p
+  pub process : owner_of r.entry.process ≡ owner_of p
   pub call : r.entry.call ≡ MqNotify d None
   pub reply : r.entry.reply ≡ Done
   pub on : called_queue before r.entry.process r.entry.call ≡ Some q
 
--- the record closes descriptor d of process p
+-- the record closes descriptor d of p's process
 pub record IsClose (r : Record) (p d : ℕ) : Type 0 where
-  pub process : r.entry.process ≡ p
+  pub process : owner_of r.entry.process ≡ owner_of p
   pub call : r.entry.call ≡ MqClose d
   pub reply : r.entry.reply ≡ Done
 

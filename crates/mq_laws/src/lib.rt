@@ -1,12 +1,15 @@
 //! The laws of every legal journal, whoever made it. Each function does nothing and takes no time:
-//! its contract is the law.
+//! its contract is the law. An entry names its caller. Callers 1 to 32 are the first threads of the
+//! processes 1 to 32, and caller o + 32 t is another thread of process o. Waits are those of
+//! callers; descriptors, registrations and notices are those of processes.
 #![tactic(auto)]
 
 ghost use Rattle.mq_model.specs.Legality.{Legal};
-ghost use Rattle.mq_laws.specs.Laws.{GivesOnce, GivesBest, LeavesInOrder, HoldsDescriptors, EndsForGood, WaitsForCause};
+ghost use Rattle.mq_laws.specs.Laws.{GivesOnce, GivesBest, LeavesInOrder, HoldsDescriptors, EndsForGood, WaitsForCause, WaitsOneAtATime};
 ghost use Rattle.mq_laws.specs.Refusals.{RefusalsChangeNothing};
 ghost use Rattle.mq_laws.specs.Registrations.{RegistersLatest};
 ghost use Rattle.mq_laws.specs.Needed.{NeedsWhatIsAsked, StaysEnough};
+ghost use Rattle.mq_laws.specs.Sharing.{AreFirst, IsAsBefore, AreThoseBefore, ThreadsShare, HoldsAlone, HoldsFirst};
 ghost use Rattle.mq_model.specs.Waits.{OthersLeave};
 
 use mq_model::journals::Journal;
@@ -36,9 +39,10 @@ pub fn leaves_in_order(journal: &Journal)
     ensures { LeavesInOrder journal.now.records }
 {}
 
-/// Each send and receive that did not fail, with or without a deadline, held its descriptor with
-/// the access mode that it needs. When a wait is collected or withdrawn, its process still holds
-/// what it held when the wait began. So a closed descriptor neither sends nor receives.
+/// The process of each send and receive that did not fail, with or without a deadline, held the
+/// descriptor with the access mode that the call needs. So no descriptor sends or receives after a
+/// thread of its process closed it. When a wait is collected or withdrawn whose caller has made all
+/// calls of its process, the process still holds what it held when the wait began.
 pub fn holds_descriptors(journal: &Journal)
     requires { Legal journal.now.records }
     ensures { HoldsDescriptors journal.now.records }
@@ -58,8 +62,15 @@ pub fn waits_for_cause(journal: &Journal)
     ensures { WaitsForCause journal.now.records }
 {}
 
-/// Entries of other processes leave the open wait of process `p` open, and an answered one
-/// answered.
+/// A caller waits in one call at a time. While it has an open wait, the only call that it makes is
+/// the one that ends it: a collect of its answer, or a withdrawal. Other threads of its process may
+/// make any call, and may wait too.
+pub fn waits_one_at_a_time(journal: &Journal)
+    requires { Legal journal.now.records }
+    ensures { WaitsOneAtATime journal.now.records }
+{}
+
+/// Entries of other callers leave the open wait of caller `p` open, and an answered one answered.
 pub fn others_leave(journal: &Journal, p: u32)
     ensures { OthersLeave journal.now.records p }
 {}
@@ -94,4 +105,36 @@ pub fn needs_what_is_asked(journal: &Journal)
 pub fn stays_enough(journal: &Journal)
     requires { Legal journal.now.records }
     ensures { StaysEnough journal.now.records }
+{}
+
+/// Threads of one process hold the same descriptors, so an open gives each the same number, and
+/// they have the same notices.
+pub fn threads_share(journal: &Journal)
+    ensures { ThreadsShare journal.now.records }
+{}
+
+/// As long as a caller waits that has made all calls of its process, the process holds what it held
+/// when the wait began.
+pub fn holds_alone(journal: &Journal)
+    ensures { HoldsAlone journal.now.records }
+{}
+
+/// In a journal of callers 1 to 32 each process holds, as long as it waits, what it held when the
+/// wait began.
+pub fn holds_first(journal: &Journal)
+    requires { AreFirst journal.now.records }
+    ensures { HoldsFirst journal.now.records }
+{}
+
+/// After calls of callers 1 to 32 alone, each definition of descriptors, queues, messages, waits,
+/// registrations and notices gives what it gives for processes with one thread, and so does the
+/// reply to each call of these callers.
+pub fn as_before(journal: &Journal)
+    requires { AreFirst journal.now.records }
+    ensures { IsAsBefore journal.now.records }
+{}
+
+/// The legal journals of callers 1 to 32 are exactly the legal ones of processes with one thread.
+pub fn those_before(journal: &Journal)
+    ensures { AreThoseBefore journal.now.records }
 {}

@@ -1,6 +1,5 @@
 -- Which queues exist after one more record.
-use Rattle.std.proofs.lemmas.Bool.Decides.{nat_tests}
-use Rattle.std.proofs.Common.{◌≡◌, ◌≢◌, ℕ, suc, ◌<◌, ◌==◌, Bool, true, false, ◌&&◌, ◌||◌, not, List, [], ◌∷◌, length, Option, Some, None, is_some, is_none, if◌then◌else◌, refl, sym, ◌∙◌, ap, subst, arith, eqb-true, eq-eqb, ne_eqb, zero, rules, slice_get}
+use Rattle.std.proofs.Common.{◌≡◌, ◌≢◌, ℕ, suc, ◌<◌, ◌==◌, Bool, true, false, ◌&&◌, ◌||◌, not, List, [], ◌∷◌, length, Option, Some, None, is_some, is_none, if◌then◌else◌, refl, sym, ◌∙◌, ap, arith, eqb-true, eq-eqb, ne_eqb, zero, rules, slice_get}
 use Rattle.std.specs.List.{filter, list_any}
 use Rattle.std.specs.Str.{bytes_eq}
 use Rattle.std.specs.Option.{option_map, option_and_then, unwrap_or}
@@ -22,7 +21,9 @@ use Rattle.mq_model.specs.declared.entries.Reply.TheVariants.{Opened, Done}
 use Rattle.mq_model.specs.declared.owners.Owner.{Owner}
 use Rattle.mq_model.proofs.Places.{split, clash, is_in-filter}
 use Rattle.mq_model.proofs.Frames.{filter-same, created-below, record_at-older}
-use Rattle.mq_model.proofs.HeldQueues.{any-opener, bound-created, held-alive}
+use Rattle.mq_model.proofs.HeldQueues.{is_held-by, bound-created, held-alive}
+use Rattle.mq_model.proofs.Mates.{held-mates, owner_own}
+use Rattle.mq_model.specs.Threads.{owner_of, shares}
 use Rattle.mq_model.proofs.OpenReplies.{lowest_free-is, OpenedFacts}
 
 -- two tests that hold together are one
@@ -31,7 +32,7 @@ same-tests a b to from = grind arith
 
 -- a held descriptor makes its queue held
 pub held-is_held : (past : Past) (p d q : ℕ) (h : Description) → held past p d ≡ Some h → h.queue ≡ q → is_held past q ≡ true
-held-is_held past p d q h e on = any-opener past p d h e (λ x. is_place q (option_map (λ h. h.queue) (held past x.process x.d))) (rw e (eq-eqb h.queue q on))
+held-is_held past p d q h e on = rw on at (is_held-by past p d h e)
 
 -- a process with a descriptor of queue q
 pub none-of : {X : Type 0} (o : Option X) → is_none o ≡ true → o ≡ None
@@ -91,20 +92,26 @@ line-any q [] p o e h = absurd (cc)
 line-any q (x ∷ owners) zero o e h = let same : x ≡ o = cc in rw (same, h) refl
 line-any q (x ∷ owners) (suc p) o e h = split (holds q x) (λ t. rw t refl) (λ f. rw f (line-any q owners p o e h))
 
+line-below : (owners : List Owner) (p : ℕ) (o : Owner) → slice_get owners p ≡ Some o → p < length owners
+line-below [] p o e = absurd (cc)
+line-below (x ∷ owners) zero o e = omega arith
+line-below (x ∷ owners) (suc p) o e = omega (arith, line-below owners p o e)
+
 pub is_held-table : (past : Past) (owners : List Owner) → OwnersMirror past owners → (q : ℕ) → is_held past q ≡ is_held_in owners q
 unfolding held_in
 is_held-table past owners m q = same-tests _ _
     (λ t. let x = is_held-holder past q t in found x.process x.d x.description (m.held x.process x.d ∙ x.held) x.on)
     (λ t. let x = any-line q owners t in let y = any-slot q x.1.descriptors x.3 in
-    let there : held_in owners x.0 y.0 ≡ Some y.1 = rw x.2 y.2 in
+    let first : owner_of x.0 ≡ x.0 = owner_own x.0 (let lt = line-below owners x.0 x.1 x.2 in omega (arith, lt, m.few)) in
+    let there : held_in owners x.0 y.0 ≡ Some y.1 = rw (first, x.2) y.2 in
     held-is_held past x.0 y.0 q y.1 (sym (m.held x.0 y.0) ∙ there) y.3)
   where
     found : (p d : ℕ) (h : Description) → held_in owners p d ≡ Some h → h.queue ≡ q → is_held_in owners q ≡ true
-    found p d h e on = by (slice_get owners p) refl e
+    found p d h e on = by (slice_get owners (owner_of p)) refl e
       where
-        by : (o : Option Owner) → slice_get owners p ≡ o → option_and_then (slot_of d) o ≡ Some h → is_held_in owners q ≡ true
+        by : (o : Option Owner) → slice_get owners (owner_of p) ≡ o → option_and_then (slot_of d) o ≡ Some h → is_held_in owners q ≡ true
         by None is e = absurd (cc)
-        by (Some o) is e = line-any q owners p o is (slot-any q o.descriptors d h e on)
+        by (Some o) is e = line-any q owners (owner_of p) o is (slot-any q o.descriptors d h e on)
 
 -- names ------------------------------------------------------------------------------------------------------------------
 
@@ -204,16 +211,43 @@ is_held-same past now q to from = grind (arith, same-tests, to-queue, held-is_he
 queue-changed : (past : Past) (r : Record) (d : ℕ) (v : Option Description) → ((e : ℕ) → held_after past r.entry.call r.payload r.entry.reply e (held past r.entry.process e) ≡ (if d == e then v else held past r.entry.process e)) →
     (q : ℕ) → (queue_at past r.entry.process d ≡ Some q → ⊥) → (option_map (λ h. h.queue) v ≡ Some q → ⊥) → is_held (r ∷ past) q ≡ is_held past q
 queue-changed past r d v changes q not-before not-after = is_held-same past (r ∷ past) q
-    (λ k e old. grind (arith, nat_tests, eqb-true))
-    (λ k e new. grind (arith, nat_tests, eqb-true))
+    (λ k e old. split (shares r.entry.process k) (λ t. stays k e (eqb-true _ _ t) old) (λ n. apart k e n ∙ old))
+    (λ k e new. split (shares r.entry.process k) (λ t. came k e (eqb-true _ _ t) new) (λ n. sym (apart k e n) ∙ new))
   where
-    at : (k e : ℕ) → r.entry.process ≡ k → held (r ∷ past) k e ≡ (if d == e then v else held past k e)
-    at k e own = let P : ℕ → Type 0 = λ j. held (r ∷ past) j e ≡ (if d == e then v else held past j e) in
-        subst P own (rw (eq-eqb r.entry.process r.entry.process refl) (changes e))
+    now-at : (k e : ℕ) → owner_of r.entry.process ≡ owner_of k → held (r ∷ past) k e ≡ (if d == e then v else held past k e)
+    now-at k e own = rw (eq-eqb (owner_of r.entry.process) (owner_of k) own) (rw (← held-mates past r.entry.process k own e) (changes e))
+
+    one : (k e : ℕ) → (d == e) ≡ true → (if d == e then v else held past k e) ≡ v
+    one k e t = rw t refl
+
+    other : (k e : ℕ) → (d == e) ≡ false → (if d == e then v else held past k e) ≡ held past k e
+    other k e f = rw f refl
+
+    stays : (k e : ℕ) → owner_of r.entry.process ≡ owner_of k → queue_at past k e ≡ Some q → queue_at (r ∷ past) k e ≡ Some q
+    stays k e own old = split (d == e)
+        (λ t. let is : d ≡ e = eqb-true _ _ t in absurd (not-before (rw is (ap (option_map (λ (h : Description). h.queue)) (held-mates past r.entry.process k own e) ∙ old))))
+        (λ f. ap (option_map (λ (h : Description). h.queue)) (now-at k e own ∙ other k e f) ∙ old)
+
+    came : (k e : ℕ) → owner_of r.entry.process ≡ owner_of k → queue_at (r ∷ past) k e ≡ Some q → queue_at past k e ≡ Some q
+    came k e own new = split (d == e)
+        (λ t. absurd (not-after (ap (option_map (λ (h : Description). h.queue)) (sym (now-at k e own ∙ one k e t)) ∙ new)))
+        (λ f. ap (option_map (λ (h : Description). h.queue)) (sym (now-at k e own ∙ other k e f)) ∙ new)
+
+    apart : (k e : ℕ) → shares r.entry.process k ≡ false → queue_at (r ∷ past) k e ≡ queue_at past k e
+    apart k e n = ap (λ (b : Bool). option_map (λ (h : Description). h.queue) (if b then held_after past r.entry.call r.payload r.entry.reply e (held past k e) else held past k e)) n
 
 -- a record that leaves the descriptors of its process on their queues
 pub is_held-quiet : (past : Past) (r : Record) → ((e : ℕ) → option_map (λ h. h.queue) (held_after past r.entry.call r.payload r.entry.reply e (held past r.entry.process e)) ≡ queue_at past r.entry.process e) → (q : ℕ) → is_held (r ∷ past) q ≡ is_held past q
-is_held-quiet past r same q = grind (arith, is_held-same, eqb-true, eq-eqb)
+is_held-quiet past r same q = is_held-same past (r ∷ past) q (λ k e old. quiet k e ∙ old) (λ k e new. sym (quiet k e) ∙ new)
+  where
+    quiet : (k e : ℕ) → queue_at (r ∷ past) k e ≡ queue_at past k e
+    quiet k e = split (shares r.entry.process k)
+        (λ t. let mine : held past r.entry.process e ≡ held past k e = held-mates past r.entry.process k (eqb-true _ _ t) e in
+        ap (λ (b : Bool). option_map (λ (h : Description). h.queue) (if b then held_after past r.entry.call r.payload r.entry.reply e (held past k e) else held past k e)) t
+        ∙ ap (λ (o : Option Description). option_map (λ (h : Description). h.queue) (held_after past r.entry.call r.payload r.entry.reply e o)) (sym mine)
+        ∙ same e
+        ∙ ap (option_map (λ (h : Description). h.queue)) mine)
+        (λ n. ap (λ (b : Bool). option_map (λ (h : Description). h.queue) (if b then held_after past r.entry.call r.payload r.entry.reply e (held past k e) else held past k e)) n)
 
 -- a record that opens, closes, creates and unlinks nothing leaves the queues that exist
 pub alive-same_queues : (past : Past) (r : Record) → creates r.entry.call r.entry.reply ≡ false → unlinks r.entry.call r.entry.reply ≡ false →
@@ -268,7 +302,12 @@ pub alive-closed : (past : Past) → Legal past → (p d : ℕ) (payload : List 
     alive (rec p (MqClose d) Done payload ∷ past) ≡ (if is_needed (rec p (MqClose d) Done payload ∷ past) h.queue then alive past else filter (λ q. not (q == h.queue)) (alive past))
 alive-closed past legal p d payload h is =
     let r : Record = rec p (MqClose d) Done payload in
-    alive-one past r h.queue refl (needed-alive past h.queue (held-alive past legal p d h is)) (λ q lt ne. grind (arith, nat_tests, named-same, queue-changed))
+    alive-one past r h.queue refl (needed-alive past h.queue (held-alive past legal p d h is)) (λ q lt ne. rw (
+      named-same past r q refl refl lt,
+      queue-changed past r d None (λ e. refl) q
+          (λ before. let on : Some h.queue ≡ Some q = sym (ap (option_map (λ (x : Description). x.queue)) is) ∙ before in let same : h.queue ≡ q = cc in ne (sym same))
+          (λ after. let bad : None ≡ Some q = after in absurd (cc)),
+    ) refl)
 
 -- an unlink of the name of queue x
 pub alive-unlinked : (past : Past) (p : ℕ) (payload : List ℕ) (x : ℕ) → bound_queue past payload ≡ Some x →

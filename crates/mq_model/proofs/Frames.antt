@@ -2,6 +2,7 @@
 use Rattle.std.proofs.Common.{◌≡◌, ℕ, ◌<◌, ◌==◌, Bool, true, false, ◌||◌, List, [], ◌∷◌, length, Option, Some, None, if◌then◌else◌, refl, ap, arith, eqb-true, eq-eqb, ne_eqb}
 use Rattle.std.specs.List.{filter, list_any}
 use Rattle.std.specs.Option.{option_map, unwrap_or}
+use Rattle.mq_model.specs.Threads.{shares}
 use Rattle.mq_model.specs.Record.{Record, Past, record_at}
 use Rattle.mq_model.specs.Names.{creates, unlinks, bound_queue, attributes, attributes_given, default_attributes}
 use Rattle.mq_model.specs.Descriptors.{held, held_after, opened_number, created, alive}
@@ -13,8 +14,8 @@ use Rattle.mq_model.specs.declared.entries.Description.{Description}
 use Rattle.mq_model.specs.declared.entries.Call.{Call}
 use Rattle.mq_model.specs.declared.entries.Reply.{Reply}
 use Rattle.mq_model.specs.declared.entries.Reply.TheVariants.{Refused}
-use Rattle.mq_model.specs.Owners.{blocked}
-use Rattle.mq_model.specs.declared.owners.WaitKind.{WaitKind}
+use Rattle.mq_model.specs.Callers.{blocked}
+use Rattle.mq_model.specs.declared.callers.WaitKind.{WaitKind}
 
 -- a record that changes neither names nor descriptors
 pub record KeepsNames (past : Past) (call : Call) (reply : Reply) (payload : List ℕ) : Type 0 where
@@ -24,7 +25,7 @@ pub record KeepsNames (past : Past) (call : Call) (reply : Reply) (payload : Lis
   pub descriptors : (d : ℕ) (before : Option Description) → held_after past call payload reply d before ≡ before
 
 pub held-same : (past : Past) (r : Record) → KeepsNames past r.entry.call r.entry.reply r.payload → (p d : ℕ) → held (r ∷ past) p d ≡ held past p d
-held-same past r keeps p d = split (r.entry.process == p) (λ t. rw t (keeps.descriptors d (held past p d))) (λ e. rw e refl)
+held-same past r keeps p d = split (shares r.entry.process p) (λ t. rw t (keeps.descriptors d (held past p d))) (λ e. rw e refl)
 
 pub bound_queue-same : (past : Past) (r : Record) → KeepsNames past r.entry.call r.entry.reply r.payload → (name : List ℕ) → bound_queue (r ∷ past) name ≡ bound_queue past name
 bound_queue-same past r keeps name = rw (keeps.creates, keeps.unlinks) refl

@@ -2,6 +2,7 @@ pub mod Places
 pub mod Prefixes
 pub mod Records
 pub mod Cases
+pub mod Mates
 pub mod LegalReplies
 pub mod NoWant
 pub mod Best
@@ -12,9 +13,12 @@ pub mod NamedWaits
 pub mod Waiters
 pub mod HeldQueues
 pub mod OthersLeave
+pub mod Rows
 pub mod OwnerLines
+pub mod CallerLines
 pub mod OwnersStart
 pub mod OwnersKeep
+pub mod CallersKeep
 pub mod OpenCount
 pub mod Pending
 pub mod LowestFree

@@ -1,7 +1,8 @@
 -- The notices of each process after one more record.
-use Rattle.std.proofs.Common.{◌≡◌, ℕ, suc, ◌+◌, ◌<◌, ◌≤◌, ◌==◌, Bool, true, false, ◌&&◌, List, [], ◌∷◌, ◌++◌, length, drop, Option, Some, None, if◌then◌else◌, refl, sym, ◌∙◌, ap, arith, eqb-true, eq-eqb, length-drop, length-append, zero, slice_get}
+use Rattle.std.proofs.Common.{◌≡◌, ℕ, suc, ◌+◌, ◌<◌, ◌≤◌, Bool, true, false, ◌&&◌, List, [], ◌∷◌, ◌++◌, length, drop, Option, Some, None, if◌then◌else◌, refl, sym, ◌∙◌, ap, arith, eqb-true, eq-eqb, length-drop, length-append, zero, slice_get}
 use Rattle.std.specs.Option.{option_to_list}
 use Rattle.std.proofs.lemmas.Grind.{common_steps}
+use Rattle.mq_model.specs.Threads.{owner_of, shares}
 use Rattle.mq_model.specs.Record.{Record, Past, record_at}
 use Rattle.mq_model.specs.Descriptors.{is_on}
 use Rattle.mq_model.specs.Notices.{registration_of, only_if, notified, ends, unless, registered, value_of_notify, value_given, value_notified, values_notified, gives_notice, notices_given, notices}
@@ -54,10 +55,30 @@ append-nil : (xs : List ℕ) → xs ++ [] ≡ xs
 append-nil xs = grind (arith, common_steps)
 
 -- the value that a notified registration brings its process
-value-of : (past : Past) (q : ℕ) (n : Registration) → registered past q ≡ Some n → (p : ℕ) → value_notified past p (Some n.place) ≡ (if n.process == p then Some n.value else None)
+value-of : (past : Past) (q : ℕ) (n : Registration) → registered past q ≡ Some n → (p : ℕ) → value_notified past p (Some n.place) ≡ (if shares n.process p then Some n.value else None)
 value-of past q n e p =
     let x = registered-made past q n e in
     ap (value_given p) x.at ∙ rw (x.process, x.value) refl
+
+-- threads of one process have the same notices
+given-mates : (past : Past) (a b : ℕ) → owner_of a ≡ owner_of b → notices_given past a ≡ notices_given past b
+given-mates [] a b e = refl
+given-mates (r ∷ past) a b e = rw (e, given-mates past a b e) refl
+
+value-mates : (past : Past) (a b : ℕ) (o : Option ℕ) → owner_of a ≡ owner_of b → value_notified past a o ≡ value_notified past b o
+value-mates past a b None e = refl
+value-mates past a b (Some k) e = by (record_at past k)
+  where
+    by : (o : Option Record) → value_given a o ≡ value_given b o
+    by None = refl
+    by (Some r) = rw e refl
+
+values-mates : (past : Past) (a b : ℕ) → owner_of a ≡ owner_of b → values_notified past a ≡ values_notified past b
+values-mates [] a b e = refl
+values-mates (r ∷ past) a b e = rw (values-mates past a b e, value-mates past a b (notified r.entry.reply) e) refl
+
+pub notices-mates : (past : Past) (a b : ℕ) → owner_of a ≡ owner_of b → notices past a ≡ notices past b
+notices-mates past a b e = rw (given-mates past a b e, values-mates past a b e) refl
 
 -- a process was given no more notices than it had
 pub given-few : (past : Past) → Legal past → (p : ℕ) → notices_given past p ≤ length (values_notified past p)
@@ -65,7 +86,7 @@ given-few [] legal p = omega arith
 given-few (r ∷ past) legal p =
     let before = given-few past legal.0 p in
     let longer : length (values_notified (r ∷ past) p) ≡ length (values_notified past p) + length (option_to_list (value_notified past p (notified r.entry.reply))) = length-append (values_notified past p) (option_to_list (value_notified past p (notified r.entry.reply))) in
-    split (gives_notice r.entry.reply && r.entry.process == p)
+    split (gives_notice r.entry.reply && shares r.entry.process p)
     (λ t. rw t (given r.entry.reply refl (legal_says past r legal.1) t longer before))
     (λ f. rw f (omega (arith, before, longer)))
   where
@@ -76,13 +97,13 @@ given-few (r ∷ past) legal p =
         by [] is e = absurd (cc)
         by (y ∷ ys) is e = let len : length (drop k xs) ≡ length (y ∷ ys) = ap length is in omega (arith, len, length-drop k xs)
 
-    given : (reply : Reply) → r.entry.reply ≡ reply → Says past r.entry.process r.entry.call reply → (gives_notice r.entry.reply && r.entry.process == p) ≡ true →
+    given : (reply : Reply) → r.entry.reply ≡ reply → Says past r.entry.process r.entry.call reply → (gives_notice r.entry.reply && shares r.entry.process p) ≡ true →
         length (values_notified (r ∷ past) p) ≡ length (values_notified past p) + length (option_to_list (value_notified past p (notified r.entry.reply))) → notices_given past p ≤ length (values_notified past p) →
         notices_given past p + 1 ≤ length (values_notified (r ∷ past) p)
     given (Notice (Some v)) is says t longer before =
-        let own : (r.entry.process == p) ≡ true = rw is at t in
-        let mine : r.entry.process ≡ p = eqb-true _ _ own in
-        let first : slice_get (notices past p) 0 ≡ Some v = rw (← mine) (notice-of r.entry.call says) in
+        let own : shares r.entry.process p ≡ true = rw is at t in
+        let mine : owner_of r.entry.process ≡ owner_of p = eqb-true _ _ own in
+        let first : slice_get (notices past p) 0 ≡ Some v = ap (λ xs. slice_get xs 0) (sym (notices-mates past r.entry.process p mine)) ∙ notice-of r.entry.call says in
         let lt = some-left (notices_given past p) (values_notified past p) v first in omega (arith, longer, lt)
       where
         notice-of : (call : Call) → Says past r.entry.process call (Notice (Some v)) → slice_get (notices past r.entry.process) 0 ≡ Some v
@@ -106,7 +127,7 @@ drop-append k xs ys le = grind (arith, common_steps)
 
 -- a record that notifies the registration of a queue
 pub notices-notified : (past : Past) → Legal past → (r : Record) (q : ℕ) (n : Registration) (p : ℕ) → registered past q ≡ Some n → notified r.entry.reply ≡ Some n.place → gives_notice r.entry.reply ≡ false →
-    notices (r ∷ past) p ≡ (if n.process == p then notices past p ++ n.value ∷ [] else notices past p)
+    notices (r ∷ past) p ≡ (if shares n.process p then notices past p ++ n.value ∷ [] else notices past p)
 notices-notified past legal r q n p stands is quiet = grind (arith, value-of, drop-append, given-few, append-nil)
 
 drop-nothing : (k : ℕ) → drop {A = ℕ} k [] ≡ []
@@ -118,5 +139,5 @@ drop-one zero (x ∷ xs) = refl
 drop-one (suc k) (x ∷ xs) = let e : suc k + 1 ≡ suc (k + 1) = omega arith in rw e (drop-one k xs)
 
 -- a record that takes a notice
-pub notices-given : (past : Past) (q : ℕ) (call : Call) (v : ℕ) (payload : List ℕ) (p : ℕ) → notices (record { entry = record { process = q; call = call; reply = Notice (Some v) }; payload = payload } ∷ past) p ≡ (if q == p then drop 1 (notices past p) else notices past p)
+pub notices-given : (past : Past) (q : ℕ) (call : Call) (v : ℕ) (payload : List ℕ) (p : ℕ) → notices (record { entry = record { process = q; call = call; reply = Notice (Some v) }; payload = payload } ∷ past) p ≡ (if shares q p then drop 1 (notices past p) else notices past p)
 notices-given past q call v payload p = grind (arith, append-nil, drop-one)

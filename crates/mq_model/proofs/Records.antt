@@ -1,5 +1,5 @@
 -- What a journal shows, from what it stores.
-use Rattle.std.proofs.Common.{◌≡◌, ℕ, zero, suc, ◌+◌, ◌-◌, ◌<◌, ◌≤◌, ◌==◌, get_or, List, [], ◌∷◌, ◌++◌, length, length-append, map, reverse, refl, ◌∙◌, arith, Some, None, if◌then◌else◌, slice_get, slice_range}
+use Rattle.std.proofs.Common.{◌≡◌, ℕ, zero, suc, ◌+◌, ◌<◌, ◌≤◌, ◌==◌, get_or, List, [], ◌∷◌, ◌++◌, length, length-append, map, reverse, refl, ◌∙◌, arith, Some, None, if◌then◌else◌, slice_get, slice_range}
 use Rattle.std.proofs.lemmas.List.{reverse-append, reverse-reverse, map-append}
 use Rattle.std.specs.List.{All}
 use Rattle.std.specs.Option.{option_map}

@@ -1,5 +1,6 @@
 -- The registration on a queue, entry by entry.
 use Rattle.std.proofs.Common.{◌≡◌, ◌≢◌, ℕ, Bool, true, false, Option, Some, None, refl, sym, ◌∙◌, subst, eq-eqb, is_some, arith}
+use Rattle.mq_model.specs.Threads.{owner_of}
 use Rattle.mq_model.specs.Notices.{registration_after, is_about_registrations, notified}
 use Rattle.mq_model.specs.declared.entries.Entry.{Entry}
 use Rattle.mq_model.specs.declared.entries.Registration.{Registration}
@@ -31,8 +32,8 @@ gone x n e same = absurd (let bad : None ≡ Some n = sym e ∙ same in cc)
 -- a call about registrations changes one if it succeeds
 touched-call : (p : ℕ) (call : Call) → is_about_registrations call ≡ true → Touches (entry p call Done)
 touched-call p (MqNotify d (Some v)) e = (true, 0, None, λ same. absurd (let bad : Some _ ≡ None = same in cc))
-touched-call p (MqNotify d None) e = (true, 0, Some (registration 0 p d), gone _ _ (rw (eq-eqb p p refl) refl))
-touched-call p (MqClose d) e = (true, 0, Some (registration 0 p d), gone _ _ (rw (eq-eqb p p refl, eq-eqb d d refl) refl))
+touched-call p (MqNotify d None) e = (true, 0, Some (registration 0 p d), gone _ _ (rw (eq-eqb (owner_of p) (owner_of p) refl) refl))
+touched-call p (MqClose d) e = (true, 0, Some (registration 0 p d), gone _ _ (rw (eq-eqb (owner_of p) (owner_of p) refl, eq-eqb d d refl) refl))
 touched-call p call e = absurd (let bad : false ≡ true = e in cc)
 
 pub touched-done : (e : Entry) → e.reply ≡ Done → is_about_registrations e.call ≡ true → Touches e

@@ -11,15 +11,15 @@ use Rattle.mq_model.proofs.Places.{split, is_in-filter, is_in-with_place}
 use Rattle.mq_model.proofs.Cases.{Says}
 use Rattle.mq_model.proofs.LegalReplies.{legal_says}
 use Rattle.mq_model.proofs.Steps.{Below, not-below}
-use Rattle.mq_model.specs.Owners.{blocked, waiting}
+use Rattle.mq_model.specs.Callers.{blocked, waiting}
 use Rattle.mq_model.proofs.OpenWaits.{withdrawn-open, withdrawn-other}
 use Rattle.mq_model.proofs.OthersLeave.{open_wait-below}
 use Rattle.mq_model.proofs.NamedWaits.{blocked-once, blocked-cases, blocked-below, newest-receive, newest-send, unended-receive, least-in}
 use Rattle.mq_model.specs.declared.entries.Call.{Call}
 use Rattle.mq_model.specs.declared.entries.Reply.{Reply}
 use Rattle.mq_model.specs.declared.entries.Reply.TheVariants.{Opened, Queued, Handed, Waits, Got, Collected, Attrs, Notice, Done, Refused, Withdrawn}
-use Rattle.mq_model.specs.declared.owners.WaitKind.{WaitKind}
-use Rattle.mq_model.specs.declared.owners.WaitKind.TheVariants.{Send, Receive}
+use Rattle.mq_model.specs.declared.callers.WaitKind.{WaitKind}
+use Rattle.mq_model.specs.declared.callers.WaitKind.TheVariants.{Send, Receive}
 use Rattle.mq_model.proofs.HeldQueues.{in-filter}
 
 -- the waits of a kind that ended

@@ -1,7 +1,7 @@
 -- Whether a call finds the journal full, in a system with bounds.
 use Rattle.std.specs.Prelude.{ℕ, ◌≡◌, ◌≢◌, ◌↔◌, ◌+◌, Bool, true, false, ◌||◌, nat_lt, List, length, Option, Some, None, is_some, if◌then◌else◌}
 use Rattle.std.specs.List.{count_by}
-use Rattle.mq_model.specs.Limits.{most_processes}
+use Rattle.mq_model.specs.Limits.{most_callers}
 use Rattle.mq_model.specs.Record.{Past, payload_bytes, Process}
 use Rattle.mq_model.specs.Descriptors.{held, numbers_from}
 use Rattle.mq_model.specs.Waits.{open_wait}
@@ -15,7 +15,7 @@ use Rattle.mq_model.specs.declared.faults.Fault.TheVariants.{NoMemory, JournalFu
 
 -- how many waits are open
 unfoldable pub open_waits : Past → ℕ
-open_waits past = count_by (λ p. is_some (open_wait past p)) (numbers_from 1 most_processes)
+open_waits past = count_by (λ p. is_some (open_wait past p)) (numbers_from 1 most_callers)
 
 -- this number of entries, or of payload bytes, is more than the journal may hold
 abbrev pub exceeds : Option Bounds → ℕ → ℕ → Bool

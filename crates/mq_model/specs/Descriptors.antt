@@ -5,6 +5,7 @@ use Rattle.std.specs.Option.{option_map, option_and_then, unwrap_or}
 use Rattle.mq_model.specs.Limits.{most_descriptors}
 use Rattle.mq_model.specs.Record.{Past, Descriptor, Place, Process, Queue}
 use Rattle.mq_model.specs.Names.{creates, bound_queue, name_of}
+use Rattle.mq_model.specs.Threads.{shares}
 use Rattle.mq_model.specs.declared.entries.Description.{Description}
 use Rattle.mq_model.specs.declared.entries.OpenFlags.{OpenFlags}
 use Rattle.mq_model.specs.declared.entries.Entry.{Entry}
@@ -51,7 +52,7 @@ held_after past call name _ d before = before
 -- with the flag of the latest setattr after it; none if d was closed since.
 abbrev pub held : Past → Process → Descriptor → Option Description
 held [] p d = None
-held (r ∷ past) p d = if r.entry.process == p then held_after past r.entry.call r.payload r.entry.reply d (held past p d) else held past p d
+held (r ∷ past) p d = if shares r.entry.process p then held_after past r.entry.call r.payload r.entry.reply d (held past p d) else held past p d
 
 abbrev pub numbers_from : ℕ → ℕ → List ℕ
 numbers_from low zero = []

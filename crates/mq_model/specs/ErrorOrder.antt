@@ -4,6 +4,7 @@ use Rattle.std.specs.Prelude.{ℕ, pos, Bool, true, false, ◌&&◌, not, ◌==�
 use Rattle.std.specs.Option.{unwrap_or}
 use Rattle.mq_model.specs.Limits.{most_queues, most_priorities}
 use Rattle.mq_model.specs.Names.{are_within_limits}
+use Rattle.mq_model.specs.Threads.{shares}
 use Rattle.mq_model.specs.Deadlines.{is_moment, has_passed}
 use Rattle.mq_model.specs.declared.entries.Deadline.{Deadline}
 use Rattle.mq_model.specs.declared.entries.Access.{Access}
@@ -108,7 +109,7 @@ status_reply (Some facts) = Attrs (record {
 -- the registration is one of process p
 abbrev pub is_of : ℕ → Option Registration → Bool
 is_of p None = false
-is_of p (Some n) = n.process == p
+is_of p (Some n) = shares n.process p
 
 -- mq_notify of process p, with the value of a registration, or none for a removal
 abbrev pub notify_reply : ℕ → Option ℕ → Option NotifyFacts → Reply

@@ -1,7 +1,7 @@
 -- The reply to each call, given the calls before it, and which journals are legal.
 use Rattle.std.specs.Prelude.{◌≡◌, ℕ, ◌+◌, ◌<◌, Bool, true, false, ◌&&◌, ◌==◌, nat_le, List, [], ◌∷◌, length, Option, is_some, is_none, if◌then◌else◌, slice_get, IsTrue}
 use Rattle.std.specs.Option.{option_map, unwrap_or}
-use Rattle.mq_model.specs.Limits.{most_processes}
+use Rattle.mq_model.specs.Limits.{most_callers}
 use Rattle.mq_model.specs.Name.{is_name}
 use Rattle.mq_model.specs.Record.{Record, Past, first, Place, Process}
 use Rattle.mq_model.specs.Names.{bound_queue, attributes}
@@ -76,8 +76,8 @@ reply_to_attributes past held = status_reply (option_map (status_facts past) hel
 abbrev pub reply_to_notify : Past → Process → Option Description → Option ℕ → Reply
 reply_to_notify past p held value = notify_reply p value (option_map (notify_facts past) held)
 
--- The reply to a call of process p. `name` is the name of an open or an unlink. In a legal journal
--- the 0 of a collect or a withdraw is never used, since a process collects only after its wait is
+-- The reply to a call of caller p. `name` is the name of an open or an unlink. In a legal journal
+-- the 0 of a collect or a withdraw is never used, since a caller collects only after its wait is
 -- answered, and withdraws only an open wait.
 abbrev pub reply_to : Past → Process → Call → List ℕ → Reply
 reply_to past p (MqOpen flags attr) name = reply_to_open past p flags attr name
@@ -107,8 +107,8 @@ is_payload (MqSend d prio len) reply payload = length payload == (if is_refused 
 is_payload (MqTimedSend d prio len until now) reply payload = length payload == (if is_refused reply then 0 else len)
 is_payload _ reply payload = length payload == 0
 
--- A process with an open wait may only collect, if the wait is answered, or withdraw, if its
--- deadline has passed and it is not answered. Any other process may make any call but these two.
+-- A caller with an open wait may only collect, if the wait is answered, or withdraw, if its deadline
+-- has passed and it is not answered. Any other caller may make any call but these two.
 abbrev pub may_call : Past → Process → Call → Bool
 may_call past p Collect = is_some (answered_by past p)
 may_call past p (Withdraw now) = is_none (answered_by past p) && is_over (wait_deadline past p) now
@@ -116,7 +116,7 @@ may_call past p _ = is_none (open_wait past p)
 
 -- the record may follow these
 pub record IsLegalNext (past : Past) (r : Record) : Type 0 where
-  pub process : IsTrue (nat_le 1 r.entry.process && nat_le r.entry.process most_processes)
+  pub process : IsTrue (nat_le 1 r.entry.process && nat_le r.entry.process most_callers)
   pub turn : IsTrue (may_call past r.entry.process r.entry.call)
   pub payload : IsTrue (is_payload r.entry.call r.entry.reply r.payload)
   pub reply : r.entry.reply ≡ reply_to past r.entry.process r.entry.call r.payload

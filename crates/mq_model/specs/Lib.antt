@@ -2,6 +2,7 @@ pub mod Limits
 pub mod Fault
 pub mod Name
 pub mod Record
+pub mod Threads
 pub mod Stored
 pub mod Names
 pub mod Deadlines
@@ -13,5 +14,8 @@ pub mod Waits
 pub mod Legality
 pub mod Bounds
 pub mod OnePass
+pub mod Rows
 pub mod Owners
 pub mod OwnersNoted
+pub mod Callers
+pub mod CallersNoted

@@ -2,6 +2,7 @@
 use Rattle.std.specs.Prelude.{ℕ, ◌+◌, Bool, true, false, ◌&&◌, ◌||◌, ◌==◌, List, [], ◌∷◌, ◌++◌, drop, length, Option, Some, None, if◌then◌else◌}
 use Rattle.std.specs.Option.{option_map, option_to_list}
 use Rattle.mq_model.specs.Record.{Record, Past, record_at, Descriptor, Place, Process, Queue}
+use Rattle.mq_model.specs.Threads.{shares}
 use Rattle.mq_model.specs.Descriptors.{is_place, is_on}
 use Rattle.mq_model.specs.declared.entries.Registration.{Registration}
 use Rattle.mq_model.specs.declared.entries.Entry.{Entry}
@@ -52,7 +53,7 @@ closes call _ d = false
 abbrev pub ends : Bool → Entry → Registration → Bool
 ends on e n =
     is_place n.place (notified e.reply)
-    || ((removes e.call e.reply && on || closes e.call e.reply n.d) && e.process == n.process)
+    || ((removes e.call e.reply && on || closes e.call e.reply n.d) && shares e.process n.process)
 
 abbrev pub unless : (Registration → Bool) → Option Registration → Option Registration
 unless ended None = None
@@ -91,7 +92,7 @@ value_of_notify _ = None
 -- the value that process p gave to a registration
 abbrev pub value_given : Process → Option Record → Option ℕ
 value_given p None = None
-value_given p (Some r) = if r.entry.process == p then value_of_notify r.entry.call else None
+value_given p (Some r) = if shares r.entry.process p then value_of_notify r.entry.call else None
 
 abbrev pub value_notified : Past → Process → Option Place → Option ℕ
 value_notified past p None = None
@@ -109,7 +110,7 @@ gives_notice _ = false
 -- how many notices process p has taken
 abbrev pub notices_given : Past → Process → ℕ
 notices_given [] p = 0
-notices_given (r ∷ past) p = if gives_notice r.entry.reply && r.entry.process == p then notices_given past p + 1 else notices_given past p
+notices_given (r ∷ past) p = if gives_notice r.entry.reply && shares r.entry.process p then notices_given past p + 1 else notices_given past p
 
 -- the notices that process p has not yet taken, the oldest first
 abbrev pub notices : Past → Process → List ℕ

@@ -1,22 +1,16 @@
 -- What the table of processes becomes after one more entry.
-use Rattle.std.specs.Prelude.{ℕ, ◌≡◌, ◌<◌, List, [], ◌∷◌, length, replicate, Option, Some, None}
-use Rattle.std.specs.Option.{option_and_then}
-use Rattle.mq_model.specs.Limits.{most_descriptors}
+use Rattle.std.specs.Prelude.{ℕ, ◌≡◌, ◌<◌, ◌≤◌, ◌+◌, List, ◌∷◌, [], replicate, Some, None}
+use Rattle.mq_model.specs.Limits.{most_descriptors, most_processes}
 use Rattle.mq_model.specs.Record.{Past}
 use Rattle.mq_model.specs.Descriptors.{description, opened_queue, called_queue}
 use Rattle.mq_model.specs.Legality.{Legal, IsLegalNext}
 use Rattle.mq_model.specs.declared.entries.Entry.{Entry}
-use Rattle.mq_model.specs.Deadlines.{deadline_of}
-use Rattle.mq_model.specs.Owners.{with_wait, with_answer, with_slot, with_flag, waiter_in, wait_kind, OwnersMirror}
+use Rattle.mq_model.specs.Owners.{with_slot, with_flag, OwnersMirror}
 use Rattle.mq_model.specs.declared.entries.Call.{Call}
 use Rattle.mq_model.specs.declared.entries.Call.TheVariants.{MqOpen, MqClose, MqSetattr}
 use Rattle.mq_model.specs.declared.entries.Reply.{Reply}
-use Rattle.mq_model.specs.declared.entries.Reply.TheVariants.{Opened, Handed, Waits, Got, Collected, Withdrawn, Attrs, Done}
+use Rattle.mq_model.specs.declared.entries.Reply.TheVariants.{Opened, Waits, Attrs, Done}
 use Rattle.mq_model.specs.declared.owners.Owner.{Owner}
-
-abbrev pub with_answer_at : List Owner → Option ℕ → ℕ → List Owner
-with_answer_at owners None here = owners
-with_answer_at owners (Some p) here = with_answer owners p here
 
 abbrev pub noted_open : List Owner → ℕ → Call → ℕ → ℕ → List Owner
 noted_open owners p (MqOpen flags attr) d q = with_slot owners p d (Some (description q flags))
@@ -30,18 +24,12 @@ abbrev pub noted_attributes : List Owner → ℕ → Call → List Owner
 noted_attributes owners p (MqSetattr d nonblock) = with_flag owners p d nonblock
 noted_attributes owners p _ = owners
 
--- The table after the entry at place `here`. It is an open of queue q, or a call on a descriptor of
--- queue q.
-abbrev pub noted : List Owner → ℕ → ℕ → Call → Reply → ℕ → List Owner
-noted owners here p call (Opened d created) q = noted_open owners p call d q
-noted owners here p call Done q = noted_done owners p call
-noted owners here p call (Attrs status) q = noted_attributes owners p call
-noted owners here p call Waits q = with_wait owners p (Some (record { place = here; queue = q; kind = wait_kind call; until = deadline_of call }))
-noted owners here p call (Collected by) q = with_wait owners p None
-noted owners here p call (Withdrawn wait) q = with_wait owners p None
-noted owners here p call (Handed wait) q = with_answer_at owners (waiter_in owners wait) here
-noted owners here p call (Got place admitted notified) q = with_answer_at owners (option_and_then (waiter_in owners) admitted) here
-noted owners here p call _ q = owners
+-- the table after an entry of caller p, which is an open of queue q or another call
+abbrev pub noted : List Owner → ℕ → Call → Reply → ℕ → List Owner
+noted owners p call (Opened d created) q = noted_open owners p call d q
+noted owners p call Done q = noted_done owners p call
+noted owners p call (Attrs status) q = noted_attributes owners p call
+noted owners p call _ q = owners
 
 abbrev pub FitsDone : Call → Type 0
 FitsDone (MqClose d) = d < most_descriptors
@@ -66,11 +54,11 @@ EntryQueue past p call name reply q = Unit {0}
 
 -- If the old table is that of a journal after which the entry may follow, the new one is that of
 -- the journal with the entry.
-abbrev pub KeepsMirror : List Owner → ℕ → Entry → ℕ → List Owner → Type 0
-KeepsMirror old here entry q new =
-    (past : Past) (payload : List ℕ) → length past ≡ here → OwnersMirror past old → Legal past → IsLegalNext past (record { entry = entry; payload = payload }) → EntryQueue past entry.process entry.call payload entry.reply q →
+abbrev pub KeepsMirror : List Owner → Entry → ℕ → List Owner → Type 0
+KeepsMirror old entry q new =
+    (past : Past) (payload : List ℕ) → OwnersMirror past old → Legal past → IsLegalNext past (record { entry = entry; payload = payload }) → EntryQueue past entry.process entry.call payload entry.reply q →
     OwnersMirror (record { entry = entry; payload = payload } ∷ past) new
 
--- a table with only such rows, of any number, is that of the empty journal
+-- a table with only such rows, one for each process at most, is that of the empty journal
 abbrev pub StartsMirror : Owner → Type 0
-StartsMirror owner = (m : ℕ) → OwnersMirror [] (replicate m owner)
+StartsMirror owner = (m : ℕ) → m ≤ most_processes + 1 → OwnersMirror [] (replicate m owner)

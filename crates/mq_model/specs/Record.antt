@@ -8,7 +8,7 @@ use Rattle.mq_model.specs.declared.entries.Entry.{Entry}
 abbrev pub Place : Type 0
 Place = ℕ
 
--- a process, from 1
+-- a caller, from 1: the numbers to 32 are those of the first threads, and so of the processes
 abbrev pub Process : Type 0
 Process = ℕ
 

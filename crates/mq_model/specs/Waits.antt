@@ -1,4 +1,4 @@
--- The open wait of a process, and the entry that answers it.
+-- The open wait of a caller, and the entry that answers it.
 use Rattle.std.specs.Prelude.{◌≡◌, Bool, true, false, not, ◌==◌, List, [], ◌∷◌, ◌++◌, length, Option, Some, None, is_some, if◌then◌else◌}
 use Rattle.std.specs.List.{list_all}
 use Rattle.mq_model.specs.Record.{Record, Past, Place, Process}
@@ -12,14 +12,14 @@ abbrev pub is_wait : Reply → Bool
 is_wait Waits = true
 is_wait _ = false
 
--- the open wait of a process: its last entry, if that call waits
+-- the open wait of a caller: its last entry, if that call waits
 abbrev pub open_wait : Past → Process → Option Place
 open_wait [] p = None
 open_wait (r ∷ past) p =
     if r.entry.process == p then (if is_wait r.entry.reply then Some (length past) else None)
     else open_wait past p
 
--- the deadline of the call in which a process waits
+-- the deadline of the call in which a caller waits
 abbrev pub wait_deadline : Past → Process → Option Deadline
 wait_deadline [] p = None
 wait_deadline (r ∷ past) p =
@@ -42,22 +42,22 @@ abbrev pub names_wait : Reply → Option Place → Bool
 names_wait reply None = false
 names_wait reply (Some w) = is_place w (named_wait reply)
 
--- the place of the entry that answers the open wait of a process: a later one, which serves it
+-- the place of the entry that answers the open wait of a caller: a later one, which serves it
 abbrev pub answered_by : Past → Process → Option Place
 answered_by [] p = None
 answered_by (r ∷ past) p =
     if r.entry.process == p then None
     else (if names_wait r.entry.reply (open_wait past p) then Some (length past) else answered_by past p)
 
--- the process has an open wait that a later entry serves
+-- the caller has an open wait that a later entry serves
 abbrev pub is_answered : Past → Process → Bool
 is_answered past p = is_some (answered_by past p)
 
--- all these records are of other processes
+-- all these records are of other callers
 abbrev pub are_of_others : Process → List Record → Bool
 are_of_others p more = list_all (λ r. not (r.entry.process == p)) more
 
--- Records of other processes leave an open wait open, and an answered one answered.
+-- Records of other callers leave an open wait open, and an answered one answered.
 pub record OthersLeave (past : Past) (p : Process) : Type 0 where
   pub wait : (more : List Record) → are_of_others p more ≡ true → open_wait (more ++ past) p ≡ open_wait past p
   pub answered : (more : List Record) → are_of_others p more ≡ true → is_answered past p ≡ true → is_answered (more ++ past) p ≡ true

@@ -176,7 +176,7 @@ pub struct Deadline {
     pub nsec: i64,
 }
 
-/// A call that a process made. The name of an open or unlink, and the message of a send, are in the
+/// A call that a caller made. The name of an open or unlink, and the message of a send, are in the
 /// payload of the record.
 #[derive(Clone, Copy, Debug, PartialEq, Eq)]
 pub enum Call {
@@ -237,10 +237,10 @@ pub enum Call {
     /// A request for the oldest notice that the process has not yet taken. POSIX has no such call:
     /// it sends signals.
     NextNotice,
-    /// The end of the open wait of the process, after an entry that serves it. POSIX has no such
+    /// The end of the open wait of the caller, after an entry that serves it. POSIX has no such
     /// call: the blocked call returns.
     Collect,
-    /// The end of the open wait of the process, which no entry serves and whose deadline has passed
+    /// The end of the open wait of the caller, which no entry serves and whose deadline has passed
     /// at the time `now` of the caller's clock. POSIX has no such call: the blocked timed call
     /// returns `ETIMEDOUT`.
     Withdraw {
@@ -386,7 +386,7 @@ pub enum Reply {
     Handed {
         wait: u64,
     },
-    /// The call waits: from now on the process has an open wait.
+    /// The call waits: from now on the caller has an open wait.
     Waits,
     /// The message of the send `place` was received. Then the message of the waiting send
     /// `admitted` entered the queue, and this notified the registration `notified`.
@@ -413,10 +413,11 @@ pub enum Reply {
     Refused(Fault),
 }
 
-/// A call of a process with its reply.
+/// A call with its reply, and who made it.
 #[derive(Clone, Copy, Debug, PartialEq, Eq)]
 pub struct Entry {
-    /// The number of the process, 1 to 32 in a legal journal.
+    /// The number of the caller, 1 to 2,048 in a legal journal: a process, for its first thread, or
+    /// caller o + 32 * t, for another thread of process o ([`crate::callers::owner_of`]).
     pub process: u32,
     pub call: Call,
     pub reply: Reply,

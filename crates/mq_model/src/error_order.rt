@@ -4,6 +4,7 @@
 ghost use Rattle.std.specs.Prelude.{◌≡◌, ◌<◌, ◌^◌, IfSome, pos, int_lt};
 ghost use Rattle.mq_model.specs.Names.{attributes_given, are_within_limits};
 
+use crate::callers::share;
 use crate::entries::{
     Access, Attr, Call, Deadline, Description, OpenFlags, Registration, Reply, Status,
 };
@@ -329,7 +330,7 @@ fn is_of(p: u32, registered: Option<Registration>) -> bool
 {
     match registered {
         None => false,
-        Some(n) => n.process == p,
+        Some(n) => share(n.process, p),
     }
 }
 

@@ -1,10 +1,10 @@
-//! Whether the process and the payload of a record are well-formed, whatever comes before it.
+//! Whether the caller and the payload of a record are well-formed, whatever comes before it.
 ghost use Rattle.std.specs.Prelude.{◌≡◌, ◌&&◌, nat_le};
-ghost use Rattle.mq_model.specs.Limits.{most_processes};
+ghost use Rattle.mq_model.specs.Limits.{most_callers, most_processes};
 ghost use Rattle.mq_model.specs.Legality.{is_refused, is_payload};
 
 use crate::entries::{Call, Reply};
-use crate::limits::PROCESSES;
+use crate::limits::{CALLERS, PROCESSES};
 use crate::names::is_name;
 
 /// Whether this is the number of a process.
@@ -12,6 +12,13 @@ pub fn is_process(p: u32) -> bool
     ensures { result ≡ (nat_le 1 p && nat_le p most_processes) }
 {
     1 <= p && p <= PROCESSES
+}
+
+/// Whether this is the number of a caller.
+pub fn is_caller(p: u32) -> bool
+    ensures { result ≡ (nat_le 1 p && nat_le p most_callers) }
+{
+    1 <= p && p <= CALLERS
 }
 
 fn is_refused(reply: Reply) -> bool

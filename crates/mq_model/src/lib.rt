@@ -2,6 +2,7 @@
 #![tactic(auto)]
 
 pub mod bounds;
+pub mod callers;
 pub mod clock;
 pub mod entries;
 pub mod error_order;

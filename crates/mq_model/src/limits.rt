@@ -4,6 +4,10 @@
 /// The maximum number of processes of a system. They are numbered from 1.
 pub const PROCESSES: u32 = 32;
 
+/// The maximum number of callers of a system, the threads of its processes. They are numbered from
+/// 1, and the first 32 are the first threads of the processes.
+pub const CALLERS: u32 = 2048;
+
 /// The maximum number of descriptors of a process. They are numbered from 0 (`MQ_OPEN_MAX`).
 pub const DESCRIPTORS: usize = 16;
 

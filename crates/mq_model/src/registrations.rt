@@ -3,6 +3,7 @@ ghost use Rattle.std.specs.Prelude.{◌≡◌, ◌≢◌, IsTrue, IsFalse, Some,
 ghost use Rattle.mq_model.specs.Descriptors.{is_place};
 ghost use Rattle.mq_model.specs.Notices.{registration_by, registration_of, notified, is_removal, removes, is_close_of, closes, ends, unless, registration_after, is_about_registrations};
 
+use crate::callers::share;
 use crate::entries::{Call, Entry, Registration, Reply};
 
 fn registration_by(here: u64, p: u32, call: Call) -> Option<Registration>
@@ -97,7 +98,7 @@ fn ends(on: bool, entry: Entry, n: Registration) -> bool
     ensures { result ≡ ends on entry n }
 {
     is_notified(entry.reply, n.place)
-        || ((removes(entry) && on || closes(entry, n.d)) && entry.process == n.process)
+        || ((removes(entry) && on || closes(entry, n.d)) && share(entry.process, n.process))
 }
 
 fn unless_ended(on: bool, entry: Entry, before: Option<Registration>) -> Option<Registration>

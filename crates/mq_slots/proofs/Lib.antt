@@ -11,3 +11,4 @@ pub mod Pushing
 pub mod Popping
 pub mod Latest
 pub mod Making
+pub mod Listing

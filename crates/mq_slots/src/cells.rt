@@ -1,6 +1,7 @@
 //! The slots of a queue. Those with a message form one linked list, and the spare ones another.
-ghost use Rattle.std.specs.Prelude.{◌≡◌, ◌+◌, ◌<◌, ◌≤◌, length, IfOk};
+ghost use Rattle.std.specs.Prelude.{◌≡◌, ◌+◌, ◌<◌, ◌≤◌, ℕ, length, IfOk, get_or};
 ghost use Rattle.mq_slots.specs.Cells.{cell_at, linked, unlinked, IsFresh};
+ghost use Rattle.mq_slots.specs.Messages.{messages};
 
 use std::alloc::{AllocError, Global};
 
@@ -78,4 +79,35 @@ pub fn unlink(cells: &mut Vec<Cell>, first: u32, spare: u32, count: u32)
         place: u64::from(count) + 1,
         next: spare,
     };
+}
+
+// The index at which the message of entry `place` joins others, of which the latest is first.
+fn turn_of(messages: &[(u32, u64)], place: u64) -> usize
+    ensures inside { result ≤ length messages.now }
+    ensures behind { (i : ℕ) → i < result → place ≤ (get_or messages.now i (0, 0)).1 }
+    ensures before { result < length messages.now →
+        (get_or messages.now result (0, 0)).1 < place }
+{
+    for i in 0..messages.len() {
+        if messages[i].1 < place {
+            return i;
+        }
+    }
+    messages.len()
+}
+
+/// The messages in these slots, each as its priority and its sequence number, the latest first.
+#[tactic(auto, using(crate::proofs::Listing::listing))]
+pub fn messages(alloc: Global, cells: &[Cell]) -> Result<Vec<(u32, u64)>, AllocError>
+    ensures { IfOk result (λ found. found.items ≡ messages cells.now) }
+{
+    let mut found = Vec::new(alloc);
+    for index in (0..cells.len()).rev() {
+        let cell = cells[index];
+        if cell.prio < HEAD {
+            let turn = turn_of(&found, cell.place);
+            found.insert(turn, (cell.prio, cell.place))?;
+        }
+    }
+    Ok(found)
 }

@@ -134,17 +134,11 @@ impl Slots {
         self.cells.len() - 1 - self.spare as usize
     }
 
-    /// The sequence numbers of the messages, rising. No contract says which they are, so a caller
-    /// must check what it does with them.
-    pub fn places(&self, alloc: Global) -> Result<Vec<u64>, AllocError> {
-        let mut places = Vec::new(alloc);
-        for cell in self.cells.iter() {
-            if cell.prio < cells::HEAD {
-                places.push(cell.place)?;
-            }
-        }
-        places.sort()?;
-        Ok(places)
+    /// The messages present, each as its priority and its sequence number, the latest first.
+    pub fn messages(&self, alloc: Global) -> Result<Vec<(u32, u64)>, AllocError>
+        ensures { IfOk result (λ messages. messages.items ≡ self.now.messages) }
+    {
+        cells::messages(alloc, &self.cells)
     }
 
     /// A copy with the same room. Fails if memory was refused.

@@ -12,7 +12,7 @@ use Rattle.mq_model.specs.declared.entries.Reply.TheVariants.{Refused}
 use Rattle.mq_model.specs.declared.faults.Fault.{Fault}
 use Rattle.mq_model.proofs.NoWant.{replies-other, replies-room}
 use Rattle.mq_model.proofs.OpenCount.{open_waits-counted}
-use Rattle.mq_model.specs.Owners.{waits_count}
+use Rattle.mq_model.specs.Callers.{waits_count}
 use Rattle.mq_state.specs.Pool.{IsPooled}
 use Rattle.mq_state.specs.Requests.{without_deadline, IsGiven}
 use Rattle.mq_state.specs.Tables.{AreAtMost}
@@ -20,10 +20,10 @@ use Rattle.mq_state.specs.Kept.{AreThoseOf, HasRoomWithin, IsKeptBy, IsCalled, I
 use Rattle.mq_state.specs.declared.tables.Tables.{Tables}
 
 -- the tables count the open waits
-pub waits-counted : (past : Past) (t : Tables) → AreThoseOf past t → AreAtMost t.n past → waits_count t.owners.items ≡ open_waits past
-waits-counted past t tables few = open_waits-counted past t.owners.items t.n tables.legal tables.mirror.lines tables.mirror.owner_count tables.few few
+pub waits-counted : (past : Past) (t : Tables) → AreThoseOf past t → AreAtMost t.n past → waits_count t.callers.items ≡ open_waits past
+waits-counted past t tables few = open_waits-counted past t.callers.items t.n tables.legal tables.mirror.waits tables.mirror.caller_count tables.few few
 
-pub waits-open : (j : Shown) (t : Tables) → IsKeptBy j t → waits_count t.owners.items ≡ open_waits j.records
+pub waits-open : (j : Shown) (t : Tables) → IsKeptBy j t → waits_count t.callers.items ≡ open_waits j.records
 waits-open j t kept = waits-counted j.records t kept.tables kept.processes
 
 -- if they are not exceeded, and there is no room, there are no bounds

@@ -14,9 +14,9 @@ use Rattle.mq_model.proofs.Cases.{Says, reply_says}
 use Rattle.mq_model.proofs.LegalReplies.{legal_says}
 use Rattle.mq_model.proofs.Presence.{present-admitted}
 use Rattle.mq_model.proofs.NamedWaits.{blocked-cases, least-in, newest-receive}
-use Rattle.mq_model.specs.Owners.{blocked}
-use Rattle.mq_model.specs.declared.owners.WaitKind.{WaitKind}
-use Rattle.mq_model.specs.declared.owners.WaitKind.TheVariants.{Receive}
+use Rattle.mq_model.specs.Callers.{blocked}
+use Rattle.mq_model.specs.declared.callers.WaitKind.{WaitKind}
+use Rattle.mq_model.specs.declared.callers.WaitKind.TheVariants.{Receive}
 use Rattle.mq_model.proofs.Prefixes.{record_at-below, length-first, record_at-first, first-all}
 use Rattle.mq_model.proofs.HeldQueues.{called-alive}
 use Rattle.mq_state.specs.Buffers.{message_at, room_of, Fits}

@@ -12,9 +12,11 @@ pub mod Arriving
 pub mod InboxLines
 pub mod NoticeRoom
 pub mod TablesKeep
+pub mod CallersOf
 pub mod WaitsNoted
-pub mod WaitBits
+pub mod WaitCounts
 pub mod WaitsKnown
+pub mod Raising
 pub mod Starting
 pub mod Fitting
 pub mod Collecting
@@ -25,3 +27,5 @@ pub mod Replaying
 pub mod Stopping
 pub mod Trails
 pub mod Copies
+pub mod Listing
+pub mod Waiting

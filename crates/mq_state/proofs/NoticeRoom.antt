@@ -1,11 +1,13 @@
 -- After each entry there is room for the notice of each registration.
-use Rattle.std.proofs.Common.{◌≡◌, ◌≢◌, ℕ, ◌+◌, ◌<◌, ◌≤◌, Bool, true, false, List, [], ◌∷◌, length, map, cond, Option, Some, is_some, refl, arith, eq-eqb}
+use Rattle.std.proofs.Common.{◌≡◌, ◌≢◌, ℕ, ◌+◌, ◌<◌, ◌≤◌, Bool, true, false, List, [], ◌∷◌, ◌==◌, length, map, cond, Option, Some, None, is_some, refl, arith, eq-eqb, eqb-true}
 use Rattle.std.proofs.lemmas.List.{length-map}
 use Rattle.std.proofs.lemmas.List.Sums.{sum_by-cons, sum_by_push, count_by-le-length}
 use Rattle.mq_model.specs.Record.{Past}
-use Rattle.mq_model.specs.Notices.{registration_of, notified}
+use Rattle.mq_model.specs.Threads.{owner_of, shares}
+use Rattle.mq_model.specs.Notices.{registration_of, notified, only_if, or_else, unless, ends}
 use Rattle.mq_model.specs.Legality.{Legal}
 use Rattle.mq_model.specs.declared.owners.Owner.{Owner}
+use Rattle.mq_model.specs.declared.callers.Caller.{Caller}
 use Rattle.mq_model.specs.declared.entries.Entry.{Entry}
 use Rattle.mq_model.specs.declared.entries.Attr.{Attr}
 use Rattle.mq_model.specs.declared.entries.Registration.{Registration}
@@ -14,7 +16,6 @@ use Rattle.mq_model.specs.declared.entries.Reply.{Reply}
 use Rattle.mq_model.specs.declared.entries.Reply.TheVariants.{Queued, Got, Done}
 use Rattle.mq_model.proofs.Places.{split}
 use Rattle.mq_model.proofs.NoticeSteps.{made-of}
-use Rattle.std.proofs.lemmas.Bool.{eqb-false}
 use Rattle.mq_slots.specs.Held.{Held}
 use Rattle.mq_state.specs.declared.moves.LineMove.{LineMove}
 use Rattle.mq_state.specs.declared.moves.Moves.{Moves}
@@ -22,7 +23,7 @@ use Rattle.mq_state.specs.QueueShown.{QueueShown}
 use Rattle.mq_state.specs.InboxShown.{InboxShown}
 use Rattle.mq_state.specs.Inboxes.{room_in}
 use Rattle.mq_model.specs.ErrorOrder.{is_of}
-use Rattle.mq_state.specs.WaitBits.{waits_noted}
+use Rattle.mq_state.specs.WaitCounts.{waits_noted}
 use Rattle.mq_state.specs.Queues.{queue_in, registration_in, registrations_in, changed, without_queue, reregistered, renewed, noted_queues, QueuesMirror}
 use Rattle.mq_state.specs.Tables.{HasNoticeRoom, HasRoomToRegister, notices_brought, with_fresh}
 use Rattle.mq_state.proofs.Moving.{EntryOn, notifies-alive, notifies-registered}
@@ -52,21 +53,25 @@ registered-counts (x ∷ queues) q n e = grind (arith, eq-eqb, registrations-con
 
 -- one registration after an entry -----------------------------------------------------------------------------------------
 
--- the entry makes no registration of process p
+-- the entry makes no registration of caller p's process
 abbrev MakesNone : ℕ → Entry → ℕ → Type 0
-MakesNone here e p = (n : Registration) → registration_of here e.process e.call e.reply ≡ Some n → n.process ≢ p
+MakesNone here e p = (n : Registration) → registration_of here e.process e.call e.reply ≡ Some n → shares n.process p ≢ true
 
 -- all registrations after an entry ----------------------------------------------------------------------------------------
 
+one-fewer : (o : Option Registration) (on : Bool) (ended : Registration → Bool) (before : Option Registration) (p : ℕ) → ((n : Registration) → o ≡ Some n → shares n.process p ≢ true) → one_if (is_of p (or_else (only_if on o) (unless ended before))) ≤ one_if (is_of p before)
+one-fewer None on ended before p none = grind arith
+one-fewer (Some m) on ended before p none = let other = none m refl in grind arith
+
 map-fewer : (q here : ℕ) (e : Entry) (queues : List QueueShown) (p : ℕ) → MakesNone here e p → registrations_in (map (reregistered q here e) queues) p ≤ registrations_in queues p
 map-fewer q here e [] p none = let z = registrations-none p in omega arith
-map-fewer q here e (x ∷ queues) p none = grind (arith, registrations-cons, map-fewer q here e queues p none)
+map-fewer q here e (x ∷ queues) p none = let here-fewer = one-fewer (registration_of here e.process e.call e.reply) (q == x.place) (ends (q == x.place) e) x.registration p none in grind (arith, registrations-cons, map-fewer q here e queues p none)
 
 -- a notified registration ends
-map-notified : (q here : ℕ) (e : Entry) (queues : List QueueShown) (n : Registration) → ((p : ℕ) → MakesNone here e p) → registration_in queues q ≡ Some n → notified e.reply ≡ Some n.place → registrations_in (map (reregistered q here e) queues) n.process + 1 ≤ registrations_in queues n.process
+map-notified : (q here : ℕ) (e : Entry) (queues : List QueueShown) (n : Registration) (p : ℕ) → ((m : Registration) → registration_of here e.process e.call e.reply ≢ Some m) → shares n.process p ≡ true → registration_in queues q ≡ Some n → notified e.reply ≡ Some n.place → registrations_in (map (reregistered q here e) queues) p + 1 ≤ registrations_in queues p
 unfolding registration_in queue_in
-map-notified q here e [] n none stands is = absurd (cc)
-map-notified q here e (x ∷ queues) n none stands is = grind (arith, split, eq-eqb, registrations-cons, map-fewer q here e queues n.process, map-notified q here e queues n none)
+map-notified q here e [] n p none own stands is = absurd (cc)
+map-notified q here e (x ∷ queues) n p none own stands is = grind (arith, split, eq-eqb, registrations-cons, map-fewer q here e queues p, map-notified q here e queues n p none own)
 
 registrations-changed : (f : QueueShown → QueueShown) (queues : List QueueShown) (q p : ℕ) → ((x : QueueShown) → (f x).registration ≡ x.registration) → registrations_in (changed f queues q) p ≡ registrations_in queues p
 registrations-changed f [] q p same = refl
@@ -92,18 +97,25 @@ noted-fewer brought given owners here e q moves queues p = grind (arith, lines-r
 
 -- there is room after each entry ------------------------------------------------------------------------------------------
 
+-- threads of one process have the same room
+room-mates : (inboxes : List InboxShown) (a b : ℕ) → owner_of a ≡ owner_of b → room_in inboxes a ≡ room_in inboxes b
+unfolding room_in
+room-mates inboxes a b e = rw e refl
+
 -- the room that a process keeps, if the entry adds notices for the registered process
 abbrev KeepsRoom : List QueueShown → List InboxShown → List InboxShown → ℕ → Bool → Type 0
 KeepsRoom queues inboxes after q notified = (p : ℕ) → room_in inboxes p ≤ room_in after p + notices_brought (registration_in queues q) notified p
 
--- after an entry that notifies no process, and makes no registration of process p
+-- after an entry that notifies no process, and makes no registration of caller p's process
 quiet-room : (here : ℕ) (e : Entry) (queues : List QueueShown) (inboxes after : List InboxShown) (q : ℕ) → HasNoticeRoom queues inboxes → KeepsRoom queues inboxes after q false → (p : ℕ) → MakesNone here e p →
     registrations_in (map (reregistered q here e) queues) p ≤ room_in after p
 quiet-room here e queues inboxes after q has kept p none = grind (arith, map-fewer)
 
 done-room : (past : Past) (p : ℕ) (call : Call) (queues : List QueueShown) (inboxes after : List InboxShown) (q : ℕ) → HasNoticeRoom queues inboxes → KeepsRoom queues inboxes after q false → HasRoomToRegister queues inboxes p call Done → (k : ℕ) →
     registrations_in (map (reregistered q (length past) (record { process = p; call = call; reply = Done })) queues) k ≤ room_in after k
-done-room past p call queues inboxes after q has kept room k = grind (arith, quiet-room, eqb-false, few, length-map, made-of, split)
+done-room past p call queues inboxes after q has kept room k = split (shares p k)
+    (λ own. let same = room-mates inboxes p k (eqb-true _ _ own) in grind (arith, quiet-room, few, length-map))
+    (λ other. grind (arith, quiet-room, made-of))
 
 notified-room : (past : Past) → Legal past → (queues : List QueueShown) → QueuesMirror past queues → (p : ℕ) (call : Call) (reply : Reply) (payload : List ℕ) (q : ℕ) → EntryOn past p call payload reply q → (inboxes after : List InboxShown) →
     HasNoticeRoom queues inboxes → KeepsRoom queues inboxes after q true → (j : ℕ) → notified reply ≡ Some j → ((n : Registration) → registration_of (length past) p call reply ≢ Some n) → (k : ℕ) →
@@ -130,6 +142,6 @@ notice-room-keeps past legal queues m p call reply payload q on inboxes after ha
 pub room-to-notify : (queues : List QueueShown) (inboxes : List InboxShown) → HasNoticeRoom queues inboxes → (q : ℕ) (n : Registration) → registration_in queues q ≡ Some n → 0 < room_in inboxes n.process
 room-to-notify queues inboxes has q n stands = grind (arith, registered-counts)
 
--- after the update of the processes that wait
-pub notice-room-waiting : (moved : Option ℕ) (owners : List Owner) (queues : List QueueShown) (inboxes : List InboxShown) → HasNoticeRoom queues inboxes → HasNoticeRoom (waits_noted moved owners queues) inboxes
-notice-room-waiting moved owners queues inboxes has = grind (arith, registrations-changed)
+-- after the update of the number of those that wait
+pub notice-room-waiting : (moved : Option ℕ) (callers : List Caller) (queues : List QueueShown) (inboxes : List InboxShown) → HasNoticeRoom queues inboxes → HasNoticeRoom (waits_noted moved callers queues) inboxes
+notice-room-waiting moved callers queues inboxes has = grind (arith, registrations-changed)

@@ -9,8 +9,8 @@ use Rattle.mq_model.specs.declared.bounds.Bounds.{Bounds}
 use Rattle.mq_model.specs.declared.entries.Entry.{Entry}
 use Rattle.mq_slots.specs.Held.{Held}
 use Rattle.mq_state.specs.QueueShown.{QueueShown}
-use Rattle.mq_model.specs.declared.owners.Owner.{Owner}
-use Rattle.mq_state.specs.WaitBits.{waits_noted}
+use Rattle.mq_model.specs.declared.callers.Caller.{Caller}
+use Rattle.mq_state.specs.WaitCounts.{waits_noted}
 use Rattle.mq_state.specs.Queues.{queue_in, changed, reregistered, without_queue, fresh}
 use Rattle.mq_state.specs.Pool.{Pool, PoolWith, PoolWithin, IsSpare, emptied}
 use Rattle.std.proofs.lemmas.List.Edits.{length-remove}
@@ -36,10 +36,10 @@ length-changed f (x ∷ queues) q = grind (arith, length-changed f queues q)
 pub pool-kept : {m a b : ℕ} {spares : List Held} (f : QueueShown → QueueShown) → ((x : QueueShown) → (f x).cap ≡ x.cap) → (queues : List QueueShown) (q : ℕ) → Pool m queues spares a b → Pool m (changed f queues q) spares a b
 pool-kept f same queues q pool = grind (arith, length-changed, wide-changed)
 
--- after the update of the processes that wait
-pub pooled-waiting : (bounds : Option Bounds) (moved : Option ℕ) (owners : List Owner) (queues after : List QueueShown) (spares : List Held) (room after_room spare_room : ℕ) → after ≡ waits_noted moved owners queues → after_room ≡ room →
+-- after the update of the number of those that wait
+pub pooled-waiting : (bounds : Option Bounds) (moved : Option ℕ) (callers : List Caller) (queues after : List QueueShown) (spares : List Held) (room after_room spare_room : ℕ) → after ≡ waits_noted moved callers queues → after_room ≡ room →
     PoolWithin bounds None queues spares room spare_room → PoolWithin bounds None after spares after_room spare_room
-pooled-waiting bounds moved owners queues after spares room after_room spare_room is same pool = grind (arith, length-changed, wide-changed)
+pooled-waiting bounds moved callers queues after spares room after_room spare_room is same pool = grind (arith, length-changed, wide-changed)
 
 -- one queue is removed ----------------------------------------------------------------------------------------------------
 

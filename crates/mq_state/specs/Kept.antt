@@ -8,14 +8,14 @@ use Rattle.mq_model.specs.Bounds.{has_entry, exceeds, HeedsBounds}
 use Rattle.mq_model.specs.declared.faults.Fault.{Fault}
 use Rattle.mq_model.specs.declared.faults.Fault.TheVariants.{NoMemory, JournalFull}
 use Rattle.mq_model.specs.declared.bounds.Bounds.{Bounds}
-use Rattle.mq_model.specs.Owners.{waits_count}
+use Rattle.mq_model.specs.Callers.{waits_count}
 use Rattle.mq_model.specs.declared.entries.Reply.{Reply}
 use Rattle.mq_model.specs.declared.entries.Reply.TheVariants.{Waits, Collected, Refused, Withdrawn}
 use Rattle.mq_state.specs.Pool.{IsPooled}
 use Rattle.mq_state.specs.InboxShown.{InboxShown}
 use Rattle.mq_state.specs.Inboxes.{notices_in, room_in}
 use Rattle.mq_state.specs.Tables.{TablesMirror, AreAtMost, HasNoticeRoom, AreCalls}
-use Rattle.mq_state.specs.WaitBits.{KnowWaits}
+use Rattle.mq_state.specs.WaitCounts.{KnowWaits}
 use Rattle.mq_state.specs.declared.tables.Tables.{Tables}
 
 -- What a `Books` shows: its records, the latest first, the number of its processes, the bounds of
@@ -29,16 +29,16 @@ pub record Kept : Type 0 where
 
 -- the tables are those of the journal
 abbrev pub Mirrors : Shown → Tables → Type 0
-Mirrors j t = TablesMirror j.records t.n t.owners.items t.queues.items t.inboxes.items
+Mirrors j t = TablesMirror j.records t.n t.owners.items t.callers.items t.queues.items t.inboxes.items
 
 -- The tables are those of these records, which are legal. The rows of the queues say which
 -- processes wait, and there is room for the notice of each registration.
 pub record AreThoseOf (past : Past) (t : Tables) : Type 0 where
   pub legal : Legal past
-  pub few : t.n ≤ 32
-  pub mirror : TablesMirror past t.n t.owners.items t.queues.items t.inboxes.items
-  pub waits : t.waits ≡ waits_count t.owners.items
-  pub known : KnowWaits t.owners.items t.queues.items
+  pub few : t.n ≤ 2048
+  pub mirror : TablesMirror past t.n t.owners.items t.callers.items t.queues.items t.inboxes.items
+  pub waits : t.waits ≡ waits_count t.callers.items
+  pub known : KnowWaits t.callers.items t.queues.items
   pub notice_room : HasNoticeRoom t.queues.items t.inboxes.items
   pub calls : AreCalls past t.n t.calls.items
 
@@ -48,6 +48,7 @@ pub record SaysSame (old new : Tables) : Type 0 where
   pub bounds : new.bounds ≡ old.bounds
   pub waits : new.waits ≡ old.waits
   pub owners : new.owners.items ≡ old.owners.items
+  pub callers : new.callers.items ≡ old.callers.items
   pub calls : new.calls.items ≡ old.calls.items
   pub queues : new.queues.items ≡ old.queues.items
   pub inbox_count : length new.inboxes.items ≡ length old.inboxes.items
@@ -82,7 +83,7 @@ IsRoomWithin (Some b) past entries bytes = (b.entries ≤ length past + entries)
 pub record IsKeptBy (j : Shown) (t : Tables) : Type 0 where
   pub tables : AreThoseOf j.records t
   pub processes : AreAtMost t.n j.records
-  pub room : waits_count t.owners.items ≤ j.entry_room
+  pub room : waits_count t.callers.items ≤ j.entry_room
   pub bounded : HasRoomWithin t.bounds j
   pub notices : HasNotices t.bounds (length j.records) t.n t.inboxes.items
   pub readable : IsReadable j

@@ -4,13 +4,14 @@ pub mod QueueShown
 pub mod Queues
 pub mod QueueModel
 pub mod Moves
-pub mod WaitBits
+pub mod WaitCounts
 pub mod InboxShown
 pub mod InboxModel
 pub mod Tables
 pub mod Inboxes
 pub mod Pool
 pub mod Kept
+pub mod Raising
 pub mod Room
 pub mod Buffers
 pub mod Requests
@@ -19,3 +20,4 @@ pub mod Memory
 pub mod Replays
 pub mod Trails
 pub mod TrailModel
+pub mod Waiting

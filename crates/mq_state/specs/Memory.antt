@@ -5,4 +5,4 @@ use Rattle.std.specs.Prelude.{ℕ, ◌+◌, ◌*◌}
 -- more, has its descriptors and its notices, of which there may be as many as entries and 64 more.
 -- Each of 64 queues has its row and the slots of 4,096 messages.
 abbrev pub memory_of : ℕ → ℕ → ℕ → ℕ
-memory_of n entries bytes = bytes + 120 * entries + (n + 1) * (8 * entries + 1064) + 5256248
+memory_of n entries bytes = bytes + 120 * entries + (n + 1) * (8 * entries + 1064) + 5256272

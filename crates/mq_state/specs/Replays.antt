@@ -1,6 +1,6 @@
 -- Where and why a journal is not legal.
 use Rattle.std.specs.Prelude.{ℕ, ◌≡◌, ◌≢◌, ◌<◌, ◌+◌, ◌&&◌, Bool, true, false, nat_le, length, IfSome, Option}
-use Rattle.mq_model.specs.Limits.{most_processes}
+use Rattle.mq_model.specs.Limits.{most_callers}
 use Rattle.mq_model.specs.Record.{Record, Past, record_at, first, payload_bytes}
 use Rattle.mq_model.specs.Bounds.{exceeds, open_waits}
 use Rattle.mq_model.specs.declared.bounds.Bounds.{Bounds}
@@ -12,7 +12,7 @@ use Rattle.mq_state.specs.declared.replay.Misfit.{Misfit}
 use Rattle.mq_state.specs.declared.replay.Misfit.TheVariants.{NoMemory, Illegal, Foreign, TooLong}
 
 abbrev pub has_process : Record → Bool
-has_process r = nat_le 1 r.entry.process && nat_le r.entry.process most_processes
+has_process r = nat_le 1 r.entry.process && nat_le r.entry.process most_callers
 
 abbrev pub is_in_turn : Past → Record → Bool
 is_in_turn past r = may_call past r.entry.process r.entry.call

@@ -1,5 +1,5 @@
 -- The tables say what the definitions say about the journal.
-use Rattle.std.specs.Prelude.{ℕ, Bool, ◌≡◌, ◌+◌, ◌≤◌, ◌<◌, true, false, List, [], ◌∷◌, ◌++◌, ◌&&◌, ◌==◌, if◌then◌else◌, drop, All, slice_set, slice_index_or, length, Option, Some, None, int_le, pos}
+use Rattle.std.specs.Prelude.{ℕ, Bool, ◌≡◌, ◌+◌, ◌≤◌, ◌<◌, true, false, List, [], ◌∷◌, ◌++◌, ◌&&◌, if◌then◌else◌, drop, All, slice_set, slice_index_or, length, Option, Some, None, int_le, nat_le, pos}
 use Rattle.std.specs.Option.{unwrap_or}
 use Rattle.mq_model.specs.Names.{bound_queue, creates, attributes_given, are_within_limits}
 use Rattle.mq_model.specs.Descriptors.{called_queue}
@@ -12,9 +12,13 @@ use Rattle.mq_state.specs.Buffers.{waiting_call}
 use Rattle.mq_model.specs.declared.entries.Reply.{Reply}
 use Rattle.mq_model.specs.declared.entries.Reply.TheVariants.{Done}
 use Rattle.mq_model.specs.Record.{Past}
+use Rattle.mq_model.specs.Threads.{shares}
 use Rattle.mq_model.specs.Notices.{notices}
 use Rattle.mq_model.specs.Owners.{OwnersMirror}
-use Rattle.mq_model.specs.declared.owners.OpenWait.{OpenWait}
+use Rattle.mq_model.specs.declared.callers.OpenWait.{OpenWait}
+use Rattle.mq_model.specs.Limits.{most_processes}
+use Rattle.mq_model.specs.Callers.{CallersMirror}
+use Rattle.mq_model.specs.declared.callers.Caller.{Caller}
 use Rattle.mq_model.specs.declared.owners.Owner.{Owner}
 use Rattle.mq_state.specs.declared.moves.WaitMove.{WaitMove}
 use Rattle.mq_state.specs.declared.moves.WaitMove.TheVariants.{Stays, Begins, Ends}
@@ -25,15 +29,22 @@ use Rattle.mq_state.specs.Queues.{QueuesMirror, registrations_in, fresh}
 use Rattle.mq_slots.specs.Held.{Held}
 use Rattle.mq_state.specs.Inboxes.{notices_in, room_in}
 
--- the processes of all entries are at most n
+-- the callers of all entries are at most n
 abbrev pub AreAtMost : ℕ → Past → Type 0
 AreAtMost n past = All (λ r. r.entry.process ≤ n) past
 
--- the row and the inbox of process p are at index p
-pub record TablesMirror (past : Past) (n : ℕ) (owners : List Owner) (queues : List QueueShown) (inboxes : List InboxShown) : Type 0 where
-  pub owner_count : length owners ≡ n + 1
-  pub inbox_count : length inboxes ≡ n + 1
+-- the last process among n callers
+abbrev pub last_process : ℕ → ℕ
+last_process n = if nat_le n most_processes then n else most_processes
+
+-- Caller p has the row at index p of the table of callers, and process p those at index p of the
+-- tables of processes and of inboxes.
+pub record TablesMirror (past : Past) (n : ℕ) (owners : List Owner) (callers : List Caller) (queues : List QueueShown) (inboxes : List InboxShown) : Type 0 where
+  pub owner_count : length owners ≡ last_process n + 1
+  pub caller_count : length callers ≡ n + 1
+  pub inbox_count : length inboxes ≡ last_process n + 1
   pub lines : OwnersMirror past owners
+  pub waits : CallersMirror past callers
   pub existing : QueuesMirror past queues
   pub notices : (p : ℕ) → notices_in inboxes p ≡ notices past p
 
@@ -44,18 +55,18 @@ entry_queue past p (MqOpen flags attr) name = unwrap_or (bound_queue past name) 
 entry_queue past p MqUnlink name = unwrap_or (bound_queue past name) (length past)
 entry_queue past p call name = unwrap_or (called_queue past p call) (length past)
 
--- a process with an open wait begins none, and one without ends none
+-- a caller with an open wait begins none, and one without ends none
 abbrev pub MovesOwnWait : WaitMove → Option OpenWait → Type 0
 MovesOwnWait Stays wait = Unit {0}
 MovesOwnWait Begins wait = wait ≡ None
 MovesOwnWait Ends wait = (w : OpenWait) × (wait ≡ Some w)
 
--- the calls in which processes wait, after an entry of process p
+-- the calls in which callers wait, after an entry of caller p
 abbrev pub calls_noted : WaitMove → ℕ → Call → List Call → List Call
 calls_noted Begins p call calls = slice_set calls p call
 calls_noted _ p call calls = calls
 
--- the call in which each process waits is at its index
+-- the call in which each caller waits is at its index
 pub record AreCalls (past : Past) (n : ℕ) (calls : List Call) : Type 0 where
   pub count : length calls ≡ n + 1
   pub at : (p w : ℕ) → open_wait past p ≡ Some w → slice_index_or calls p Collect ≡ waiting_call past p
@@ -85,21 +96,21 @@ abbrev pub HasRoomToRegister : List QueueShown → List InboxShown → ℕ → C
 HasRoomToRegister queues inboxes p (MqNotify d (Some v)) reply = reply ≡ Done → length queues ≤ room_in inboxes p
 HasRoomToRegister queues inboxes p call reply = Unit {0}
 
--- How many notices an entry adds for process p: one if it notifies a registration of the process.
+-- How many notices an entry adds for caller p: one if it notifies a registration of its process.
 abbrev pub notices_brought : Option Registration → Bool → ℕ → ℕ
 notices_brought None notified p = 0
-notices_brought (Some n) notified p = if notified && n.process == p then 1 else 0
+notices_brought (Some n) notified p = if notified && shares n.process p then 1 else 0
 
--- The notices of process p after an entry. If the entry notifies the registration on its queue,
+-- The notices of caller p's process after an entry. If the entry notifies the registration on its queue,
 -- that adds one.
 abbrev pub notified_values : Option Registration → Bool → ℕ → List ℕ → List ℕ
 notified_values None notified p values = values
-notified_values (Some n) notified p values = if notified && n.process == p then values ++ n.value ∷ [] else values
+notified_values (Some n) notified p values = if notified && shares n.process p then values ++ n.value ∷ [] else values
 
 -- and the oldest is removed if the entry gives it to its process
 abbrev pub noted_values : ℕ → Option Registration → Moves → ℕ → List ℕ → List ℕ
 noted_values process registered moves p values =
-    if moves.given && process == p then drop 1 (notified_values registered moves.notified p values) else notified_values registered moves.notified p values
+    if moves.given && shares process p then drop 1 (notified_values registered moves.notified p values) else notified_values registered moves.notified p values
 
 abbrev pub with_fresh : Option Held → Attr → ℕ → List QueueShown → List QueueShown
 with_fresh None given here queues = queues

@@ -7,9 +7,9 @@ use Rattle.mq_state.specs.declared.trail.Trail.TheInside.{Inside}
 abbrev pub shown : Inside → Past
 shown x = x.journal.records
 
--- the tables are those of the records, for 32 processes and without bounds
+-- the tables are those of the records, without bounds
 abbrev pub AreTrackedBy : Past → Tables → Type 0
-AreTrackedBy past t = AreThoseOf past t × (t.n ≡ 32) × (t.bounds ≡ None)
+AreTrackedBy past t = AreThoseOf past t × (t.bounds ≡ None)
 
 abbrev pub IsTracked : Inside → Type 0
 IsTracked x = AreTrackedBy x.journal.records x.tables

@@ -1,11 +1,11 @@
 //! The queues of one thread, with the journal of the calls made on them.
 //!
-//! Each call is made by a process p from 1 to n that has no open wait. It appends exactly one
-//! entry, the call with the reply that the definitions give, and returns that reply. A call that
-//! replies `Refused(NoMemory)` or `Refused(JournalFull)` has no entry and changes nothing.
-//! `NoMemory` means that memory was refused, and never occurs with bounds. `JournalFull` occurs if
-//! and only if there are bounds and the call finds the journal full.
-ghost use Rattle.std.specs.Prelude.{◌≡◌, ◌≢◌, ◌<◌, ◌≤◌, IfOk, IfErr, IfSome, IsSome, IsTrue, ◌↔◌, Some, None, length, [], All, true, false, ◌&&◌, is_none};
+//! Each call is made by a caller p from 1 to n that has no open wait: a process, or another thread of
+//! one. It appends exactly one entry, the call with the reply that the definitions give, and
+//! returns that reply. A call that replies `Refused(NoMemory)` or `Refused(JournalFull)` has no
+//! entry and changes nothing. `NoMemory` means that memory was refused, and never occurs with
+//! bounds. `JournalFull` occurs if and only if there are bounds and the call finds the journal full.
+ghost use Rattle.std.specs.Prelude.{◌≡◌, ◌≢◌, ◌<◌, ◌≤◌, ◌+◌, ◌-◌, ◌*◌, OnOk, OnErr, IfOk, IfErr, IfSome, IsSome, IsTrue, ◌↔◌, Some, None, length, [], All, true, false, ◌&&◌, is_none};
 ghost use Rattle.mq_model.specs.Deadlines.{is_over};
 ghost use Rattle.mq_model.specs.Waits.{open_wait, wait_deadline, answered_by, is_answered};
 ghost use Rattle.mq_model.specs.Descriptors.{lowest_held};
@@ -198,6 +198,39 @@ impl Books {
             Ok(inner) => Ok(Books { inner }),
             Err(refused) => Err(refused),
         }
+    }
+
+    /// The queues of n processes of t threads each, with a stored journal without bounds. The first
+    /// thread of process o is caller o, and the others are the callers o + 32, o + 64, .. They share
+    /// the descriptors, registrations and notices of the process, and each of them can wait. Fails
+    /// if memory was refused.
+    pub fn threads(alloc: Global, n: u32, t: u32) -> Result<Books, AllocError>
+        requires processes { (1 ≤ n) × (n ≤ 32) }
+        requires threads { (1 ≤ t) × (t ≤ 64) }
+        ensures empty { IfOk result (λ b. b.records ≡ []) }
+        ensures callers { IfOk result (λ b. b.n ≡ n + 32 * (t - 1)) }
+        ensures bounds { IfOk result (λ b. b.bounds ≡ None) }
+        ensures stored { IfOk result (λ b. b.stored ≡ true) }
+    {
+        let mut books = Books::new(alloc, n)?;
+        books.raise(n + 32 * (t - 1))?;
+        Ok(books)
+    }
+
+    /// Lets the callers up to n make calls, if they could not: the callers to n + 32 * (t - 1) are
+    /// those of n processes of t threads. If it fails, memory was refused, and nothing changes.
+    pub fn raise(&mut self, n: u32) -> Result<(), AllocError>
+        requires { n ≤ 2048 }
+        ensures records { self.new.records ≡ self.old.records }
+        ensures more { self.old.n ≤ self.new.n }
+        ensures enough { OnOk result (n ≤ self.new.n) }
+        ensures exact { OnOk result (self.old.n ≤ n → self.new.n ≡ n) }
+        ensures err { OnErr result (self.new ≡ self.old) }
+        ensures bounds { self.new.bounds ≡ self.old.bounds }
+        ensures byte_room { self.new.byte_room ≡ self.old.byte_room }
+        ensures stored { self.new.stored ≡ self.old.stored }
+    {
+        self.inner.tables.raise(n)
     }
 
     /// Makes a call of process p, of any kind. `given` is its name or its message, or empty, and

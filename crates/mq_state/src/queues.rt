@@ -1,6 +1,6 @@
 //! The table of the queues that exist: which still have their names, the registrations on them, and
 //! their messages.
-ghost use Rattle.std.specs.Prelude.{◌≡◌, ◌<◌, ◌^◌, ◌==◌, ◌++◌, ◌∷◌, [], IfOk, position, length, Some, None, map, ℕ, vec_len, vec_capacity, ◌≤◌, int_le, pos, true, IsTrue, All};
+ghost use Rattle.std.specs.Prelude.{◌≡◌, ◌<◌, ◌^◌, ◌==◌, ◌++◌, ◌∷◌, [], IfOk, position, length, Some, None, map, reverse, ℕ, vec_len, vec_capacity, ◌≤◌, int_le, pos, true, IsTrue, All};
 ghost use Rattle.std.specs.Option.{option_map};
 ghost use Rattle.std.specs.Str.{bytes_eq};
 ghost use Rattle.mq_model.specs.Names.{name_of, are_within_limits};
@@ -88,9 +88,11 @@ impl Queue {
         self.waiting
     }
 
-    /// The sequence numbers of the messages, rising. No contract says which they are.
-    pub fn message_places(&self, alloc: Global) -> Result<Vec<u64>, AllocError> {
-        self.slots.places(alloc)
+    /// The messages present, each as its priority and its sequence number, the latest first.
+    pub fn messages(&self, alloc: Global) -> Result<Vec<(u32, u64)>, AllocError>
+        ensures { IfOk result (λ messages. messages.items ≡ self.now.slots) }
+    {
+        self.slots.messages(alloc)
     }
 
     fn set_waiting(&mut self, bits: u64)
@@ -313,6 +315,29 @@ pub fn registration(queues: &[Queue], q: u64) -> Option<Registration>
         None => None,
         Some(x) => x.registration(),
     }
+}
+
+/// The messages of queue q, each as its priority and its sequence number, the latest first.
+#[tactic(auto, unfolding(crate::specs::Queues::slots_in))]
+pub fn messages(alloc: Global, queues: &[Queue], q: u64) -> Result<Vec<(u32, u64)>, AllocError>
+    ensures { IfOk result (λ messages. messages.items ≡ slots_in queues.now q) }
+{
+    match find(queues, q) {
+        None => Ok(Vec::new(alloc)),
+        Some(x) => x.messages(alloc),
+    }
+}
+
+/// The sequence numbers of the opens that created the queues, the latest first.
+#[tactic(auto, using(crate::proofs::Listing::listing))]
+pub fn places(alloc: Global, queues: &[Queue]) -> Result<Vec<u64>, AllocError>
+    ensures { IfOk result (λ places. places.items ≡ reverse (map (λ x. x.place) queues.now)) }
+{
+    let mut places = Vec::new(alloc);
+    for index in (0..queues.len()).rev() {
+        places.push(queues[index].place())?;
+    }
+    Ok(places)
 }
 
 /// Whether queue q is still bound to its name.

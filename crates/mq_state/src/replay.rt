@@ -10,7 +10,7 @@ ghost use Rattle.mq_state.specs.Tables.{AreAtMost};
 use crate::prefixes::Prefix;
 use crate::tables::Tables;
 use mq_model::entries::{Entry, Reply};
-use mq_model::forms::{is_payload, is_process};
+use mq_model::forms::{is_caller, is_payload};
 use mq_model::journals::Journal;
 use mq_model::limits::PROCESSES;
 use mq_model::replies::is_same;
@@ -20,9 +20,9 @@ use std::alloc::{AllocError, Global};
 /// reported.
 #[derive(Clone, Copy, Debug, PartialEq, Eq)]
 pub enum Cause {
-    /// The number of the process is not from 1 to 32.
+    /// The number of the caller is not from 1 to 2,048.
     Process,
-    /// The process may not make this call now. It has an open wait and the call does not end a
+    /// The caller may not make this call now. It has an open wait and the call does not end a
     /// wait, or it collects or withdraws when it may not.
     Turn,
     /// The payload is not the name or message that belongs to the call and its reply.
@@ -62,7 +62,7 @@ fn cause_at(past: &Prefix<'_>, tables: &Tables, entry: Entry, payload: &[u8]) ->
     ensures cause { IfSome result (IsCause past.now.records
         (record { entry = entry; payload = payload.now })) }
 {
-    if !is_process(entry.process) {
+    if !is_caller(entry.process) {
         return Some(Cause::Process);
     }
     if !tables.may_call(past, entry.process, entry.call) {
@@ -80,7 +80,7 @@ fn cause_at(past: &Prefix<'_>, tables: &Tables, entry: Entry, payload: &[u8]) ->
 
 /// The first entry that is not legal, and why, or `None` if the journal is legal. `check_history`
 /// returns the same sequence number. It reads the journal once. Fails if memory was refused. Beside
-/// the journal it takes memory for the queues that exist at any one time.
+/// the journal it takes memory for the queues that exist at any one time, and for the callers.
 pub fn replay(alloc: Global, journal: &Journal) -> Result<Option<Departure>, AllocError>
     ensures legal { IfOk result (λ found. (found ≡ None) ↔ Legal journal.now.records) }
     ensures departure { IfOk result (λ found. IfSome found (IsDeparture journal.now.records)) }
@@ -92,6 +92,7 @@ pub fn replay(alloc: Global, journal: &Journal) -> Result<Option<Departure>, All
         if let Some(cause) = cause_at(&past, &tables, entry, payload) {
             return Ok(Some(Departure { place, cause }));
         }
+        tables.raise(entry.process)?;
         tables.follow(&past, entry, payload)?;
     }
     Ok(None)

@@ -14,7 +14,7 @@ use crate::trail::Trail;
 use mq_model::entries::{Access, Attr, Call, Description, OpenFlags, Reply};
 use mq_model::journals::Journal;
 use mq_model::limits::{DESCRIPTORS, PROCESSES};
-use mq_model::owners;
+use mq_model::{callers, owners};
 use std::alloc::{AllocError, Global};
 
 /// Why a journal was not rewritten.
@@ -74,7 +74,7 @@ fn make(trail: &mut Trail, p: u32, call: Call, given: &[u8]) -> Result<(), Unwri
 }
 
 fn owners_answered(tables: &Tables) -> bool {
-    tables.owners.iter().any(|owner| owner.answer.is_some())
+    tables.callers.iter().any(|caller| caller.answer.is_some())
 }
 
 // The names under which the queues are created: their own, or spare ones for those that have lost
@@ -268,11 +268,11 @@ fn fill_queues(
     names: &[Vec<u8>],
 ) -> Result<(), Unwritten> {
     for i in 0..queues.len() {
-        let places = queues[i].message_places(alloc)?;
-        if !places.is_empty() {
+        let messages = queues[i].messages(alloc)?;
+        if !messages.is_empty() {
             open(trail, HELPER, name_at(names, i)?, Access::Write, false)?;
-            for k in 0..places.len() {
-                send_again(trail, journal, places[k])?;
+            for k in (0..messages.len()).rev() {
+                send_again(trail, journal, messages[k].1)?;
             }
             close(trail, HELPER, 0)?;
         }
@@ -352,7 +352,7 @@ fn index_of(queues: &[Queue], place: u64) -> usize {
 fn register(trail: &mut Trail, queues: &[Queue], p: u32) -> Result<(), Unwritten> {
     for i in 0..queues.len() {
         if let Some(n) = queues[i].registration() {
-            if n.process == p {
+            if callers::share(n.process, p) {
                 let value = Some(n.value);
                 make(trail, p, Call::MqNotify { d: n.d, value }, &[])?;
             }
@@ -387,8 +387,8 @@ fn begin_waits(
 // The sequence numbers of the open waits, rising.
 fn waiting_places(alloc: Global, tables: &Tables) -> Result<Vec<u64>, AllocError> {
     let mut places = Vec::new(alloc);
-    for p in 0..tables.owners.len() {
-        if let Some(wait) = tables.owners[p].wait {
+    for p in 0..tables.callers.len() {
+        if let Some(wait) = tables.callers[p].wait {
             places.push(wait.place)?;
         }
     }

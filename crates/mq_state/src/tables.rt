@@ -2,10 +2,11 @@
 ghost use Rattle.std.specs.Prelude.{◌≡◌, ◌<◌, ◌≤◌, ◌+◌, IfOk, Some, None, ℕ, length, [], replicate};
 ghost use Rattle.mq_model.specs.declared.entries.Registration.{Registration};
 ghost use Rattle.mq_model.specs.Descriptors.{held};
-ghost use Rattle.mq_model.specs.Owners.{waits_count, free_owner};
+ghost use Rattle.mq_model.specs.Callers.{waits_count, free_caller};
+ghost use Rattle.mq_model.specs.Owners.{free_owner};
 ghost use Rattle.std.specs.Option.{option_map, unwrap_or};
 ghost use Rattle.mq_model.specs.Names.{bound_queue, attributes_given};
-ghost use Rattle.mq_state.specs.Tables.{entry_queue};
+ghost use Rattle.mq_state.specs.Tables.{entry_queue, last_process};
 ghost use Rattle.mq_ledger.specs.Ledgers.{IsReadable};
 ghost use Rattle.mq_model.specs.Legality.{Legal};
 ghost use Rattle.mq_state.specs.Kept.{Mirrors, notice_room};
@@ -14,6 +15,7 @@ ghost use Rattle.mq_state.specs.Pool.{order_count};
 pub(crate) mod calls;
 mod copies;
 mod facts;
+mod raising;
 mod room;
 mod waiting;
 
@@ -23,23 +25,25 @@ use crate::prefixes::Prefix;
 use crate::queues::Queue;
 use crate::{notices, queues};
 use mq_model::bounds::Bounds;
+use mq_model::callers::Caller;
 use mq_model::entries::{Call, Description, Entry};
 use mq_model::owners::Owner;
-use mq_model::{error_order, limits, owners};
+use mq_model::{callers, error_order, limits, owners};
 use mq_slots::Slots;
 use std::alloc::{AllocError, Global};
 
-/// What each process has, with the row and the inbox of process p at index p, and the queues that
-/// exist.
+/// What each process holds and each caller waits for, and the queues that exist. The row and the
+/// inbox of process p, and the row of caller p, are at index p.
 #[derive(Debug, Drop)]
 pub struct Tables {
     alloc: Global,
     n: u32,
     bounds: Option<Bounds>,
     pub(crate) owners: Vec<Owner>,
-    // the number of processes with an open wait
+    pub(crate) callers: Vec<Caller>,
+    // the number of callers with an open wait
     waits: usize,
-    // the call in which each process waits, if it does
+    // the call in which each caller waits, if it does
     calls: Vec<Call>,
     pub(crate) queues: Vec<Queue>,
     // message slots for later queues, if the tables have bounds
@@ -62,34 +66,36 @@ const HINTS: usize = 64;
 impl Tables {
     ghost use Rattle.mq_state.specs.Tables.{TablesMirror, HasNoticeRoom};
     ghost use Rattle.mq_state.specs.Kept.{HasNotices};
-    ghost use Rattle.mq_state.specs.WaitBits.{KnowWaits};
+    ghost use Rattle.mq_state.specs.WaitCounts.{KnowWaits};
     ghost use Rattle.mq_state.specs.Pool.{IsPooled};
 
-    /// The tables of n processes without descriptors, notices or waits, and without queues. With
-    /// bounds they have room for everything that the bounds allow. Prepaid tables have room for the
-    /// notices of each process.
+    /// The tables of callers 1 to n and their processes, without descriptors, notices or waits, and
+    /// without queues. With bounds they have room for everything that the bounds allow. Prepaid
+    /// tables have room for the notices of each process.
     pub fn new(
         alloc: Global,
         n: u32,
         bounds: Option<Bounds>,
         is_prepaid: bool,
     ) -> Result<Tables, AllocError>
-        requires { n ≤ 32 }
+        requires { n ≤ 2048 }
         ensures empty { IfOk result (λ t. (t.n ≡ n) ×
-            TablesMirror [] t.n t.owners.items t.queues.items t.inboxes.items ×
-            (waits_count t.owners.items ≡ 0) × (t.waits ≡ 0) ×
+            TablesMirror [] t.n t.owners.items t.callers.items t.queues.items t.inboxes.items ×
+            (waits_count t.callers.items ≡ 0) × (t.waits ≡ 0) ×
             HasNoticeRoom t.queues.items t.inboxes.items) }
-        ensures known { IfOk result (λ t. KnowWaits t.owners.items t.queues.items) }
+        ensures known { IfOk result (λ t. KnowWaits t.callers.items t.queues.items) }
         ensures bounds { IfOk result (λ t. t.bounds ≡ bounds) }
         ensures calls { IfOk result (λ t. length t.calls.items ≡ n + 1) }
         ensures notices { IfOk result (λ t. HasNotices bounds 0 n t.inboxes.items) }
         ensures pool { IfOk result (IsPooled None) }
     {
         let count = n as usize + 1;
-        let owners = free_owners(alloc, count)?;
+        let processes = last_process(n) as usize + 1;
+        let owners = free_owners(alloc, processes)?;
+        let callers = free_callers(alloc, count)?;
         let calls = vec![in alloc; Call::Collect; count]?;
         let room = notice_room(bounds)?.max(if is_prepaid { PREPAID_NOTICES } else { 0 });
-        let inboxes = notices::empty(alloc, count, room)?;
+        let inboxes = notices::empty(alloc, processes, room)?;
         let orders = order_count(bounds);
         let queues = Vec::with_capacity(alloc, orders)?;
         let spares = queues::spare_orders(alloc, orders)?;
@@ -98,6 +104,7 @@ impl Tables {
             n,
             bounds,
             owners,
+            callers,
             waits: 0,
             calls,
             queues,
@@ -123,7 +130,7 @@ impl Tables {
         }
     }
 
-    /// The number of processes.
+    /// The number of the last caller.
     pub fn processes(&self) -> u32
         ensures { result ≡ self.now.n }
     {
@@ -179,18 +186,20 @@ impl Tables {
 
 impl Tables {
     ghost use Rattle.std.specs.Prelude.{vec_len, vec_capacity};
-    ghost use Rattle.mq_model.specs.Owners.{wait_in};
+    ghost use Rattle.mq_model.specs.Callers.{wait_in};
     ghost use Rattle.mq_model.specs.OwnersNoted.{noted, FitsSlots};
+    ghost use Rattle.mq_model.specs.CallersNoted.{noted_waits};
+    ghost use Rattle.mq_model.specs.Threads.{owner_of};
     ghost use Rattle.mq_state.specs.Moves.{wait_move};
     ghost use Rattle.mq_state.specs.Queues.{noted_queues, registration_in, AllowsIn, HaveRisingPlaces};
     ghost use Rattle.mq_state.specs.Inboxes.{notices_in, room_in};
     ghost use Rattle.mq_state.specs.Pool.{IsPooled};
     ghost use Rattle.mq_state.specs.Tables.{BringsOrder, MovesOwnWait, calls_noted, notices_brought, noted_values, with_fresh};
 
-    // Updates the inboxes for an entry of process p on queue q: what it adds and takes.
+    // Updates the inboxes for an entry of caller p on queue q: what it adds and takes.
     #[inline]
     fn note_notices(&mut self, p: u32, q: u64, moves: Moves)
-        requires process { p < length self.old.inboxes.items }
+        requires process { owner_of p < length self.old.inboxes.items }
         requires room { (n : Registration) → registration_in self.old.queues.items q ≡ Some n →
             0 < room_in self.old.inboxes.items n.process }
         ensures same { self.new ≡ record self.old { inboxes = self.new.inboxes } }
@@ -213,28 +222,34 @@ impl Tables {
         }
     }
 
-    // Updates the table of processes, and the number of those that wait, for an entry on queue q.
+    // Updates the tables of processes and callers, and the number of those that wait, for an entry
+    // on queue q.
     #[inline(always)]
     fn note_process(&mut self, here: u64, entry: Entry, q: u64, wait: WaitMove)
-        requires process { entry.process < length self.old.owners.items }
+        requires process { owner_of entry.process < length self.old.owners.items }
+        requires caller { entry.process < length self.old.callers.items }
         requires numbers { FitsSlots entry.call entry.reply }
-        requires few { length self.old.owners.items ≤ 33 }
-        requires waits { self.old.waits ≡ waits_count self.old.owners.items }
+        requires few { length self.old.callers.items ≤ 2049 }
+        requires waits { self.old.waits ≡ waits_count self.old.callers.items }
         requires moves { wait ≡ wait_move entry.reply }
-        requires own { MovesOwnWait wait (wait_in self.old.owners.items entry.process) }
+        requires own { MovesOwnWait wait (wait_in self.old.callers.items entry.process) }
         requires calls { entry.process < length self.old.calls.items }
         ensures same { self.new ≡ record self.old {
           owners = self.new.owners;
+          callers = self.new.callers;
           waits = self.new.waits;
           calls = self.new.calls;
         } }
         ensures calls { self.new.calls.items ≡ calls_noted wait entry.process entry.call self.old.calls.items }
         ensures owners { self.new.owners.items ≡
-            noted self.old.owners.items here entry.process entry.call entry.reply q }
+            noted self.old.owners.items entry.process entry.call entry.reply q }
+        ensures callers { self.new.callers.items ≡
+            noted_waits self.old.callers.items here entry.process entry.call entry.reply q }
         ensures waits { self.new.waits ≡ waits_count
-            (noted self.old.owners.items here entry.process entry.call entry.reply q) }
+            (noted_waits self.old.callers.items here entry.process entry.call entry.reply q) }
     {
-        owners::note(&mut self.owners, here, entry, q);
+        owners::note(&mut self.owners, entry, q);
+        callers::note(&mut self.callers, here, entry, q);
         match wait {
             WaitMove::Stays => {}
             WaitMove::Begins => {
@@ -337,7 +352,27 @@ fn notice_room(bounds: Option<Bounds>) -> Result<usize, AllocError>
     }
 }
 
-// A table of `count` processes without descriptors and waits.
+// The last process among n callers.
+#[inline(always)]
+fn last_process(n: u32) -> u32
+    ensures { result ≡ last_process n }
+{
+    if n <= limits::PROCESSES {
+        n
+    } else {
+        limits::PROCESSES
+    }
+}
+
+// A table of `count` callers without waits.
+fn free_callers(alloc: Global, count: usize) -> Result<Vec<Caller>, AllocError>
+    ensures { IfOk result (λ v. v.items ≡ replicate count free_caller) }
+{
+    let callers = vec![in alloc; Caller::free(); count]?;
+    Ok(callers)
+}
+
+// A table of `count` processes without descriptors.
 fn free_owners(alloc: Global, count: usize) -> Result<Vec<Owner>, AllocError>
     ensures { IfOk result (λ v. v.items ≡ replicate count free_owner) }
 {

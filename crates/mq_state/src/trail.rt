@@ -7,11 +7,13 @@ ghost use Rattle.mq_model.specs.Notices.{registered};
 ghost use Rattle.mq_model.specs.Waits.{open_wait};
 ghost use Rattle.std.specs.Option.{option_and_then, option_map};
 
+mod reading;
+
 use crate::prefixes::Prefix;
 use crate::tables::Tables;
 use crate::tables::calls::payload_of;
 use mq_model::entries::{Call, Entry, Reply};
-use mq_model::forms::{is_payload, is_process};
+use mq_model::forms::{is_caller, is_payload};
 use mq_model::journals::Journal;
 use mq_model::limits::PROCESSES;
 use std::alloc::{AllocError, Global};
@@ -48,7 +50,7 @@ impl Trail {
         })
     }
 
-    /// The reply that a call of process p with these bytes would get.
+    /// The reply that a call of caller p with these bytes would get.
     pub fn reply(&self, p: u32, call: Call, given: &[u8]) -> Reply
         ensures { result ≡ reply_to self.now p call given.now }
     {
@@ -56,19 +58,19 @@ impl Trail {
             .reply_to(&Prefix::of(&self.journal), p, call, given)
     }
 
-    /// Whether process p may make a call with these bytes now.
+    /// Whether caller p may make a call with these bytes now.
     pub fn can_make(&self, p: u32, call: Call, given: &[u8]) -> bool
         ensures { result ≡ can_call self.now p call given.now }
     {
         let past = Prefix::of(&self.journal);
-        if !is_process(p) || !self.tables.may_call(&past, p, call) {
+        if !is_caller(p) || !self.tables.may_call(&past, p, call) {
             return false;
         }
         let reply = self.tables.reply_to(&past, p, call, given);
         is_payload(call, reply, payload_of(call, reply, given))
     }
 
-    /// Makes a call of process p with these bytes and returns true, if the process may make it now.
+    /// Makes a call of caller p with these bytes and returns true, if the caller may make it now.
     /// Otherwise it returns false and changes nothing.
     pub fn make(&mut self, p: u32, call: Call, given: &[u8]) -> Result<bool, AllocError>
         ensures made { IfOk result (λ made. IsTrue made →
@@ -79,7 +81,7 @@ impl Trail {
         ensures err { OnErr result (self.new ≡ self.old) }
     {
         let past = Prefix::of(&self.journal);
-        if !is_process(p) || !self.tables.may_call(&past, p, call) {
+        if !is_caller(p) || !self.tables.may_call(&past, p, call) {
             return Ok(false);
         }
         let reply = self.tables.reply_to(&past, p, call, given);
@@ -87,6 +89,7 @@ impl Trail {
         if !is_payload(call, reply, payload) {
             return Ok(false);
         }
+        self.tables.raise(p)?;
         let entry = Entry {
             process: p,
             call,
@@ -110,14 +113,14 @@ impl Trail {
         })
     }
 
-    /// Process p has an open wait.
+    /// Caller p has an open wait.
     pub fn waits(&self, p: u32) -> bool
         ensures { result ≡ is_some (open_wait self.now p) }
     {
         self.tables.wait(p).is_some()
     }
 
-    /// The queue of descriptor d of process p, if it holds one.
+    /// The queue of descriptor d of caller p's process, if it holds one.
     pub fn held_queue(&self, p: u32, d: u32) -> Option<u64>
         ensures { result ≡ option_map (λ h. h.queue) (held self.now p d) }
     {

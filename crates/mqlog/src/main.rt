@@ -2,21 +2,26 @@
 // histories checked and drawn.
 #![tactic(auto)]
 
+mod beyond;
 mod command;
 mod pages;
 mod progress;
 mod scripts;
 mod task;
+mod unread;
 
+use beyond::Beyond;
 use command::{Asked, Source, asked_by, command};
 use fast_mutex::FastMutex;
 use journal_format::input::read_input;
 use journal_tasks::{
-    Ending, LogFault, NoStart, Question, Trial, Wanted, Window, check_journal, compact_journal,
-    draw_journal, judge_history, judge_in_time, record_history, record_script, resume_script,
-    state_journal, try_orders, try_orders_after, try_orders_in_time,
+    Drawn, Ending, LogFault, NoStart, Question, Trial, Wanted, Window, check_journal,
+    compact_journal, draw_journal, judge_history, judge_in_time, record_history, record_script,
+    resume_script, state_journal, try_orders, try_orders_after, try_orders_in_time,
 };
 use journal_views::{TAIL, Unviewed, Viewed, view_journal};
+use line_reasons::formats::Format;
+use line_reasons::kept::Kept;
 use mq::Guarded;
 use mq_model::journals::Journal;
 use pages::{head_of, judge_to_page};
@@ -33,7 +38,8 @@ use std::thread::Threads;
 use std::time::Clock;
 use std::{env, fs, io};
 use task::Task;
-use text_io::sources::Memory;
+use text_io::sources::{ByteSource, Memory};
+use unread::unread;
 
 fn main(rt: HostRuntime) -> ExitCode {
     match words_of(&rt) {
@@ -85,9 +91,11 @@ fn asked(
             ExitCode::from(2)
         }
         Some(asked) => match asked.file {
-            Source::StandardInput => answer(rt, asked, None, &mut rt.reader()),
+            Source::StandardInput => {
+                answer(rt, asked, None, &mut Kept::new(rt.alloc(), rt.reader()))
+            }
             Source::Path(path) => match fs::open(rt, path) {
-                Ok(mut input) => answer(rt, asked, Some(path), &mut input),
+                Ok(input) => answer(rt, asked, Some(path), &mut Kept::new(rt.alloc(), input)),
                 Err(error) => not_opened(rt, path, &error),
             },
         },
@@ -110,7 +118,7 @@ fn answer<R: Read>(
     rt: &(impl Print + Eprint + AllocGlobal + Threads + Wait + Clock + Sync + Input + Files),
     asked: Asked<'_>,
     file: Option<&str>,
-    input: &mut R,
+    input: &mut Kept<R>,
 ) -> ExitCode {
     match asked.task {
         Task::Run => run(rt, file, input),
@@ -161,18 +169,18 @@ fn failed(rt: &impl Eprint, file: Option<&str>, fault: LogFault) -> ExitCode {
 fn check<R: Read>(
     rt: &(impl Print + Eprint + AllocGlobal),
     file: Option<&str>,
-    input: &mut R,
+    input: &mut Kept<R>,
 ) -> ExitCode {
     match check_journal(rt.alloc(), input, &mut io::writer(rt)) {
         Ok(verdict) => ExitCode::from(verdict.status()),
-        Err(fault) => failed(rt, file, fault),
+        Err(fault) => unread(rt, file, input, Format::Journal, fault),
     }
 }
 
 fn compact<R: Read>(
     rt: &(impl Print + Eprint + AllocGlobal),
     file: Option<&str>,
-    input: &mut R,
+    input: &mut Kept<R>,
 ) -> ExitCode {
     match compact_journal(rt.alloc(), input, &mut io::writer(rt)) {
         Ok(None) => ExitCode::SUCCESS,
@@ -180,26 +188,37 @@ fn compact<R: Read>(
             say(rt, file, &why);
             ExitCode::from(1)
         }
-        Err(fault) => failed(rt, file, fault),
+        Err(fault) => unread(rt, file, input, Format::Journal, fault),
     }
 }
 
 fn draw<R: Read>(
     rt: &(impl Print + Eprint + AllocGlobal),
     file: Option<&str>,
-    input: &mut R,
+    input: &mut Kept<R>,
     window: Window,
 ) -> ExitCode {
     match draw_journal(rt.alloc(), input, &mut io::writer(rt), window) {
-        Ok(()) => ExitCode::SUCCESS,
-        Err(fault) => failed(rt, file, fault),
+        Ok(Drawn::Written) => ExitCode::SUCCESS,
+        Ok(Drawn::Beyond(len)) => nothing_shown(rt, file, window, len),
+        Err(fault) => unread(rt, file, input, Format::Journal, fault),
     }
+}
+
+// Says that the first entry that is to be shown is not there.
+fn nothing_shown(rt: &impl Eprint, file: Option<&str>, window: Window, len: u64) -> ExitCode {
+    let beyond = Beyond {
+        from: window.from,
+        len,
+    };
+    say(rt, file, &beyond);
+    ExitCode::from(2)
 }
 
 fn view<R: Read>(
     rt: &(impl Print + Eprint + AllocGlobal),
     file: Option<&str>,
-    input: &mut R,
+    input: &mut Kept<R>,
     window: Window,
     head: &[u8],
 ) -> ExitCode {
@@ -211,7 +230,10 @@ fn view<R: Read>(
             say(rt, file, &what);
             ExitCode::from(1)
         }
-        Err(Unviewed::Unread(fault)) => failed(rt, file, LogFault::from(fault)),
+        Ok(Viewed::Beyond(len)) => nothing_shown(rt, file, window, len),
+        Err(Unviewed::Unread(fault)) => {
+            unread(rt, file, input, Format::Journal, LogFault::from(fault))
+        }
         Err(Unviewed::Output) => failed(rt, file, LogFault::Output),
     }
 }
@@ -219,7 +241,7 @@ fn view<R: Read>(
 fn state<R: Read>(
     rt: &(impl Print + Eprint + AllocGlobal),
     file: Option<&str>,
-    input: &mut R,
+    input: &mut Kept<R>,
     wanted: Wanted,
 ) -> ExitCode {
     match state_journal(rt.alloc(), input, &mut io::writer(rt), wanted) {
@@ -228,26 +250,26 @@ fn state<R: Read>(
             say(rt, file, &why);
             ExitCode::from(1)
         }
-        Err(fault) => failed(rt, file, fault),
+        Err(fault) => unread(rt, file, input, Format::Journal, fault),
     }
 }
 
 fn judge<R: Read>(
     rt: &(impl Print + Eprint + AllocGlobal + Threads + Wait + Clock + Sync + Files),
     file: Option<&str>,
-    input: &mut R,
+    input: &mut Kept<R>,
     question: Question,
     seconds: Option<u64>,
 ) -> ExitCode {
     let search = || judged(rt, input, &mut io::writer(rt), question, seconds);
     match with_progress(rt, "judge", search) {
         Ok(status) => ExitCode::from(status),
-        Err(fault) => failed(rt, file, fault),
+        Err(fault) => unread(rt, file, input, Format::History, fault),
     }
 }
 
 // Checks a history, and returns the exit status.
-fn judged<R: Read, W: Write>(
+fn judged<R: ByteSource, W: Write>(
     rt: &(impl AllocGlobal + Clock),
     input: &mut R,
     output: &mut W,
@@ -263,7 +285,7 @@ fn judged<R: Read, W: Write>(
 fn run<R: Read>(
     rt: &(impl Print + Eprint + AllocGlobal + Threads + Wait + Clock + Sync),
     file: Option<&str>,
-    input: &mut R,
+    input: &mut Kept<R>,
 ) -> ExitCode {
     let text = match script_of(rt, file, input) {
         Ok(text) => text,
@@ -286,12 +308,14 @@ fn run<R: Read>(
 fn resume<R: Read>(
     rt: &(impl Print + Eprint + AllocGlobal + Threads + Wait + Clock + Sync + Input + Files),
     file: Option<&str>,
-    input: &mut R,
+    input: &mut Kept<R>,
     script: Option<Source<'_>>,
 ) -> ExitCode {
     let journal = match read_input(rt.alloc(), input) {
         Ok(journal) => journal,
-        Err(fault) => return failed(rt, file, LogFault::from(fault)),
+        Err(fault) => {
+            return unread(rt, file, input, Format::Journal, LogFault::from(fault));
+        }
     };
     match script {
         None | Some(Source::StandardInput) => go_on(rt, file, journal, None, &mut rt.reader()),
@@ -304,7 +328,7 @@ fn resume<R: Read>(
 
 // Runs the script in `input` in the state that a journal leaves. The files are named `script` and
 // `past`.
-fn go_on<R: Read>(
+fn go_on<R: ByteSource>(
     rt: &(impl Print + Eprint + AllocGlobal + Threads + Wait + Clock + Sync),
     past: Option<&str>,
     journal: Journal,
@@ -336,7 +360,7 @@ fn go_on<R: Read>(
 fn history<R: Read>(
     rt: &(impl Print + Eprint + AllocGlobal + Threads + Wait + Clock + Sync),
     file: Option<&str>,
-    input: &mut R,
+    input: &mut Kept<R>,
 ) -> ExitCode {
     let text = match script_of(rt, file, input) {
         Ok(text) => text,
@@ -357,7 +381,7 @@ fn history<R: Read>(
 fn orders<R: Read>(
     rt: &(impl Print + Eprint + AllocGlobal + Threads + Wait + Clock + Sync + Files),
     file: Option<&str>,
-    input: &mut R,
+    input: &mut Kept<R>,
     trial: Trial,
     seconds: Option<u64>,
 ) -> ExitCode {
@@ -391,16 +415,18 @@ fn orders_after<R: Read>(
     rt: &(impl Print + Eprint + AllocGlobal + Threads + Wait + Clock + Sync + Input + Files),
     past: Source<'_>,
     file: Option<&str>,
-    input: &mut R,
+    input: &mut Kept<R>,
     trial: Trial,
     seconds: Option<u64>,
 ) -> ExitCode {
     match past {
         Source::StandardInput => {
-            orders_from(rt, None, &mut rt.reader(), file, input, trial, seconds)
+            let mut entries = Kept::new(rt.alloc(), rt.reader());
+            orders_from(rt, None, &mut entries, file, input, trial, seconds)
         }
         Source::Path(path) => match fs::open(rt, path) {
-            Ok(mut entries) => {
+            Ok(entries) => {
+                let mut entries = Kept::new(rt.alloc(), entries);
                 orders_from(rt, Some(path), &mut entries, file, input, trial, seconds)
             }
             Err(error) => not_opened(rt, path, &error),
@@ -412,15 +438,17 @@ fn orders_after<R: Read>(
 fn orders_from<J: Read, R: Read>(
     rt: &(impl Print + Eprint + AllocGlobal + Threads + Wait + Clock + Sync + Files),
     past: Option<&str>,
-    entries: &mut J,
+    entries: &mut Kept<J>,
     file: Option<&str>,
-    input: &mut R,
+    input: &mut Kept<R>,
     trial: Trial,
     seconds: Option<u64>,
 ) -> ExitCode {
     let journal = match read_input(rt.alloc(), entries) {
         Ok(journal) => journal,
-        Err(fault) => return failed(rt, past, LogFault::from(fault)),
+        Err(fault) => {
+            return unread(rt, past, entries, Format::Journal, LogFault::from(fault));
+        }
     };
     match script_of(rt, file, input) {
         Ok(text) => orders_on(rt, past, journal, file, &text, trial, seconds),

@@ -2,9 +2,12 @@
 //! history.
 
 use crate::progress::with_progress;
-use crate::{failed, judged, not_opened};
+use crate::unread::{unread, wrong_steps};
+use crate::{failed, judged, not_opened, say};
 use journal_tasks::{LogFault, Question};
 use journal_views::{FRONT, HEAD, TAIL, page_of_text};
+use line_reasons::formats::Format;
+use line_reasons::kept::Kept;
 use std::alloc::AllocGlobal;
 use std::io::{Eprint, ErrorKind, Print, Read, Write};
 use std::process::ExitCode;
@@ -15,7 +18,7 @@ use std::time::Clock;
 use std::{fs, io};
 
 /// The part of a page before the lines of a journal. If there is a file that names the threads of
-/// the entries, it has the lines of that file.
+/// the entries, it has the lines of that file; if one of them is malformed, it says so.
 pub fn head_of(
     rt: &(impl Eprint + AllocGlobal + Files),
     threads: Option<&str>,
@@ -30,6 +33,14 @@ pub fn head_of(
             Err(error) => return Err(not_opened(rt, path, &error)),
         },
     };
+    match wrong_steps(rt, &text) {
+        Ok(None) => {}
+        Ok(Some(what)) => {
+            say(rt, threads, &what);
+            return Err(ExitCode::from(2));
+        }
+        Err(_) => return Err(failed(rt, threads, LogFault::NoMemory)),
+    }
     match page_of_text(rt.alloc(), &text, FRONT.as_bytes(), HEAD.as_bytes()) {
         Ok(head) => Ok(head),
         Err(_) => Err(failed(rt, threads, LogFault::NoMemory)),
@@ -40,7 +51,7 @@ pub fn head_of(
 pub fn judge_to_page<R: Read>(
     rt: &(impl Print + Eprint + AllocGlobal + Threads + Wait + Clock + Sync + Files),
     file: Option<&str>,
-    input: &mut R,
+    input: &mut Kept<R>,
     question: Question,
     seconds: Option<u64>,
 ) -> ExitCode {
@@ -52,7 +63,7 @@ pub fn judge_to_page<R: Read>(
     let search = || judged(rt, input, &mut said, asked, seconds);
     let status = match with_progress(rt, "judge", search) {
         Ok(status) => status,
-        Err(fault) => return failed(rt, file, fault),
+        Err(fault) => return unread(rt, file, input, Format::History, fault),
     };
     let head = match head_of(rt, None) {
         Ok(head) => head,

@@ -1,17 +1,18 @@
 //! Scripts that a task reads, and what is said of those that are malformed.
 
 use crate::say;
+use line_reasons::scripts::script_reason;
 use script_runner::RunFault;
-use script_text::reasons::reason_of;
 use script_text::script::MOST_BYTES;
 use std::alloc::AllocGlobal;
-use std::io::{Eprint, Read};
+use std::io::Eprint;
 use std::process::ExitCode;
 use text_io::input::read_all;
+use text_io::sources::ByteSource;
 
 /// The bytes of a script, up to one more than it may have. If they can't be read, it says so, and
 /// returns the status with which the program ends.
-pub fn script_of<R: Read>(
+pub fn script_of<R: ByteSource>(
     rt: &(impl Eprint + AllocGlobal),
     file: Option<&str>,
     input: &mut R,
@@ -48,6 +49,6 @@ fn reason_text(rt: &impl AllocGlobal, text: &[u8], fault: &RunFault) -> Option<S
     let RunFault::BadCall(line) = fault else {
         return None;
     };
-    let reason = reason_of(rt.alloc(), text, *line).ok()?;
+    let reason = script_reason(rt.alloc(), text, *line).ok()?;
     format!(in rt.alloc(); "{fault}: {reason}").ok()
 }

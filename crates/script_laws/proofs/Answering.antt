@@ -6,9 +6,9 @@ use Rattle.mq_model.specs.Record.{Record, Past, record_at}
 use Rattle.mq_model.specs.Messages.{is_in, is_send, is_receive, least, blocked_sends, blocked_receives, waiting_sends, waiting_receives, ended_sends, ended_receives}
 use Rattle.mq_model.specs.Waits.{open_wait, answered_by, names_wait}
 use Rattle.mq_model.specs.Legality.{Legal}
-use Rattle.mq_model.specs.Owners.{blocked}
-use Rattle.mq_model.specs.declared.owners.WaitKind.{WaitKind}
-use Rattle.mq_model.specs.declared.owners.WaitKind.TheVariants.{Send, Receive}
+use Rattle.mq_model.specs.Callers.{blocked}
+use Rattle.mq_model.specs.declared.callers.WaitKind.{WaitKind}
+use Rattle.mq_model.specs.declared.callers.WaitKind.TheVariants.{Send, Receive}
 use Rattle.mq_model.specs.declared.entries.Call.{Call}
 use Rattle.mq_model.specs.declared.entries.Reply.{Reply}
 use Rattle.mq_model.proofs.Cases.{Says}

@@ -1,14 +1,18 @@
 -- An exit closes the descriptors that are held, in ascending order.
-use Rattle.std.proofs.Common.{◌≡◌, ℕ, zero, suc, ◌+◌, ◌<◌, ◌≤◌, Bool, false, List, [], ◌∷◌, ◌++◌, Option, Some, None, is_some, refl, arith, eqb-true}
-use Rattle.std.specs.List.{find}
+use Rattle.std.proofs.Common.{◌≡◌, ℕ, zero, suc, ◌+◌, ◌<◌, ◌≤◌, ◌==◌, Bool, false, List, [], ◌∷◌, ◌++◌, Option, Some, None, is_some, refl, arith, eqb-true}
+use Rattle.std.specs.List.{All, find}
+use Rattle.std.proofs.lemmas.List.Elements.{All-head, All-tail}
 use Rattle.std.proofs.lemmas.Bool.{eqb-false}
 use Rattle.fast_mutex.specs.Items.{Grows, items_of}
 use Rattle.mq.specs.Calls.{AreInTurn, author, closes}
 use Rattle.mq.proofs.Closings.{from-closed, lowest-held}
 use Rattle.mq_model.specs.Descriptors.{descriptor_numbers, held, lowest_held, numbers_from}
 use Rattle.mq_model.specs.Record.{Past}
+use Rattle.mq_model.specs.Threads.{shares}
+use Rattle.mq_model.proofs.Mates.{shares_own}
 use Rattle.mq_model.specs.declared.bounds.Bounds.{Bounds}
 use Rattle.script_orders.specs.Scenes.{close_first}
+use Rattle.schedules.proofs.Backing.{all-front}
 use Rattle.schedules.proofs.Removing.{is-none}
 
 -- numbers below the first one that passes do not pass
@@ -57,12 +61,20 @@ below-all bounds found p (d ∷ ds) in_turn = (lowest-held (closes p ds ++ found
 pub exit-closes : (bounds : Option Bounds) (found : Past) (p : ℕ) (ds : List ℕ) → AreInTurn bounds found p ds → lowest_held (closes p ds ++ found) p ≡ None → close_first found p 16 ≡ closes p ds ++ found
 exit-closes bounds found p ds in_turn none = closed bounds found p 16 ds in_turn (below-all bounds found p ds in_turn) (none-held (closes p ds ++ found) p none)
 
+-- all records are of the first threads of processes
+abbrev pub AreFirst : Past → Type 0
+AreFirst past = All (λ r. author r ≤ 32) past
+
 -- records of other processes do not change what a process holds
-held-more : (p d : ℕ) (more past : Past) → items_of author p more ≡ [] → held (more ++ past) p d ≡ held past p d
-held-more p d [] past none = refl
-held-more p d (r ∷ more) past none = grind (arith, held-more p d more past)
+held-more : (p d : ℕ) (more past : Past) → p ≤ 32 → AreFirst more → items_of author p more ≡ [] → held (more ++ past) p d ≡ held past p d
+held-more p d [] past few first none = refl
+held-more p d (r ∷ more) past few first none =
+    let one : shares (author r) p ≡ (author r == p) = shares_own (author r) p (All-head (λ r. author r ≤ 32) r more first) few in
+    grind (arith, held-more p d more past few (All-tail (λ r. author r ≤ 32) r more first))
 
 -- if a process holds nothing, its exit does not change the journal, even if other processes add
 -- records
-pub exit-idles : (p : ℕ) (before after : Past) → Grows author p before after [] → lowest_held after p ≡ None → close_first before p 16 ≡ before
-exit-idles p before after g none = grind (arith, closed, held-more, none-held)
+pub exit-idles : (p : ℕ) (before after : Past) → p ≤ 32 → AreFirst after → Grows author p before after [] → lowest_held after p ≡ None → close_first before p 16 ≡ before
+exit-idles p before after few first g none =
+    let others : AreFirst g.behind = all-front (λ r. author r ≤ 32) g.behind after before g.is first in
+    grind (arith, closed, held-more, none-held)

@@ -1,6 +1,6 @@
 -- A process that waits for ever: the moves of its calls, and then the move that starts the wait.
 use Rattle.std.proofs.lemmas.Grind.{common_steps}
-use Rattle.std.proofs.Common.{◌≡◌, ℕ, ◌+◌, List, [], ◌∷◌, ◌++◌, length, map, true, refl, ap, sym, ◌∙◌, subst, append_assoc, arith, length-append, Vec, Global}
+use Rattle.std.proofs.Common.{◌≡◌, ◌≤◌, ℕ, ◌+◌, List, [], ◌∷◌, ◌++◌, length, map, true, refl, ap, sym, ◌∙◌, subst, append_assoc, arith, length-append, Vec, Global}
 use Rattle.std.specs.List.{All}
 use Rattle.std.proofs.lemmas.List.{length-map, length-replicate, map-append}
 use Rattle.fast_mutex.specs.Items.{Grows, Ticket}
@@ -26,7 +26,10 @@ use Rattle.script_text.specs.declared.command.Command.{Command}
 use Rattle.script_text.specs.declared.command.Command.TheVariants as command
 use Rattle.text_io.specs.Words.{Word}
 use Rattle.script_laws.specs.RunLaws.{HadMemory}
+use Rattle.script_laws.proofs.Closing.{AreFirst}
 use Rattle.script_laws.proofs.Course.{AreLines, Course, Move}
+use Rattle.script_laws.proofs.Growth.{IsEnd, by-calls, end-then}
+use Rattle.script_laws.proofs.Joins.{all-right}
 use Rattle.script_laws.proofs.Coursing.{came-through}
 use Rattle.script_laws.proofs.Lines.{IsNext, line-begun, next-line}
 use Rattle.script_laws.proofs.Moving.{IsAt, at-free, further}
@@ -89,9 +92,9 @@ pub record OneHalts (p phase line : ℕ) (past to : Past) (program : Vec Planned
   pub halts : Halts p phase line past to (record { program = program; seat = seat; end = end; moves = moves })
 
 pub one-halts : (phase : ℕ) (calls : List WrittenCall) (phases : List (List WrittenCall)) (n p line : ℕ) (past to : Past) (program : Vec Planned Global) (seat : Progress) (old new process : Ticket Record) →
-    Sits phase (calls ∷ phases) p program seat old → (blocks : BlocksIn (calls_of old.number calls) old new line) → All HadMemory blocks.completions → FindsLength n new process → old.left ≡ past → process.left ≡ to → is_blocked to p ≡ true →
+    Sits phase (calls ∷ phases) p program seat old → (blocks : BlocksIn (calls_of old.number calls) old new line) → All HadMemory blocks.completions → FindsLength n new process → old.left ≡ past → process.left ≡ to → is_blocked to p ≡ true → (p ≤ 32) × AreFirst to →
     OneHalts p phase line past to program seat
-one-halts phase calls phases n p line past to program seat old new process sits blocks memory found before after blocked =
+one-halts phase calls phases n p line past to program seat old new process sits blocks memory found before after blocked few =
     let made : List WrittenCall = blocks.made in
     let mid : Ticket Record = blocks.mid in
     let mine : calls_of p calls ≡ made ++ blocks.call ∷ blocks.later = ap (λ (k : ℕ). calls_of k calls) (sym sits.number) ∙ blocks.are in
@@ -99,9 +102,11 @@ one-halts phase calls phases n p line past to program seat old new process sits 
     let lines : AreLines program seat.begun (map (plan phase) (made ++ blocks.call ∷ blocks.later)) = subst (λ (l : List WrittenCall). AreLines program seat.begun (map (plan phase) l)) mine all in
     let last : AreLines program (seat.begun + length made) (map (plan phase) (blocks.call ∷ blocks.later)) = last-lines phase program seat.begun made (blocks.call ∷ blocks.later) lines in
     let at : IsAt p past old = record { number = sits.number; bounds = sits.unbounded; free = sits.free; near = record { behind = []; is = before; mine = refl } } in
-    let came = came-through p phase program made blocks.completions old mid past seat.begun seat.text at (first-lines phase program seat.begun made (blocks.call ∷ blocks.later) lines) blocks.ran memory in
-    let progress : Progress = record { begun = seat.begun + length made; text = seat.text ++ reply_lines p blocks.completions } in
     let w = waits-by blocks.call.moment blocks.call.command mid new blocks.blocks in
+    let grown : IsEnd mid.left to = subst (λ (l : Past). IsEnd mid.left l) after (end-then mid.left new.left process.left (by-calls mid new _ w.waits.calls) (by-calls new process [] found.calls)) in
+    let first : AreFirst mid.left = all-right (λ r. author r ≤ 32) grown.more mid.left (subst AreFirst grown.is few.1) in
+    let came = came-through p phase program made blocks.completions old mid past seat.begun seat.text at (few.0, first) (first-lines phase program seat.begun made (blocks.call ∷ blocks.later) lines) blocks.ran memory in
+    let progress : Progress = record { begun = seat.begun + length made; text = seat.text ++ reply_lines p blocks.completions } in
     let next = next-step phase program progress.begun (step_by blocks.call.moment blocks.call.command) (steps.Call w.call) (given_by blocks.call.command) w.asks (next-line phase program progress.begun blocks.call blocks.later last) in
     let now : new.number ≡ p = w.waits.calls.number ∙ came.is.number in
     let grows : Grows author p new.left to [] = rw (now, after) at found.calls.grows in

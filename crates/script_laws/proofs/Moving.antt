@@ -1,6 +1,6 @@
 -- What a process did is a sequence of moves: a call in one critical section, one that failed before
 -- it reached the queues, and an exit.
-use Rattle.std.proofs.Common.{◌≡◌, ℕ, ◌+◌, Bool, true, false, List, [], ◌∷◌, ◌++◌, Some, None, if◌then◌else◌, refl, ap, sym, ◌∙◌, subst, eq-eqb, Vec, Global}
+use Rattle.std.proofs.Common.{◌≡◌, ◌≤◌, ℕ, ◌+◌, Bool, true, false, List, [], ◌∷◌, ◌++◌, Some, None, if◌then◌else◌, refl, ap, sym, ◌∙◌, subst, eq-eqb, Vec, Global}
 use Rattle.std.specs.List.{All}
 use Rattle.std.proofs.lemmas.List.Elements.{All-nil, All-cons}
 use Rattle.fast_mutex.specs.Items.{LockId, Ticket, Grows}
@@ -23,7 +23,7 @@ use Rattle.script_orders.specs.declared.plan.Planned.{Planned}
 use Rattle.script_orders.specs.declared.plan.Step.TheVariants as steps
 use Rattle.script_text.specs.Replies.{reply_line}
 use Rattle.script_text.specs.declared.reply.Outcome.TheVariants as outcomes
-use Rattle.script_laws.proofs.Closing.{exit-closes, exit-idles}
+use Rattle.script_laws.proofs.Closing.{AreFirst, exit-closes, exit-idles}
 use Rattle.script_laws.proofs.Course.{Course, Goes, Move}
 use Rattle.script_laws.proofs.Lines.{IsNext, call-goes, turn-by-line}
 use Rattle.script_laws.proofs.Splitting.{grows-before, grows-none}
@@ -170,14 +170,14 @@ exit-by phase program from found progress old new given ds at next calls near ot
 
 pub exit-moves : (phase : ℕ) (program : Vec Planned Global) (from found : Past) (progress : Progress) (old new : Ticket Record) (given ds : List ℕ)
     → IsAt old.number from old → IsNext phase program progress.begun steps.Exit given → Calls old new (closes old.number ds)
-    → new.left ≡ closes old.number ds ++ found → AreInTurn (bounds_of old) found old.number ds → lowest_held new.left new.number ≡ None
+    → new.left ≡ closes old.number ds ++ found → AreInTurn (bounds_of old) found old.number ds → lowest_held new.left new.number ≡ None → (old.number ≤ 32) × AreFirst new.left
     → Moved old.number phase program from progress new (reply_line old.number outcomes.Done [])
-exit-moves phase program from found progress old new given [] at next calls is in_turn none =
+exit-moves phase program from found progress old new given [] at next calls is in_turn none few =
     let p : ℕ = old.number in
     let lowest : lowest_held new.left p ≡ None = ap (λ (n : ℕ). lowest_held new.left n) (sym calls.number) ∙ none in
     let near : Grows author p from new.left [] = grows-on at.near calls.grows in
-    exit-by phase program from from progress old new given [] at next calls near (grows-none author p from) (exit-idles p from new.left near lowest) (λ none. refl)
-exit-moves phase program from found progress old new given (d ∷ ds) at next calls is in_turn none =
+    exit-by phase program from from progress old new given [] at next calls near (grows-none author p from) (exit-idles p from new.left few.0 few.1 near lowest) (λ none. refl)
+exit-moves phase program from found progress old new given (d ∷ ds) at next calls is in_turn none few =
     let p : ℕ = old.number in
     let lowest : lowest_held (closes p (d ∷ ds) ++ found) p ≡ None = ap (λ (past : Past). lowest_held past p) (sym is) ∙ ap (λ (n : ℕ). lowest_held new.left n) (sym calls.number) ∙ none in
     let grown : Grows author p old.left (closes p (d ∷ ds) ++ found) (closes p (d ∷ ds)) = subst (λ (l : Past). Grows author p old.left l (closes p (d ∷ ds))) is calls.grows in

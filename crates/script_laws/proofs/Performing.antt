@@ -1,5 +1,5 @@
 -- What a process did for a line of a script is a sequence of moves.
-use Rattle.std.proofs.Common.{arith, ◌≡◌, ◌≢◌, ℕ, true, false, List, [], length, replicate, Option, Some, None, Result, Ok, Err, inl, inr, refl, ap, sym, ◌∙◌, subst, Vec, ◌⊎◌, Global}
+use Rattle.std.proofs.Common.{arith, ◌≡◌, ◌≤◌, ◌≢◌, ℕ, true, false, List, [], length, replicate, Option, Some, None, Result, Ok, Err, inl, inr, refl, ap, sym, ◌∙◌, subst, Vec, ◌⊎◌, Global}
 use Rattle.std.proofs.lemmas.List.{length-replicate}
 use Rattle.fast_mutex.specs.Items.{Ticket}
 use Rattle.mq.specs.Calls.{Calls, Exits, Expired, Found, OneCall, ReceiveCall, SendCall, TimedReceive, TimedSend, WaitedReceive, WaitedSend, WholeReceive, bounds_in, bounds_of, made}
@@ -26,6 +26,7 @@ use Rattle.script_runner.specs.Runs.{MakesNamed, Shows, outcome_by}
 use Rattle.script_text.specs.Replies.{reply_line}
 use Rattle.script_text.specs.declared.reply.Outcome.{Outcome}
 use Rattle.script_text.specs.declared.reply.Outcome.TheVariants as outcomes
+use Rattle.script_laws.proofs.Closing.{AreFirst}
 use Rattle.script_laws.proofs.Entering.{entered, no-entry, not-full}
 use Rattle.script_laws.proofs.Expiring.{never-expires, receive-timed, send-timed}
 use Rattle.script_laws.proofs.Lines.{IsNext}
@@ -79,17 +80,17 @@ module _ (phase : ℕ) (program : Vec Planned Global) (from : Past) (progress : 
       refused-moves Invalid name after came (next-step phase program progress.begun (named_step name call) (steps.Refusal Invalid) name (rw (no, other) refl) next) (makes.invalid other)))
 
   exit-of : (result : Result (Unit {0}) Fault) (given after : List ℕ) → outcome_by (λ _. outcomes.Done) result ≢ outcomes.Refused NoMemory
-      → IsNext phase program progress.begun steps.Exit given → Exits old new result → Moved old.number phase program from progress new (reply_line old.number (outcome_by (λ _. outcomes.Done) result) after)
-  exit-of (Ok u) given after memory next x = exit-moves phase program from x.found progress old new given x.closing.ds at next x.calls x.closing.is x.closing.in_turn x.ok
-  exit-of (Err fault) given after memory next x =
+      → IsNext phase program progress.begun steps.Exit given → (old.number ≤ 32) × AreFirst new.left → Exits old new result → Moved old.number phase program from progress new (reply_line old.number (outcome_by (λ _. outcomes.Done) result) after)
+  exit-of (Ok u) given after memory next few x = exit-moves phase program from x.found progress old new given x.closing.ds at next x.calls x.closing.is x.closing.in_turn x.ok few
+  exit-of (Err fault) given after memory next few x =
       let stops = x.err in
       absurd (no-entry fault stops.unentered
       (λ is. memory (ap (λ (f : Fault). outcomes.Refused f) is))
       (λ is. not-full (bounds_of old) new.left old.number (MqClose stops.d) [] (Refused fault) at.bounds stops.heeds (ap (λ (f : Fault). Refused f) is)))
 
   pub exit-performs : (given after : List ℕ) (came : Outcome) → came ≢ outcomes.Refused NoMemory
-      → IsNext phase program progress.begun steps.Exit given → Shows (λ _. outcomes.Done) (Exits old new) came → Moved old.number phase program from progress new (reply_line old.number came after)
-  exit-performs given after came memory next x = rw x.outcome (exit-of x.result given after (λ is. memory (x.outcome ∙ is)) next x.called)
+      → IsNext phase program progress.begun steps.Exit given → (old.number ≤ 32) × AreFirst new.left → Shows (λ _. outcomes.Done) (Exits old new) came → Moved old.number phase program from progress new (reply_line old.number came after)
+  exit-performs given after came memory next few x = rw x.outcome (exit-of x.result given after (λ is. memory (x.outcome ∙ is)) next few x.called)
 
   -- sends and receives --------------------------------------------------------------------------------------------------
 

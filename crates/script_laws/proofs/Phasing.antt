@@ -19,6 +19,7 @@ use Rattle.script_text.specs.Script.{Whole, WrittenCall}
 use Rattle.schedules.proofs.Backing.{all-front}
 use Rattle.script_laws.specs.RunLaws.{AreAmplePhases, AreFound, AreObserved, AreObservedBefore, IsAmple, IsAmpleAfter, phase_replies, phase_outcome, replies_after, whole_replies}
 use Rattle.script_laws.proofs.Beginning.{all-begin, all-left-with, count-from, in-order}
+use Rattle.script_laws.proofs.Closing.{AreFirst}
 use Rattle.script_laws.proofs.Growth.{AllLeft, AreEnds, IsEnd, all-grow, meeting, phase-grows, phases-end}
 use Rattle.script_laws.proofs.Joins.{all-right}
 use Rattle.script_laws.proofs.Resting.{AllThrough, next-begins, still, tells}
@@ -30,11 +31,15 @@ pub then-after : (schedule more : List ℕ) (from mid to : Stage) → after next
 then-after schedule more from mid to first rest = grind (arith, after-append)
 
 -- as many programs as processes
-program-count : {past : Past} (script : Whole) (from : Stage) → BeginsAfter past script from → length from.programs ≡ script.processes
+pub program-count : {past : Past} (script : Whole) (from : Stage) → BeginsAfter past script from → length from.programs ≡ script.processes
 program-count script from begins = grind (arith, length-map, in-order, count-from)
 
 pub all-of : {past : Past} (script : Whole) (journal : Past) (from : Stage) → BeginsAfter past script from → All (IsOf script.processes) journal → All (IsOf (length from.programs)) journal
 all-of script journal from begins of = subst (λ (k : ℕ). All (IsOf k) journal) (sym (program-count script from begins)) of
+
+-- records of few processes
+pub first-all : (n : ℕ) (past : Past) → n ≤ 32 → All (IsOf n) past → AreFirst past
+first-all n past few of = λ k d lt. let one = of k d lt in omega (arith, one.1, few)
 
 -- An interleaving leads from this stage to the beginning of a phase, where these processes are.
 -- `phases` are the phases from that one on.
@@ -64,17 +69,17 @@ phase-runs from journal programs frame phase phases tickets reached to runners o
 -- what is printed for some phases is what one interleaving gives, which leads to the beginning of
 -- the later ones
 pub phases-observed : (GoesOn : Stage → ℕ → Type 0) (journal : Past) (programs : List (Vec Planned Global)) (frame : Frame) (later : List (List WrittenCall)) (tickets : List (Ticket Record)) →
-    All (IsOf (length programs)) journal → AreEnds journal tickets → ((from : Stage) (phase : ℕ) → Reached from journal programs frame phase later tickets → GoesOn from phase) →
+    All (IsOf (length programs)) journal → length programs ≤ 32 → AreEnds journal tickets → ((from : Stage) (phase : ℕ) → Reached from journal programs frame phase later tickets → GoesOn from phase) →
     (phases : List (List WrittenCall)) (phase : ℕ) (from : Stage) (before : List (Ticket Record)) (text : List ℕ) (ran : RunsPhases phases before tickets text) → AreAmplePhases phases before tickets text ran →
     Reached from journal programs frame phase (phases ++ later) before → AreObservedBefore GoesOn from phase (phase_replies phases before tickets text ran)
-phases-observed GoesOn journal programs frame later tickets of ends then [] phase from before text ran ample reached = grind arith
-phases-observed GoesOn journal programs frame later tickets of ends then (calls ∷ phases) phase from before text ran ample reached =
+phases-observed GoesOn journal programs frame later tickets of few ends then [] phase from before text ran ample reached = grind arith
+phases-observed GoesOn journal programs frame later tickets of few ends then (calls ∷ phases) phase from before text ran ample reached =
     let between : List (Ticket Record) = ran.1 in
     let rest : List (List WrittenCall) = phases ++ later in
     let past : Past = reached.past in
     let met = meeting journal past ran.2 before ran.0 between reached.here reached.left (phase-grows calls before ran.0 ran.3 ran.5) ran.6 (phases-end journal phases between tickets ran.4 ran.7 ends) in
     let to : Past = met.to in
-    let all = all-run phase calls rest ran.2 1 past to programs reached.seats before ran.0 between ran.3 ran.5 ample.0 reached.sit ran.6 reached.left met.all in
+    let all = all-run phase calls rest ran.2 1 past to programs reached.seats before ran.0 between ran.3 ran.5 ample.0 reached.sit ran.6 reached.left met.all (omega (arith, few)) (first-all (length programs) to few (all-right (IsOf (length programs)) met.end.more to (subst (λ (l : Past). All (IsOf (length programs)) l) met.end.is of))) in
     let runners : List Runner = all.runners in
     let through : AllThrough phase past to runners = all.through in
     let runs = phase-runs from journal programs frame phase (calls ∷ rest) before reached to runners of (omega arith) met.from met.end all.programs_are all.seats_are (λ i r has. (through i r has).course) in
@@ -96,7 +101,7 @@ phases-observed GoesOn journal programs frame later tickets of ends then (calls 
       last,
       record { runs = runs.1; goal = still frame phase past to runners through },
       said,
-      phases-observed GoesOn journal programs frame later tickets of ends then phases (phase + 1) last between ran.4 ran.7 ample.1 on,
+      phases-observed GoesOn journal programs frame later tickets of few ends then phases (phase + 1) last between ran.4 ran.7 ample.1 on,
     )
 
 -- a stage with this journal before all phases
@@ -126,7 +131,7 @@ new-reached script system journal from unbounded begins =
 pub run-observed : (script : Whole) (text : List ℕ) (journal : Past) (ran : RunsWhole script text journal) (from : Stage) → IsAmple ran → Begins script from → AreObserved from 0 (whole_replies ran)
 run-observed script text journal ran from ample begins =
     let tickets : List (Ticket Record) = tickets_from ran.system 1 script.processes in
-    phases-observed (λ to next. Unit {0}) journal from.programs (frame_of from []) [] ran.processes (all-of script journal from begins ran.authors) (all-grow journal ran.processes ran.grows) (λ to next reached. tt)
+    phases-observed (λ to next. Unit {0}) journal from.programs (frame_of from []) [] ran.processes (all-of script journal from begins ran.authors) (rw (program-count script from begins) ran.few) (all-grow journal ran.processes ran.grows) (λ to next reached. tt)
     script.phases 0 from tickets text ran.ran ample
     (rw (append-nil script.phases) (new-reached script ran.system journal from ran.unbounded begins))
 
@@ -143,7 +148,7 @@ run-after-observed past script text journal ran from end ample begins =
     let runs = ran.runs in
     let tickets : List (Ticket Record) = tickets_with ran.system past 1 script.processes in
     let authors : All (IsOf script.processes) journal = subst (λ (n : ℕ). All (IsOf n) journal) ran.count runs.authors in
-    phases-observed (λ to next. Unit {0}) journal from.programs (frame_of from past) [] runs.processes (all-of script journal from begins authors) (all-grow journal runs.processes runs.grows) (λ to next reached. tt)
+    phases-observed (λ to next. Unit {0}) journal from.programs (frame_of from past) [] runs.processes (all-of script journal from begins authors) (rw (program-count script from begins) ran.few) (all-grow journal runs.processes runs.grows) (λ to next reached. tt)
     script.phases 0 from tickets text runs.ran ample
     (rw (append-nil script.phases) (all-reached past script ran.system journal from ran.unbounded ran.free end begins))
 

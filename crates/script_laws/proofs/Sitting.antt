@@ -20,7 +20,9 @@ use Rattle.script_text.specs.ReplyLines.{reply_lines}
 use Rattle.script_text.specs.Script.{WrittenCall}
 use Rattle.script_text.specs.declared.reply.Completion.{Completion}
 use Rattle.script_laws.specs.RunLaws.{HadMemory, IsAmplePhase}
+use Rattle.script_laws.proofs.Closing.{AreFirst}
 use Rattle.script_laws.proofs.Course.{AreLines, Course, Move}
+use Rattle.script_laws.proofs.Joins.{all-right}
 use Rattle.script_laws.proofs.Coursing.{came-through}
 use Rattle.script_laws.proofs.Growth.{AllLeft}
 use Rattle.script_laws.proofs.Lines.{behind-them}
@@ -83,16 +85,17 @@ pub record OneRuns (phase : ℕ) (calls : List WrittenCall) (phases : List (List
   pub sits : Sits (phase + 1) phases p program (cleared (end_of p calls seat completions)) process
 
 pub one-runs : (phase : ℕ) (calls : List WrittenCall) (phases : List (List WrittenCall)) (n p : ℕ) (past to : Past) (program : Vec Planned Global) (seat : Progress) (old new process : Ticket Record) (completions : List Completion) →
-    Sits phase (calls ∷ phases) p program seat old → RunsCalls (calls_of old.number calls) completions old new → IsSameProcess old new → All HadMemory completions → FindsLength n new process → old.left ≡ past → process.left ≡ to →
+    Sits phase (calls ∷ phases) p program seat old → RunsCalls (calls_of old.number calls) completions old new → IsSameProcess old new → All HadMemory completions → FindsLength n new process → old.left ≡ past → process.left ≡ to → (p ≤ 32) × AreFirst to →
     OneRuns phase calls phases p past to program seat completions process
-one-runs phase calls phases n p past to program seat old new process completions sits ran same memory found before after =
+one-runs phase calls phases n p past to program seat old new process completions sits ran same memory found before after few =
     let mine : List WrittenCall = calls_of p calls in
     let by_p : RunsCalls mine completions old new = subst (λ (k : ℕ). RunsCalls (calls_of k calls) completions old new) sits.number ran in
     let now : new.number ≡ p = same.number ∙ sits.number in
     let grows : Grows author p new.left to [] = rw (now, after) at found.calls.grows in
+    let first : AreFirst new.left = all-right (λ r. author r ≤ 32) grows.behind new.left (subst AreFirst grows.is few.1) in
     let lines : AreLines program seat.begun (map (plan phase) mine) = record { before = sits.earlier; rest = program_of (phase + 1) phases p; are = sits.are; count = sits.count } in
     let at : IsAt p past old = record { number = sits.number; bounds = sits.unbounded; free = sits.free; near = record { behind = []; is = before; mine = refl } } in
-    let came = came-through p phase program mine completions old new past seat.begun seat.text at lines by_p memory in
+    let came = came-through p phase program mine completions old new past seat.begun seat.text at (few.0, first) lines by_p memory in
     let course = came.goes to (end_of p calls seat completions) [] (refl, grows-on came.is.near grows) in
     let free : open_wait to p ≡ None = rw (wait-grown grows, sym came.is.number) came.is.free in
     let earlier : List Plan = sits.earlier ++ map (plan phase) mine in
@@ -135,24 +138,25 @@ more-through p phase past to first runners one rest (suc i) r has =
     subst (λ (k : ℕ). Through k phase past to r) here (rest i r has)
 
 pub all-run : (phase : ℕ) (calls : List WrittenCall) (phases : List (List WrittenCall)) (n p : ℕ) (past to : Past) (programs : List (Vec Planned Global)) (seats : List Progress) (before ended between : List (Ticket Record)) (text : List ℕ) (ran : RunsPhase calls before ended text) →
-    IsAmplePhase calls before ended text ran → AllSit phase (calls ∷ phases) p programs seats before → AllZip (FindsLength n) ended between → AllLeft past before → AllLeft to between →
+    IsAmplePhase calls before ended text ran → AllSit phase (calls ∷ phases) p programs seats before → AllZip (FindsLength n) ended between → AllLeft past before → AllLeft to between → p + length programs ≤ 33 → AreFirst to →
     AllRun phase phases p past to programs seats between text
-all-run phase calls phases n p past to programs seats [] [] [] text ran ample sit found before after = grind arith
-all-run phase calls phases n p past to programs seats [] (new ∷ ended) between text ran ample sit found before after = absurd ran
-all-run phase calls phases n p past to programs seats (old ∷ olds) [] between text ran ample sit found before after = absurd ran
-all-run phase calls phases n p past to programs seats (old ∷ olds) (new ∷ ended) (t ∷ between) text ran ample sit found before after =
+all-run phase calls phases n p past to programs seats [] [] [] text ran ample sit found before after few first = grind arith
+all-run phase calls phases n p past to programs seats [] (new ∷ ended) between text ran ample sit found before after few first = absurd ran
+all-run phase calls phases n p past to programs seats (old ∷ olds) [] between text ran ample sit found before after few first = absurd ran
+all-run phase calls phases n p past to programs seats (old ∷ olds) (new ∷ ended) (t ∷ between) text ran ample sit found before after few first =
+    let many : length programs ≡ suc (length sit.1) = ap (λ (l : List (Vec Planned Global)). length l) sit.4 in
     let program : Vec Planned Global = sit.0 in
     let seat : Progress = sit.2 in
-    let one = one-runs phase calls phases n p past to program seat old new t ran.0 sit.6 ran.2 ran.3 ample.0 found.0 before.0 after.0 in
-    let rest = all-run phase calls phases n (suc p) past to sit.1 sit.3 olds ended between ran.1 ran.4 ample.1 sit.7 found.1 before.1 after.1 in
-    let first : Runner = record { program = program; seat = seat; end = end_of p calls seat ran.0; moves = one.moves } in
+    let one = one-runs phase calls phases n p past to program seat old new t ran.0 sit.6 ran.2 ran.3 ample.0 found.0 before.0 after.0 (omega (arith, many, few), first) in
+    let rest = all-run phase calls phases n (suc p) past to sit.1 sit.3 olds ended between ran.1 ran.4 ample.1 sit.7 found.1 before.1 after.1 (omega (arith, many, few)) first in
+    let runner : Runner = record { program = program; seat = seat; end = end_of p calls seat ran.0; moves = one.moves } in
     let said : seat.text ++ reply_lines p ran.0 ≡ reply_lines old.number ran.0 = rw (sit.6.text, sit.6.number) refl in
     record {
-      runners = first ∷ rest.runners;
+      runners = runner ∷ rest.runners;
       programs_are = ap (λ (l : List (Vec Planned Global)). program ∷ l) rest.programs_are ∙ sym sit.4;
       seats_are = ap (λ (l : List Progress). seat ∷ l) rest.seats_are ∙ sym sit.5;
       replies_are = ap (λ (l : List ℕ). (seat.text ++ reply_lines p ran.0) ++ l) rest.replies_are ∙ (ap (λ (l : List ℕ). l ++ ran.1) said ∙ sym ran.5);
-      through = more-through p phase past to first rest.runners one.through rest.through;
+      through = more-through p phase past to runner rest.runners one.through rest.through;
       sit = (program, sit.1, cleared (end_of p calls seat ran.0), seats_cleared (ends_in rest.runners), sit.4, refl, one.sits, rest.sit);
     }
-all-run phase calls phases n p past to programs seats before ended between text ran ample sit found before' after = absurd found
+all-run phase calls phases n p past to programs seats before ended between text ran ample sit found before' after few first = absurd found

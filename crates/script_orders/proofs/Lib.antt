@@ -4,7 +4,6 @@ pub mod Legality
 pub mod Making
 pub mod Printing
 pub mod Likewise
-pub mod Starting
 pub mod Reporting
 pub mod Phasing
 pub mod Passing

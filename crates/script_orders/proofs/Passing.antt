@@ -5,6 +5,7 @@ use Rattle.std.proofs.Common.{◌≡◌, ℕ, zero, suc, ◌+◌, ◌≤◌, ◌
 use Rattle.std.specs.Option.{option_and_then, option_map}
 use Rattle.mq_model.specs.Legality.{IsLegalNext, Legal, reply_to}
 use Rattle.mq_model.specs.Record.{Past, Process}
+use Rattle.mq_model.specs.Threads.{shares}
 use Rattle.mq_model.specs.Waits.{open_wait}
 use Rattle.mq_model.specs.declared.entries.Call.{Call}
 use Rattle.mq_model.specs.declared.entries.Call.TheVariants.{MqClose, Collect}
@@ -20,6 +21,7 @@ use Rattle.mq_equivalence.proofs.Going.{shape-outline}
 use Rattle.mq_equivalence.proofs.Relation.{equivalent-both}
 use Rattle.mq_equivalence.proofs.Runs.{steps-agree}
 use Rattle.mq_commutation.specs.Commuting.{Commute, Unaffected, record_for}
+use Rattle.mq_commutation.proofs.Structure.{others-differ}
 use Rattle.script_orders.specs.Progress.{Progress}
 use Rattle.script_orders.specs.Said.{said}
 use Rattle.script_orders.specs.Scenes.{Scene, after_call, after_step, close_first, close_held, is_held}
@@ -49,8 +51,8 @@ printed past a = said (made past a) a.process (reply_to past a.process a.call a.
 -- A request commutes with the calls of other processes that may pass it, after journals of which
 -- something holds; and it holds after them.
 pub record IsPassable (a : Request) (Holds : Past → Type 0) (Passes : Past → Process → Call → Type 0) : Type 0 where
-  pub commutes : (past : Past) (b : Request) → Holds past → Legal past → IsLegalNext past (record_for past a) → IsLegalNext past (record_for past b) → (a.process == b.process) ≡ false → Passes past b.process b.call → Commute past a b
-  pub holds : (past : Past) (b : Request) → Holds past → Legal past → IsLegalNext past (record_for past b) → (a.process == b.process) ≡ false → Passes past b.process b.call → Holds (made past b)
+  pub commutes : (past : Past) (b : Request) → Holds past → Legal past → IsLegalNext past (record_for past a) → IsLegalNext past (record_for past b) → shares a.process b.process ≡ false → Passes past b.process b.call → Commute past a b
+  pub holds : (past : Past) (b : Request) → Holds past → Legal past → IsLegalNext past (record_for past b) → shares a.process b.process ≡ false → Passes past b.process b.call → Holds (made past b)
 
 -- The call may be made. The journal `ahead` is equivalent to the one after it.
 pub record IsReady (a : Request) (Holds : Past → Type 0) (past ahead : Past) : Type 0 where
@@ -109,7 +111,7 @@ can-from : (scene new : Scene) (p : Process) (call : Call) (given : List ℕ) �
 can-from scene new p call given step = grind arith
 
 module _ (a : Request) (Holds : Past → Type 0) (Passes : Past → Process → Call → Type 0) (g : IsPassable a Holds Passes) where
-  call-passes : (q : Process) (call : Call) (given : List ℕ) (past ahead : Past) → (a.process == q) ≡ false → Passes past q call → can_call past q call given ≡ true → IsReady a Holds past ahead → CallPassed a Holds q call given past ahead
+  call-passes : (q : Process) (call : Call) (given : List ℕ) (past ahead : Past) → shares a.process q ≡ false → Passes past q call → can_call past q call given ≡ true → IsReady a Holds past ahead → CallPassed a Holds q call given past ahead
   call-passes q call given past ahead ne passes can c =
       let b : Request = record { process = q; call = call; given = given } in
       let mid : Past = made past a in
@@ -143,7 +145,7 @@ module _ (a : Request) (Holds : Past → Type 0) (Passes : Past → Process → 
         };
       }
 
-  close-passes : (q d : ℕ) (past ahead : Past) → (a.process == q) ≡ false → (1 ≤ q) × (q ≤ 32) → Passes past q (MqClose d) → Free past q → IsReady a Holds past ahead → Moved a Holds past (close_held past q d) (close_held ahead q d)
+  close-passes : (q d : ℕ) (past ahead : Past) → shares a.process q ≡ false → (1 ≤ q) × (q ≤ 32) → Passes past q (MqClose d) → Free past q → IsReady a Holds past ahead → Moved a Holds past (close_held past q d) (close_held ahead q d)
   close-passes q d past ahead ne bounds passes free c =
       let one = call-passes q (MqClose d) [] past ahead ne passes (close-can past q d bounds free) c in
       let same : is_held ahead q d ≡ is_held past q d = ap not (refused-alike (reply_to ahead q (MqClose d) []) (reply_to past q (MqClose d) []) one.reply) in
@@ -154,14 +156,14 @@ module _ (a : Request) (Holds : Past → Type 0) (Passes : Past → Process → 
       let P : Bool → Type 0 = λ b. Moved a Holds past (closed past (is_held past q d)) (closed ahead b) in
       subst P (sym same) (goes (is_held past q d))
 
-  closes-pass : (q n : ℕ) (past ahead : Past) → (a.process == q) ≡ false → (1 ≤ q) × (q ≤ 32) → n ≤ 16 → ((m : ℕ) → m < 16 → Holds (close_first past q m) → Passes (close_first past q m) q (MqClose m)) → Free past q → IsReady a Holds past ahead → Moved a Holds past (close_first past q n) (close_first ahead q n)
+  closes-pass : (q n : ℕ) (past ahead : Past) → shares a.process q ≡ false → (1 ≤ q) × (q ≤ 32) → n ≤ 16 → ((m : ℕ) → m < 16 → Holds (close_first past q m) → Passes (close_first past q m) q (MqClose m)) → Free past q → IsReady a Holds past ahead → Moved a Holds past (close_first past q n) (close_first ahead q n)
   closes-pass q zero past ahead ne bounds within passes free c = record { ready = c; told = refl }
   closes-pass q (suc n) past ahead ne bounds within passes free c =
       let before = closes-pass q n past ahead ne bounds (omega (arith, within)) passes free c in
       let one = close-passes q n (close_first past q n) (close_first ahead q n) ne bounds (passes n (omega (arith, within)) before.ready.holds) (all-free past q n bounds free) before.ready in
       record { ready = one.ready; told = one.told ∙ before.told }
 
-  call-scene : (q : Process) (call : Call) (given : List ℕ) (past ahead : Past) (text : List ℕ) (scene : Scene) → (a.process == q) ≡ false → (can_call past q call given ≡ true → Passes past q call) → IsReady a Holds past ahead →
+  call-scene : (q : Process) (call : Call) (given : List ℕ) (past ahead : Past) (text : List ℕ) (scene : Scene) → shares a.process q ≡ false → (can_call past q call given ≡ true → Passes past q call) → IsReady a Holds past ahead →
       after_call (record { past = past; text = text }) q call given ≡ Some scene → ScenePassed a Holds past scene (after_call (record { past = ahead; text = text }) q call given)
   call-scene q call given past ahead text scene ne passes c step =
       let scene_of_call : Past → Past → Scene = λ x new. record { past = new; text = text ++ said new q (reply_to x q call given) } in
@@ -184,7 +186,7 @@ module _ (a : Request) (Holds : Past → Type 0) (Passes : Past → Process → 
       in
       goes (can_call past q call given) refl step
 
-  step-passes : (q : Process) (given : List ℕ) (step : Step) (past ahead : Past) (text : List ℕ) (scene : Scene) → (a.process == q) ≡ false → (1 ≤ q) × (q ≤ 32) → Free past q → PassesStep Holds Passes past q given step → IsReady a Holds past ahead →
+  step-passes : (q : Process) (given : List ℕ) (step : Step) (past ahead : Past) (text : List ℕ) (scene : Scene) → shares a.process q ≡ false → (1 ≤ q) × (q ≤ 32) → Free past q → PassesStep Holds Passes past q given step → IsReady a Holds past ahead →
       after_step (record { past = past; text = text }) q given step ≡ Some scene → ScenePassed a Holds past scene (after_step (record { past = ahead; text = text }) q given step)
   step-passes q given (steps.Call call) past ahead text scene ne bounds free may c h = call-scene q call given past ahead text scene ne (may.call call refl) c h
   step-passes q given (steps.Refusal fault) past ahead text scene ne bounds free may c h =
@@ -200,7 +202,7 @@ module _ (a : Request) (Holds : Past → Type 0) (Passes : Past → Process → 
       let P : Scene → Type 0 = λ s. ScenePassed a Holds past s (after_step (record { past = ahead; text = text }) q given steps.Exit) in
       subst P e (record { there = record { past = close_first ahead q 16; text = line }; is = refl; text = refl; moved = closes-pass q 16 past ahead ne bounds (omega arith) (may.closes refl) free c })
 
-  line-passes : (q phase : ℕ) (past ahead : Past) (progress : Progress) (o : Option Planned) (scene : Scene) → (a.process == q) ≡ false → (1 ≤ q) × (q ≤ 32) → Free past q →
+  line-passes : (q phase : ℕ) (past ahead : Past) (progress : Progress) (o : Option Planned) (scene : Scene) → shares a.process q ≡ false → (1 ≤ q) × (q ≤ 32) → Free past q →
       ((next : Planned) → o ≡ Some next → (next.phase == phase) ≡ true → PassesStep Holds Passes past q next.given.items next.step) → IsReady a Holds past ahead →
       option_and_then (after_line past phase q progress) o ≡ Some scene → ScenePassed a Holds past scene (option_and_then (after_line ahead phase q progress) o)
   line-passes q phase past ahead progress None scene ne bounds free may c h = absurd (cc)
@@ -229,7 +231,7 @@ module _ (a : Request) (Holds : Past → Type 0) (Passes : Past → Process → 
         moved = one.moved;
       })
 
-  pub turn-passes : (q phase : ℕ) (past ahead : Past) (progress : Progress) (program : Vec Planned Global) (t : Turned) → (a.process == q) ≡ false → (1 ≤ q) × (q ≤ 32) →
+  pub turn-passes : (q phase : ℕ) (past ahead : Past) (progress : Progress) (program : Vec Planned Global) (t : Turned) → shares a.process q ≡ false → (1 ≤ q) × (q ≤ 32) →
       (is_some (open_wait past q) ≡ true → Passes past q Collect) →
       (open_wait past q ≡ None → (next : Planned) → slice_get program.items progress.begun ≡ Some next → (next.phase == phase) ≡ true → PassesStep Holds Passes past q next.given.items next.step) →
       IsReady a Holds past ahead → after_turn past phase q progress program ≡ Some t → TurnPassed a Holds past progress.begun t (after_turn ahead phase q progress program)
@@ -248,7 +250,7 @@ module _ (a : Request) (Holds : Past → Type 0) (Passes : Past → Process → 
             (λ scene step. line-passes q phase past ahead progress (slice_get program.items progress.begun) scene ne bounds free (lines_pass none) c step) h)
       ]
       in
-      let mid : is_some (open_wait (made past a) q) ≡ is_some (open_wait past q) = rw ne refl in
+      let mid : is_some (open_wait (made past a) q) ≡ is_some (open_wait past q) = rw (others-differ a.process q ne) refl in
       let same : is_some (open_wait ahead q) ≡ is_some (open_wait past q) = sym (c.journals.equivalent.waits q) ∙ mid in
       let P : Bool → Type 0 = λ b. TurnPassed a Holds past progress.begun t (if b then collects ahead else begins ahead) in
       subst P (sym same) (goes (is_some (open_wait past q)) refl h)

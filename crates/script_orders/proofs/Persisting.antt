@@ -4,9 +4,11 @@ use Rattle.std.proofs.Common.{◌≡◌, ℕ, zero, suc, ◌+◌, ◌≤◌, ◌
 use Rattle.std.specs.Option.{option_and_then, option_map}
 use Rattle.std.proofs.lemmas.Bool.{eqb-false}
 use Rattle.std.proofs.lemmas.Option.{slice_get_within}
+use Rattle.mq_model.proofs.Mates.{shares_own}
 use Rattle.mq_model.proofs.Places.{split}
 use Rattle.mq_model.specs.Legality.{Legal, reply_to}
 use Rattle.mq_model.specs.Record.{Past, Process}
+use Rattle.mq_model.specs.Threads.{shares}
 use Rattle.mq_model.specs.Waits.{answered_by, is_wait, names_wait, open_wait, wait_deadline}
 use Rattle.mq_model.specs.declared.entries.Call.{Call}
 use Rattle.mq_model.specs.declared.entries.Call.TheVariants.{Collect}
@@ -17,6 +19,7 @@ use Rattle.mq_equivalence.specs.Runs.{Request}
 use Rattle.mq_equivalence.proofs.Relation.{equivalent-self}
 use Rattle.mq_commutation.specs.Commuting.{collect_of, is_withdrawal}
 use Rattle.mq_commutation.proofs.Collects.{collect-commutes}
+use Rattle.mq_commutation.proofs.Structure.{others-differ}
 use Rattle.schedules.specs.Likeness.{AreBothAlike}
 use Rattle.script_orders.specs.Likeness.{AreStagesAlike}
 use Rattle.script_orders.specs.Persistence.{MayCollect}
@@ -125,8 +128,9 @@ both-orders {Holds} {Passes} x y z index other a lines g few legal holds c can p
     let went = went-of x other s.t (slice_get x.programs other) refl s.turns in
     let second : Stage = with_turn x other s.t in
     let distinct : index ≡ other → ⊥ = eqb-false index other ne in
-    let apart : (a.process == q) ≡ false = ne_eqb a.process q (λ e. distinct (omega (arith, e, c.own))) in
     let inside : other < length x.programs = slice_get_within x.programs other went.program went.has in
+    let within : index < length x.programs = slice_get_within x.programs index c.program c.has in
+    let apart : shares a.process q ≡ false = shares_own a.process q (omega (arith, within, few, c.own)) (omega (arith, inside, few)) ∙ ne_eqb a.process q (λ e. distinct (omega (arith, e, c.own))) in
     let starts : IsReady a Holds x.past first.past =
     record { legal = legal; holds = holds; can = can; journals = equivalent-self first.past (legal, legal-of x.past a.process a.call a.given can) }
     in
@@ -208,7 +212,7 @@ abbrev Kept : Past → Process → Call → Type 0
 Kept past q call = is_withdrawal call ≡ false
 
 collect-passable : (p : Process) → IsPassable (collect_of p) Always Kept
-collect-passable p = search (rules, collect-commutes)
+collect-passable p = search (rules, collect-commutes, others-differ)
 
 all-pass : (s : Stage) (index : ℕ) → PassesTurn Always Kept s index
 all-pass s index = grind (arith, kept-of)

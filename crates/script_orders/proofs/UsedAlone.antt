@@ -12,6 +12,7 @@ use Rattle.mq_model.specs.Descriptors.{called_queue, is_place}
 use Rattle.mq_model.specs.Legality.{IsLegalNext, Legal, may_call}
 use Rattle.mq_model.specs.Notices.{registered}
 use Rattle.mq_model.specs.Record.{Past, Process, Queue}
+use Rattle.mq_model.specs.Threads.{owner_of, shares}
 use Rattle.mq_model.specs.Waits.{open_wait}
 use Rattle.mq_model.specs.declared.entries.Call.{Call}
 use Rattle.mq_model.specs.declared.entries.Call.TheVariants.{MqOpen, MqClose, MqUnlink, MqSend, MqReceive, MqTimedSend, MqTimedReceive, MqGetattr, MqSetattr, MqNotify}
@@ -27,7 +28,7 @@ use Rattle.mq_commutation.proofs.Frames.{stays-at}
 use Rattle.mq_commutation.proofs.Independent.{independent-commute}
 use Rattle.mq_commutation.proofs.Orders.{apart-back, paid, touched-is}
 use Rattle.mq_commutation.proofs.Replies.{called-same}
-use Rattle.mq_commutation.proofs.Structure.{flagged, held-by, held-other}
+use Rattle.mq_commutation.proofs.Structure.{flagged, held-by, held-other, shares-back}
 use Rattle.schedules.specs.Likeness.{AreBothAlike}
 use Rattle.script_orders.specs.Likeness.{AreStagesAlike, is_to_come}
 use Rattle.script_orders.specs.Persistence.{IsNextOn, StartsOn, UsesAlone, is_held_among, is_held_on, is_transfer, line_may_use, may_use, others_will_use, step_may_use, will_use}
@@ -49,7 +50,7 @@ record TransferFacts (past : Past) (p : ℕ) (call : Call) : Type 0 where
   covered : is_covered call ≡ true
   names : changes_names call ≡ false
   queues : changes_queues call ≡ false
-  own : (reply : Reply) → whose_notices_by past p call reply ≡ option_map (λ (n : Registered). n.process) (notified_registration past p call reply)
+  own : (reply : Reply) → whose_notices_by past p call reply ≡ option_map (λ (n : Registered). owner_of n.process) (notified_registration past p call reply)
   free : may_call past p call ≡ is_none (open_wait past p)
 
 transfer-facts : (past : Past) (p : ℕ) (call : Call) → is_transfer call ≡ true → TransferFacts past p call
@@ -78,10 +79,10 @@ pub record IsUndisturbed (a : Request) (q : Queue) (origin past : Past) : Type 0
   pub fewer : (p d : ℕ) → is_held_on past p q d ≡ true → is_held_on origin p q d ≡ true
 
 transfers-commute : (a : Request) (q : Queue) (origin past : Past) (b : Request) → is_transfer a.call ≡ true → IsUndisturbed a q origin past → Legal past → IsLegalNext past (record_for past a) → IsLegalNext past (record_for past b) →
-    (a.process == b.process) ≡ false → IsElsewhere q past b.process b.call → Commute past a b
+    shares a.process b.process ≡ false → IsElsewhere q past b.process b.call → Commute past a b
 transfers-commute a q origin past b transfers u legal first second ne far =
     let f = transfer-facts past a.process a.call transfers in
-    let none : whose_notices past a ≡ None = f.own (reply_of past a) ∙ ap (option_map (λ (n : Registered). n.process)) (notifies-none past a.process q a.call (reply_of past a) u.on u.unregistered) in
+    let none : whose_notices past a ≡ None = f.own (reply_of past a) ∙ ap (option_map (λ (n : Registered). owner_of n.process)) (notifies-none past a.process q a.call (reply_of past a) u.on u.unregistered) in
     let notices : differ (whose_notices past a) (whose_notices past b) ≡ true = ap (λ (o : Option ℕ). differ o (whose_notices past b)) none in
     let on_a : queue_touched past a ≡ Some q = touched-is past a.process a.call f.covered ∙ u.on in
     let on_b : queue_touched past b ≡ called_queue past b.process b.call = touched-is past b.process b.call far.0 in
@@ -101,8 +102,8 @@ transfers-commute a q origin past b transfers u legal first second ne far =
 abbrev on_queue : Queue → Option Description → Bool
 on_queue q o = is_place q (option_map (λ (h : Description). h.queue) o)
 
-transfers-stay : (a : Request) (q : Queue) (origin past : Past) (b : Request) → IsUndisturbed a q origin past → Legal past → IsLegalNext past (record_for past b) → (a.process == b.process) ≡ false → IsElsewhere q past b.process b.call → IsUndisturbed a q origin (made past b)
-transfers-stay a q origin past b u legal second ne far = grind (arith, nat_tests, eqb-false, alive-below, called-alive, called-same, made, held-other, paid, stays-at, flagged, held-by)
+transfers-stay : (a : Request) (q : Queue) (origin past : Past) (b : Request) → IsUndisturbed a q origin past → Legal past → IsLegalNext past (record_for past b) → shares a.process b.process ≡ false → IsElsewhere q past b.process b.call → IsUndisturbed a q origin (made past b)
+transfers-stay a q origin past b u legal second ne far = grind (arith, nat_tests, eqb-false, alive-below, called-alive, called-same, made, held-other, shares-back, paid, stays-at, flagged, held-by)
 
 transfer-passable : (a : Request) (q : Queue) (origin : Past) → is_transfer a.call ≡ true → IsPassable a (IsUndisturbed a q origin) (IsElsewhere q)
 transfer-passable a q origin transfers = search (rules, transfers-commute, transfers-stay)

@@ -13,7 +13,7 @@ use crate::keys::push_seats;
 use crate::plan::{Planned, Step};
 use crate::turn::{Seat, can_turn, turn};
 use crate::waiting::wait_text;
-use mq_equivalence::keys::key_if;
+use mq_equivalence::keys::{key_if, trail_after};
 use mq_model::journals::Journal;
 use mq_state::trail::Trail;
 use schedules::keyed::Keyed;
@@ -58,21 +58,6 @@ impl Model for Play {
     ghost view = { shown };
 
     ghost invariant = { AreSeated };
-}
-
-// The trail of the calls of a legal journal.
-fn trail_after(alloc: Global, journal: &Journal) -> Result<Trail, AllocError>
-    requires { Legal journal.now.records }
-    ensures { IfOk result (λ trail. trail ≡ journal.now.records) }
-{
-    let mut trail = Trail::new(alloc)?;
-    for place in 0..journal.len() {
-        let (entry, payload) = journal.record(place);
-        if !trail.make(entry.process, entry.call, payload)? {
-            unreachable!()
-        }
-    }
-    Ok(trail)
 }
 
 // The states of processes that have begun nothing.
@@ -326,6 +311,10 @@ fn receives_from(program: &[Planned], begun: usize) -> bool
 // With fewer steps left, trying all their interleavings takes less time than a key.
 const WORTH_A_KEY: usize = 4;
 
+// A key has each byte of the replies of its phase. With more of them, it takes too much memory
+// where a process goes on alone.
+const MOST_TEXT: usize = 4096;
+
 impl Play {
     // How many lines the processes have not begun, and how many waits have not ended.
     fn steps_left(&self) -> usize {
@@ -339,6 +328,39 @@ impl Play {
         }
         left
     }
+
+    // How many bytes the replies of this phase have.
+    fn text_len(&self) -> usize {
+        let mut len: usize = 0;
+        for seat in &self.seats {
+            len = len.saturating_add(seat.text().len());
+        }
+        len
+    }
+
+    // Whether the process that made the last call takes a persistent step next. Most often the step
+    // before was persistent too, and no other schedule leads to this state.
+    fn goes_on_alone(&self) -> bool {
+        match self.persistent() {
+            Some(index) => last_caller(self.trail.journal()) == index.checked_add(1),
+            None => false,
+        }
+    }
+
+    // Whether a key takes more time or memory than it can save.
+    fn is_not_worth_a_key(&self) -> bool {
+        self.steps_left() < WORTH_A_KEY || (self.text_len() > MOST_TEXT && self.goes_on_alone())
+    }
+}
+
+// The process that made the last call of a journal.
+fn last_caller(journal: &Journal) -> Option<u32> {
+    let len = journal.len();
+    if len == 0 {
+        return None;
+    }
+    let (entry, _payload) = journal.record(len - 1);
+    Some(entry.process)
 }
 
 impl Play {
@@ -471,14 +493,14 @@ impl Keyed for Play {
     ghost IsKey = { IsStageKey };
 
     fn key(&self, alloc: Global) -> Result<Option<Vec<u64>>, AllocError> {
-        if self.steps_left() < WORTH_A_KEY {
+        if self.is_not_worth_a_key() {
             return Ok(None);
         }
         let mut key = Vec::new(alloc);
         key.push(self.phase)?;
         key.push(self.seats.len() as u64)?;
         push_seats(&mut key, &self.seats)?;
-        let past = key_if(alloc, self.trail.journal(), self.receives())?;
+        let past = key_if(alloc, &self.trail, self.receives())?;
         key.extend_from_slice(&past)?;
         Ok(Some(key))
     }

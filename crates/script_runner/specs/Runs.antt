@@ -142,6 +142,7 @@ last_line = codes "history ok" ++ 10 ∷ []
 pub record RunsWhole (script : Whole) (replies : List ℕ) (journal : Past) : Type 0 where
   pub system : LockId
   pub count : system.count ≡ script.processes
+  pub few : script.processes ≤ 32
   pub unbounded : bounds_in system.fixed ≡ None
   pub processes : List (Ticket Record)
   pub ran : RunsPhases script.phases (tickets_from system 1 script.processes) processes replies
@@ -169,6 +170,7 @@ NoneWaits past n = (p : ℕ) → 1 ≤ p → p ≤ n → open_wait past p ≡ No
 pub record RunsAfter (past : Past) (script : Whole) (replies : List ℕ) (journal : Past) : Type 0 where
   pub system : LockId
   pub count : system.count ≡ script.processes
+  pub few : script.processes ≤ 32
   pub unbounded : bounds_in system.fixed ≡ None
   pub free : NoneWaits past script.processes
   pub runs : RunsOn system (tickets_with system past 1 script.processes) script.phases replies journal

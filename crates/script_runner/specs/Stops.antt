@@ -71,6 +71,7 @@ pub record StopsBlocked (phases : List (List WrittenCall)) (before : List (Ticke
 -- A script was run up to a phase that deadlocked. There is one legal journal, as after a whole run.
 pub record StopsInDeadlock (script : Whole) (lines : List ℕ) (old new : Option (List ℕ)) : Type 0 where
   pub system : LockId
+  pub few : script.processes ≤ 32
   pub unbounded : bounds_in system.fixed ≡ None
   pub processes : List (Ticket Record)
   pub stops : StopsBlocked script.phases (tickets_from system 1 script.processes) lines processes old new

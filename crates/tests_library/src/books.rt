@@ -23,6 +23,7 @@ use std::process::Abort;
 
 mod flat;
 mod resumed;
+mod threads;
 
 fn make(alloc: Global, kind: Kind) -> Result<Books, AllocError> {
     match kind {

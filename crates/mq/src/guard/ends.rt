@@ -8,8 +8,8 @@ ghost use Rattle.mq_model.specs.declared.entries.Reply.{Reply};
 ghost use Rattle.mq_state.specs.Buffers.{room_of, waiting_call, collected, collected_into};
 
 use super::Guard;
+use crate::departed::{Departed, departed_of};
 use crate::guarded::Guarded;
-use crate::process::{Process, process_of};
 use crate::stays::{begin, depart};
 use crate::system::Mq;
 use fast_mutex::Look;
@@ -26,7 +26,7 @@ impl<L: Look<Guarded>> Guard<L> {
     ghost use Rattle.mq.specs.Calls.{IsFree, Collects, StillWaits, WithdrawsAt};
 
     /// As [`Process::collect`].
-    pub fn collect(self, mq: &Mq<L>, buf: &mut [u8]) -> (Process<L>, Option<Collected>)
+    pub fn collect(self, mq: &Mq<L>, buf: &mut [u8]) -> (Departed<L>, Option<Collected>)
         requires made { self.process.lock ≡ mq.now }
         requires wait { IsSome (waiting_room self.process.left self.process.number) }
         requires room { IfSome (waiting_room self.process.left self.process.number)
@@ -43,8 +43,8 @@ impl<L: Look<Guarded>> Guard<L> {
         let outcome = state.books.collect(self.number, buf);
         let seat = depart(mq, inside, state);
         match outcome {
-            Some(outcome) => (process_of(seat, None), Some(outcome)),
-            None => (process_of(seat, self.waits), None),
+            Some(outcome) => (departed_of(seat, None), Some(outcome)),
+            None => (departed_of(seat, self.waits), None),
         }
     }
 
@@ -55,7 +55,7 @@ impl<L: Look<Guarded>> Guard<L> {
         mq: &Mq<L>,
         buf: &mut [u8],
         now: Deadline,
-    ) -> (Process<L>, Option<Collected>)
+    ) -> (Departed<L>, Option<Collected>)
         requires made { self.process.lock ≡ mq.now }
         requires wait { IsSome (waiting_room self.process.left self.process.number) }
         requires room { IfSome (waiting_room self.process.left self.process.number)
@@ -70,7 +70,7 @@ impl<L: Look<Guarded>> Guard<L> {
     {
         let (inside, mut state) = begin::<L>(self.walk, self.number);
         let outcome = end_wait(&mut state.books, self.number, buf, now);
-        (process_of(depart(mq, inside, state), None), outcome)
+        (departed_of(depart(mq, inside, state), None), outcome)
     }
 }
 

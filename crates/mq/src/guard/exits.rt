@@ -8,8 +8,8 @@ ghost use Rattle.mq_model.specs.declared.entries.Reply.{Reply};
 ghost use Rattle.mq.specs.Calls.{Closing, Stops, recorded};
 
 use super::Guard;
+use crate::departed::{Departed, departed_of};
 use crate::guarded::Guarded;
-use crate::process::{Process, process_of};
 use crate::stays::{begin, depart};
 use crate::system::Mq;
 use fast_mutex::Look;
@@ -68,7 +68,7 @@ impl<L: Look<Guarded>> Guard<L> {
     ghost use Rattle.mq.specs.Calls.{IsFree, Exits};
 
     /// As [`Process::exit`].
-    pub fn exit(self, mq: &Mq<L>) -> (Process<L>, Result<(), Fault>)
+    pub fn exit(self, mq: &Mq<L>) -> (Departed<L>, Result<(), Fault>)
         requires made { self.process.lock ≡ mq.now }
         requires free { IsFree self.process }
         ensures call { Exits self.process result.0 result.1 }
@@ -76,6 +76,6 @@ impl<L: Look<Guarded>> Guard<L> {
     {
         let (inside, mut state) = begin::<L>(self.walk, self.number);
         let done = close_all(&mut state.books, self.number);
-        (process_of(depart(mq, inside, state), None), done)
+        (departed_of(depart(mq, inside, state), None), done)
     }
 }

@@ -6,9 +6,9 @@ ghost use Rattle.mq_model.specs.Record.{record_at};
 ghost use Rattle.mq.specs.Readings.{record_of};
 
 use super::Guard;
+use crate::departed::{Departed, departed_of};
 use crate::guarded::Guarded;
 use crate::judging::verdict;
-use crate::process::{Process, process_of};
 use crate::stays::{begin, depart};
 use crate::system::Mq;
 use fast_mutex::Look;
@@ -27,7 +27,7 @@ impl<L: Look<Guarded>> Guard<L> {
     ghost use Rattle.mq.specs.Readings.{record_of};
 
     /// Checks the stored journal from its first entry, as [`verdict`] does.
-    pub fn check(self, alloc: Global, mq: &Mq<L>) -> (Process<L>, Result<(), u64>)
+    pub fn check(self, alloc: Global, mq: &Mq<L>) -> (Departed<L>, Result<(), u64>)
         requires made { self.process.lock ≡ mq.now }
         requires stored { stored_in self.process.lock.fixed ≡ true }
         ensures legal { IsOk result.1 }
@@ -38,12 +38,12 @@ impl<L: Look<Guarded>> Guard<L> {
     {
         let (inside, state) = begin::<L>(self.walk, self.number);
         let checked = verdict(alloc, state.books.journal());
-        (process_of(depart(mq, inside, state), self.waits), checked)
+        (departed_of(depart(mq, inside, state), self.waits), checked)
     }
 
     /// The entry of the stored journal with this sequence number, or `None` if the journal has no
     /// such entry.
-    pub fn entry(self, mq: &Mq<L>, place: u64) -> (Process<L>, Option<Entry>)
+    pub fn entry(self, mq: &Mq<L>, place: u64) -> (Departed<L>, Option<Entry>)
         requires made { self.process.lock ≡ mq.now }
         requires stored { stored_in self.process.lock.fixed ≡ true }
         ensures entry { result.1 ≡ option_map (λ r. r.entry) (record_at result.0.left place) }
@@ -54,7 +54,7 @@ impl<L: Look<Guarded>> Guard<L> {
     {
         let (inside, state) = begin::<L>(self.walk, self.number);
         let entry = state.books.journal().entry(place);
-        (process_of(depart(mq, inside, state), self.waits), entry)
+        (departed_of(depart(mq, inside, state), self.waits), entry)
     }
 
     /// The same with the payload of the entry. Fails if memory for the payload was refused.
@@ -63,7 +63,7 @@ impl<L: Look<Guarded>> Guard<L> {
         alloc: Global,
         mq: &Mq<L>,
         place: u64,
-    ) -> (Process<L>, Result<Option<(Entry, Vec<u8>)>, AllocError>)
+    ) -> (Departed<L>, Result<Option<(Entry, Vec<u8>)>, AllocError>)
         requires made { self.process.lock ≡ mq.now }
         requires stored { stored_in self.process.lock.fixed ≡ true }
         ensures record { IfOk result.1 (λ read. option_map record_of read ≡
@@ -75,11 +75,11 @@ impl<L: Look<Guarded>> Guard<L> {
     {
         let (inside, state) = begin::<L>(self.walk, self.number);
         let read = record_at(alloc, state.books.journal(), place);
-        (process_of(depart(mq, inside, state), self.waits), read)
+        (departed_of(depart(mq, inside, state), self.waits), read)
     }
 
     /// As [`Process::room`].
-    pub fn room(self, mq: &Mq<L>) -> (Process<L>, Option<Bounds>)
+    pub fn room(self, mq: &Mq<L>) -> (Departed<L>, Option<Bounds>)
         requires made { self.process.lock ≡ mq.now }
         ensures room { result.1 ≡ room_left (bounds_of self.process) result.0.left }
         ensures calls { Calls self.process result.0 [] }
@@ -89,11 +89,11 @@ impl<L: Look<Guarded>> Guard<L> {
     {
         let (inside, state) = begin::<L>(self.walk, self.number);
         let room = state.books.room();
-        (process_of(depart(mq, inside, state), self.waits), room)
+        (departed_of(depart(mq, inside, state), self.waits), room)
     }
 
     /// As [`Process::journal_len`].
-    pub fn journal_len(self, mq: &Mq<L>) -> (Process<L>, u64)
+    pub fn journal_len(self, mq: &Mq<L>) -> (Departed<L>, u64)
         requires made { self.process.lock ≡ mq.now }
         ensures count { result.1 ≡ length result.0.left }
         ensures calls { Calls self.process result.0 [] }
@@ -103,11 +103,11 @@ impl<L: Look<Guarded>> Guard<L> {
     {
         let (inside, state) = begin::<L>(self.walk, self.number);
         let count = state.books.journal_len();
-        (process_of(depart(mq, inside, state), self.waits), count)
+        (departed_of(depart(mq, inside, state), self.waits), count)
     }
 
     /// As [`Process::nobody_can_call`].
-    pub fn nobody_can_call(self, mq: &Mq<L>) -> (Process<L>, bool)
+    pub fn nobody_can_call(self, mq: &Mq<L>) -> (Departed<L>, bool)
         requires made { self.process.lock ≡ mq.now }
         ensures nobody { IsTrue result.1 ↔ NobodyCanCall
             (bounds_of self.process) result.0.left self.process.lock.count }
@@ -118,7 +118,7 @@ impl<L: Look<Guarded>> Guard<L> {
     {
         let (inside, state) = begin::<L>(self.walk, self.number);
         let nobody = state.books.nobody_can_call();
-        (process_of(depart(mq, inside, state), self.waits), nobody)
+        (departed_of(depart(mq, inside, state), self.waits), nobody)
     }
 }
 

@@ -2,7 +2,6 @@
 
 use super::{Process, arrive};
 use crate::guarded::Guarded;
-use crate::sleep_times::SleepTimes;
 use crate::system::Mq;
 use fast_mutex::{AwaitAnswer, Look};
 use mq_model::entries::{Call, Received};
@@ -10,6 +9,10 @@ use mq_model::faults::Fault;
 use mq_state::collected::Collected;
 use std::sync::Wait;
 use std::time::Duration;
+
+// The longest sleep of a wait without a deadline, in seconds: for ever. The call that answers the
+// wait wakes the thread.
+const LONGEST_SLEEP: u64 = u32::MAX as u64;
 
 // The four calls that start a send or a receive have the body of `Process::make` in place. It is
 // too long to be inlined into them, and would find out the kind of the call only at run time.
@@ -139,9 +142,8 @@ impl<L: Look<Guarded>> Process<L> {
         ensures fits { FitsIn result (length buf.old) }
         ensures free { IsFree self.new }
     {
-        let mut sleep_times = SleepTimes::new();
         'looks: for _ in rt.forever() {
-            if self.await_answer(rt, mq, sleep_times.next()) {
+            if self.await_answer(rt, mq, Duration::from_secs(LONGEST_SLEEP)) {
                 break;
             }
         }

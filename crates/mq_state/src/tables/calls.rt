@@ -2,11 +2,13 @@
 //! tables.
 ghost use Rattle.std.specs.Prelude.{◌≡◌, ◌<◌, ◌≤◌, ◌+◌, ◌^◌, IfOk, OnOk, OnErr, Err, IsTrue, Some, None, true, false, ℕ, length, [], ◌∷◌, vec_len, vec_capacity, slice_index_or};
 ghost use Rattle.mq_model.specs.Names.{creates};
+ghost use Rattle.mq_model.specs.Threads.{owner_of};
 ghost use Rattle.mq_model.specs.Legality.{Appends, reply_to, may_call, is_payload, payload_of, IsLegalNext};
 ghost use Rattle.std.specs.Option.{option_map};
-ghost use Rattle.mq_model.specs.Owners.{waits_count, answer_in, wait_in, lowest_held_in};
+ghost use Rattle.mq_model.specs.Callers.{waits_count, answer_in, wait_in};
+ghost use Rattle.mq_model.specs.Owners.{lowest_held_in};
 ghost use Rattle.mq_model.specs.Messages.{is_send, is_receive};
-ghost use Rattle.mq_model.specs.OwnersNoted.{noted};
+ghost use Rattle.mq_model.specs.CallersNoted.{noted_waits};
 ghost use Rattle.mq_state.specs.Buffers.{filled, received_by};
 ghost use Rattle.mq_state.specs.Tables.{entry_queue, HasRoomToRegister, BringsOrder, CreatesWithin};
 ghost use Rattle.mq_model.specs.Record.{payload_bytes};
@@ -26,7 +28,7 @@ use crate::{buffers, moves, notices, queues};
 use mq_ledger::ledger::Ledger;
 use mq_model::entries::{Call, Entry, Reply};
 use mq_model::faults::Fault;
-use mq_model::{bounds, error_order, owners};
+use mq_model::{bounds, callers, error_order, owners};
 use mq_slots::Slots;
 use std::alloc::{AllocError, Global};
 
@@ -100,7 +102,7 @@ impl Tables {
         requires within { bytes ≤ most }
         ensures records { journal.new.records ≡ journal.old.records }
         ensures kept { IsKeptBy journal.new self.now }
-        ensures room { OnOk result ((waits_count self.now.owners.items + entries ≤
+        ensures room { OnOk result ((waits_count self.now.callers.items + entries ≤
             journal.new.entry_room) × (bytes ≤ journal.new.byte_room)) }
         ensures full { IsRoomRefused self.now.bounds
             (length journal.old.records + open_waits journal.old.records + entries)
@@ -129,22 +131,22 @@ impl Tables {
         ensures within { IsTrue result → exceeds self.now.bounds
             (length journal.now.records + open_waits journal.now.records + 2)
             (payload_bytes journal.now.records + bytes) ≡ false }
-        ensures room { IsTrue result → (waits_count self.now.owners.items + 2 ≤
+        ensures room { IsTrue result → (waits_count self.now.callers.items + 2 ≤
             journal.now.entry_room) × (bytes ≤ journal.now.byte_room) }
         ensures always { exceeds self.now.bounds
             (length journal.now.records + open_waits journal.now.records + 2)
             (payload_bytes journal.now.records + bytes) ≡ false →
-            waits_count self.now.owners.items + 2 ≤ journal.now.entry_room →
+            waits_count self.now.callers.items + 2 ≤ journal.now.entry_room →
             bytes ≤ journal.now.byte_room → IsTrue result }
     {
         !self.exceeds(journal, 2, bytes) && journal.has_room(self.open_waits() + 2, bytes)
     }
 
-    /// The number of processes with an open wait.
+    /// The number of callers with an open wait.
     pub fn open_waits(&self) -> usize
-        requires { self.now.waits ≡ waits_count self.now.owners.items }
-        ensures count { result ≡ waits_count self.now.owners.items }
-        ensures bound { result ≤ length self.now.owners.items }
+        requires { self.now.waits ≡ waits_count self.now.callers.items }
+        ensures count { result ≡ waits_count self.now.callers.items }
+        ensures bound { result ≤ length self.now.callers.items }
     {
         self.waits
     }
@@ -173,7 +175,7 @@ impl Tables {
         requires pool { IsPooled fresh self.old }
         ensures tables { AreThoseOf (record { entry = entry; payload = payload.now } ∷
             journal.now.records) self.new }
-        ensures owners { self.new.owners.items ≡ noted self.old.owners.items
+        ensures callers { self.new.callers.items ≡ noted_waits self.old.callers.items
             (length journal.now.records) entry.process entry.call entry.reply q }
         ensures notice_room { (k : ℕ) →
             room_in self.old.inboxes.items k ≤ room_in self.new.inboxes.items k + 1 }
@@ -183,7 +185,7 @@ impl Tables {
     {
         let here = journal.len();
         let moves = moves::moves_of(journal, entry);
-        let moved = waiting::moved_queue(&self.owners, entry.process, moves.wait, q);
+        let moved = waiting::moved_queue(&self.callers, entry.process, moves.wait, q);
         self.note_notices(entry.process, q, moves);
         self.note_process(here, entry, q, moves.wait);
         self.note_queues(here, entry, q, moves, fresh, hint);
@@ -241,7 +243,7 @@ impl Tables {
             (vec_capacity self.old.queues) fresh }
         requires bytes { length payload.now ≤ journal.old.byte_room }
         requires entries { HasEntryRoom entry.reply
-            (waits_count self.old.owners.items) journal.old.entry_room }
+            (waits_count self.old.callers.items) journal.old.entry_room }
         requires pool { IsPooled fresh self.old }
         ensures records { journal.new.records ≡ record { entry = entry; payload = payload.now } ∷
             journal.old.records }
@@ -282,7 +284,7 @@ impl Tables {
         requires bytes { length (payload_of entry.call entry.reply given.now) ≤
             journal.old.byte_room }
         requires entries { HasEntryRoom entry.reply
-            (waits_count self.old.owners.items) journal.old.entry_room }
+            (waits_count self.old.callers.items) journal.old.entry_room }
         requires pool { IsPooled fresh self.old }
         ensures appends { Appends journal.old.records journal.new.records entry.process
             entry.call given.now entry.reply }
@@ -383,7 +385,7 @@ impl Tables {
         requires within { exceeds self.old.bounds
             (length journal.old.records + open_waits journal.old.records + 2)
             (payload_bytes journal.old.records + length given.now) ≡ false }
-        requires room { (waits_count self.old.owners.items + 2 ≤ journal.old.entry_room) ×
+        requires room { (waits_count self.old.callers.items + 2 ≤ journal.old.entry_room) ×
             (length given.now ≤ journal.old.byte_room) }
         requires creates { creates call reply ≡ false }
         requires registration { HasRoomToRegister self.old.queues.items self.old.inboxes.items
@@ -580,7 +582,7 @@ impl Tables {
         requires within { bytes ≤ most }
         ensures records { journal.new.records ≡ journal.old.records }
         ensures kept { IsKeptBy journal.new self.now }
-        ensures room { OnOk result ((waits_count self.now.owners.items + entries ≤
+        ensures room { OnOk result ((waits_count self.now.callers.items + entries ≤
             journal.new.entry_room) × (bytes ≤ journal.new.byte_room)) }
         ensures full { IsRoomRefused self.now.bounds
             (length journal.old.records + open_waits journal.old.records + entries)
@@ -634,7 +636,7 @@ impl Tables {
     // queue, since a queue has at most one registration.
     fn make_notice_room(&mut self, p: u32, call: Call, reply: Reply) -> Result<(), AllocError>
         requires pool { IsPooled None self.old }
-        requires process { p < length self.old.inboxes.items }
+        requires process { owner_of p < length self.old.inboxes.items }
         ensures same { SaysSame self.old self.new }
         ensures pool { IsPooled None self.new }
         ensures memory { OnErr result
@@ -654,24 +656,24 @@ impl Tables {
         }
     }
 
-    /// The sequence number of the entry that answers the open wait of process p, if there is one.
+    /// The sequence number of the entry that answers the open wait of caller p, if there is one.
     pub fn answer(&self, p: u32) -> Option<u64>
-        ensures { result ≡ answer_in self.now.owners.items p }
+        ensures { result ≡ answer_in self.now.callers.items p }
     {
-        owners::answer(&self.owners, p)
+        callers::answer(&self.callers, p)
     }
 
-    /// The sequence number of the open wait of process p.
+    /// The sequence number of the open wait of caller p.
     pub fn wait(&self, p: u32) -> Option<u64>
-        ensures { result ≡ option_map (λ w. w.place) (wait_in self.now.owners.items p) }
+        ensures { result ≡ option_map (λ w. w.place) (wait_in self.now.callers.items p) }
     {
-        match owners::wait(&self.owners, p) {
+        match callers::wait(&self.callers, p) {
             None => None,
             Some(wait) => Some(wait.place),
         }
     }
 
-    /// The call in which process p waits, if it does.
+    /// The call in which caller p waits, if it does.
     pub fn waiting_call(&self, p: u32) -> Call
         ensures { result ≡ slice_index_or self.now.calls.items p Call.Collect }
     {

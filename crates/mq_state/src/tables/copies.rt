@@ -14,6 +14,7 @@ impl Tables {
         ensures { IfOk result (SaysSame self.now) }
     {
         let owners = Vec::from_slice(self.alloc, &self.owners)?;
+        let callers = Vec::from_slice(self.alloc, &self.callers)?;
         let calls = Vec::from_slice(self.alloc, &self.calls)?;
         let queues = copy_queues(self.alloc, &self.queues)?;
         let inboxes = copy_inboxes(self.alloc, &self.inboxes)?;
@@ -22,6 +23,7 @@ impl Tables {
             n: self.n,
             bounds: self.bounds,
             owners,
+            callers,
             waits: self.waits,
             calls,
             queues,

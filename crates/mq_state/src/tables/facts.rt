@@ -11,17 +11,17 @@ ghost use Rattle.mq_model.specs.Legality.{Legal, may_call, reply_to, reply_to_se
 ghost use Rattle.mq_ledger.specs.Ledgers.{IsReadable};
 ghost use Rattle.mq_state.specs.Kept.{Mirrors, AreThoseOf};
 ghost use Rattle.mq_state.specs.Queues.{waiting_in};
-ghost use Rattle.mq_state.specs.WaitBits.{KnowWaits};
+ghost use Rattle.mq_state.specs.WaitCounts.{KnowWaits};
 ghost use Rattle.mq_state.specs.Requests.{without_deadline};
 
 use crate::notices;
 use crate::prefixes::Prefix;
 use crate::queues::{self, LineFacts};
 use crate::tables::Tables;
+use mq_model::callers::WaitKind;
 use mq_model::entries::{Call, Description, Registration, Reply};
 use mq_model::error_order::{NotifyFacts, OpenFacts, ReceiveFacts, SendFacts, StatusFacts};
-use mq_model::owners::WaitKind;
-use mq_model::{error_order, owners};
+use mq_model::{callers, error_order, owners};
 
 // The sequence number of a message.
 fn message_place(message: Option<(u32, u64)>) -> Option<u64>
@@ -95,7 +95,7 @@ impl Tables {
     }
 
     // The queue that a name is bound to.
-    pub(super) fn bound(&self, journal: &Prefix<'_>, name: &[u8]) -> Option<u64>
+    pub(crate) fn bound(&self, journal: &Prefix<'_>, name: &[u8]) -> Option<u64>
         requires legal { Legal journal.now.records }
         requires readable { IsReadable journal.now }
         requires mirror { Mirrors journal.now self.now }
@@ -136,8 +136,8 @@ impl Tables {
         requires mirror { Mirrors journal.now self.now }
         requires legal { Legal journal.now.records }
         requires alive { IfSome held (λ h. IsTrue (is_in (alive journal.now.records) h.queue)) }
-        requires few { self.now.n ≤ 32 }
-        requires known { KnowWaits self.now.owners.items self.now.queues.items }
+        requires few { self.now.n ≤ 2048 }
+        requires known { KnowWaits self.now.callers.items self.now.queues.items }
         ensures reply { IfSome result (λ reply.
             reply ≡ reply_to_send journal.now.records held prio len) }
         ensures any { quiet ≡ false → IsSome result }
@@ -172,8 +172,8 @@ impl Tables {
         requires mirror { Mirrors journal.now self.now }
         requires legal { Legal journal.now.records }
         requires alive { IfSome held (λ h. IsTrue (is_in (alive journal.now.records) h.queue)) }
-        requires few { self.now.n ≤ 32 }
-        requires known { KnowWaits self.now.owners.items self.now.queues.items }
+        requires few { self.now.n ≤ 2048 }
+        requires known { KnowWaits self.now.callers.items self.now.queues.items }
         ensures reply { IfSome result (λ reply.
             reply ≡ reply_to_receive journal.now.records held room) }
         ensures any { quiet ≡ false → IsSome result }
@@ -272,7 +272,7 @@ impl Tables {
     {
         match call {
             Call::Collect => self.answer(p).is_some(),
-            Call::Withdraw { now } => match owners::wait(&self.owners, p) {
+            Call::Withdraw { now } => match callers::wait(&self.callers, p) {
                 None => false,
                 Some(wait) => self.answer(p).is_none() && error_order::is_over(wait.until, now),
             },

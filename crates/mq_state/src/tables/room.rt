@@ -1,6 +1,6 @@
 //! Which processes can still make a call, and how much room the journal has.
 ghost use Rattle.std.specs.Prelude.{◌≡◌, ◌≤◌, ◌↔◌, IsTrue, IfSome, is_some, not};
-ghost use Rattle.mq_model.specs.Owners.{waits_count};
+ghost use Rattle.mq_model.specs.Callers.{waits_count};
 ghost use Rattle.mq_state.specs.Kept.{AreThoseOf, IsKeptBy, IsRoomWithin};
 ghost use Rattle.mq_state.specs.Replays.{is_too_long};
 ghost use Rattle.mq_state.specs.Tables.{AreAtMost};
@@ -9,8 +9,8 @@ ghost use Rattle.mq_state.specs.Room.{NobodyCanCall, can_call, is_full, room_lef
 use crate::tables::Tables;
 use mq_ledger::ledger::Ledger;
 use mq_model::bounds::Bounds;
+use mq_model::callers;
 use mq_model::journals::Journal;
-use mq_model::owners;
 
 impl Tables {
     // Whether process p can make any call, at whatever time. `full` says whether the journal is
@@ -20,7 +20,7 @@ impl Tables {
         requires full { full ≡ is_full self.now.bounds journal.now.records }
         ensures { result ≡ can_call self.now.bounds journal.now.records p }
     {
-        match owners::wait(&self.owners, p) {
+        match callers::wait(&self.callers, p) {
             None => !full,
             Some(wait) => self.answer(p).is_some() || wait.until.is_some(),
         }
@@ -47,7 +47,7 @@ impl Tables {
         requires tables { AreThoseOf journal.now.records self.now }
         requires processes { AreAtMost self.now.n journal.now.records }
         ensures none { is_some result ≡ not (is_too_long self.now.bounds journal.now.records) }
-        ensures waits { IfSome result (λ room. waits_count self.now.owners.items ≤ room.0) }
+        ensures waits { IfSome result (λ room. waits_count self.now.callers.items ≤ room.0) }
         ensures within { IfSome result (λ room.
             IsRoomWithin self.now.bounds journal.now.records room.0 room.1) }
     {

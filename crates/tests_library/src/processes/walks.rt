@@ -22,8 +22,8 @@ fn opens<A: Abort>(rt: &A, mq: &FastMq, guard: FastGuard) -> (FastProcess, bool)
     ensures { (result.0.lock ≡ mq.now) × IsFree result.0 }
 {
     let name = Name::read(b"/q").ok().expect(rt, "a name");
-    let (process, opened) = guard.make::<Result<u32, Fault>>(mq, OPEN, name.bytes(), &mut []);
-    (process, opened == Err(Fault::NoMemory))
+    let (departed, opened) = guard.make::<Result<u32, Fault>>(mq, OPEN, name.bytes(), &mut []);
+    (departed.wake_others(mq), opened == Err(Fault::NoMemory))
 }
 
 // The process after it opened a queue. An allocation may be made to fail from outside.
@@ -48,21 +48,27 @@ fn in_by_the_fifth<A: Abort>(rt: &A, mq: &FastMq, process: FastProcess) -> FastG
     let Err(process) = process.acquisition(mq).advance(mq, 4) else {
         panic!(rt; "inside by four steps")
     };
+    if process.futex_word().is_some() {
+        panic!(rt; "it may sleep, though its last step made progress")
+    }
     process
         .advance(mq, 1)
         .ok()
         .expect(rt, "inside by five steps")
 }
 
-// The process does not acquire the lock.
+// The process does not acquire the lock. Its last step made no progress, so it may sleep.
 fn kept_out<A: Abort>(rt: &A, mq: &FastMq, process: FastProcess) -> FastAcquisition
     requires { process.lock ≡ mq.now }
     ensures { result.process ≡ process }
 {
-    match process.acquisition(mq).advance(mq, 1_000) {
-        Err(process) => process,
-        Ok(_) => panic!(rt; "two processes inside"),
+    let Err(process) = process.acquisition(mq).advance(mq, 1_000) else {
+        panic!(rt; "two processes inside")
+    };
+    if process.futex_word().is_none() {
+        panic!(rt; "it may not sleep, though its last step made no progress")
     }
+    process
 }
 
 // The process acquires the lock and releases it without a call.
@@ -74,7 +80,7 @@ fn in_and_out<A: Abort>(rt: &A, mq: &FastMq, process: FastAcquisition) -> FastPr
         .advance(mq, 1_000)
         .ok()
         .expect(rt, "inside once nobody is there");
-    guard.leave(mq)
+    guard.leave(mq).wake_others(mq)
 }
 
 // Process 1 acquires the lock by its fifth step and not before, and opens a queue. Meanwhile

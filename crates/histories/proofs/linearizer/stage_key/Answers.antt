@@ -23,5 +23,5 @@ returns c =
     let all = counts-are past xs (length xs) (key_of past) (omega arith) c.requires in
     let whole : counts_then past (length xs) (key_of past) ≡ xs ++ key_of past = all ∙ ap (λ (ys : List ℕ). ys ++ key_of past) (take-length xs) in
     let counts : c.push_counts.new.key.items ≡ xs = rw (c.new-key.ensures.items, c.deref.ensures.value) at c.in_ok-push_counts.ensures in
-    let tail : c.deref-2.result.now ≡ key_of past = c.deref-2.ensures.value ∙ c.in_ok-past.ensures ∙ ap key_of c.journal.ensures in
+    let tail : c.deref-2.result.now ≡ key_of past = c.deref-2.ensures.value ∙ c.in_ok-past.ensures in
     c.in_ok-extend_from_slice.ensures.items ∙ ap (λ (ys : List ℕ). ys ++ c.deref-2.result.now) counts ∙ ap (λ (ys : List ℕ). xs ++ ys) tail ∙ sym whole

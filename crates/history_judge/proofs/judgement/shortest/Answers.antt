@@ -3,6 +3,7 @@ use Rattle.std.proofs.lemmas.Grind.{common_steps}
 use Rattle.std.proofs.lemmas.Option.{slice_get_read}
 use Rattle.history_judge.specs.Fronts.{Return, front_part}
 use Rattle.history_judge.specs.Verdicts.{IsImpossible, UsesUp}
+use Rattle.history_judge.proofs.Copies.{front-is-formed}
 use Rattle.history_judge.proofs.Narrowing.{impossible-part, impossible-whole, possible-before, used-up-at}
 use Rattle.history_judge.proofs.judgement.shortest.Goals.{in-Impossible, in-Possible, in-OutOfBudget}
 use Rattle.history_judge.proofs.Pending.{has-return}
@@ -93,6 +94,7 @@ returns c =
       at = subst (λ i. slice_get returns i ≡ Some last) same (slice_get_read returns (length returns) c.min-at.result last refl within c.index-last.ensures);
       of = refl;
       part = c.in_ok-front.ensures;
+      formed = front-is-formed c.in_ok-front.front.items c.args.calls.now returns c.loop-good.bad c.in_ok-front.ensures;
       impossible = was.impossible;
       reason = c.in_ok-reason.ensures;
       unsure = λ f. let old = was.unsure f in let below = old.1 in (old.0, omega (arith, below, was.order), subst (λ b. UsesUp b (front_part c.args.calls.now returns old.0)) c.front_budget-share.ensures old.2);

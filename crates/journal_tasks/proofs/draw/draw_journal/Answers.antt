@@ -1,4 +1,4 @@
-use Rattle.std.proofs.Common.{◌≡◌, ◌∙◌, Err, Result, ap, length}
+use Rattle.std.proofs.Common.{◌≡◌, ◌∙◌, Err, Result, ap, length, sym}
 use Rattle.journal_format.specs.declared.fault.JournalFault.{JournalFault}
 use Rattle.journal_format.specs.declared.fault.JournalFault.TheVariants as journal
 use Rattle.journal_views.specs.Picture.{picture_text}
@@ -35,11 +35,12 @@ returns-in_err-write_all-clause-output g c = λ all known failed.
       past = past;
       fits = found.0;
       text = found.1;
+      begins = sym c.is_beyond.ensures ∙ c.if-is_beyond.false;
       written = rw picture at c.in_err-write_all.ensures.failed;
     }
 
 pub returns-clause-done : goal.returns-clause-done
-returns-clause-done g c = λ all known.
+returns-clause-done g c = λ all known same.
     let past = c.in_ok-journal.journal.records in
     let found = c.in_ok-journal.ensures.found all known in
     let len = length past in
@@ -50,6 +51,7 @@ returns-clause-done g c = λ all known.
       past = past;
       fits = found.0;
       text = found.1;
+      begins = sym c.is_beyond.ensures ∙ c.if-is_beyond.false;
       written = rw picture at c.in_ok-write_all.ensures.whole;
     }
 

@@ -1,4 +1,4 @@
-use Rattle.std.proofs.Common.{◌≡◌, ◌<◌, ◌∙◌, Err, Result, ap, arith, inl, inr, length, refl, subst, true, nat_lt, lt-ltb}
+use Rattle.std.proofs.Common.{◌≡◌, ◌<◌, ◌∙◌, Err, Result, ap, arith, inl, inr, length, refl, subst, sym, true, nat_lt, lt-ltb}
 use Rattle.mq_model.specs.Record.{first}
 use Rattle.mq_model.specs.declared.journals.Journal.{Journal}
 use Rattle.journal_format.specs.declared.fault.JournalFault.{JournalFault}
@@ -24,7 +24,7 @@ returns-then-count-gt-MOST_VIEWED-clause-too_long g c = λ all known same.
     let found = c.in-Ok.ensures.found all known in
     let many : nat_lt 1000000 (count_viewed c.args.from c.args.to (length past)) ≡ true =
     lt-ltb 1000000 (count_viewed c.args.from c.args.to (length past)) (rw c.cut-first.ensures.count at c.if-count-gt-MOST_VIEWED.true) in
-    record { past = past; fits = found.0; text = found.1; much = inl (rw many refl) }
+    record { past = past; fits = found.0; text = found.1; begins = sym c.is_beyond.ensures ∙ c.if-is_beyond.false; much = inl (rw many refl) }
 
 pub returns-then-len-gt-MOST_PAGE-clause-too_long : goal.returns-then-len-gt-MOST_PAGE-clause-too_long
 returns-then-len-gt-MOST_PAGE-clause-too_long g c = λ all known same.
@@ -44,6 +44,7 @@ returns-then-len-gt-MOST_PAGE-clause-too_long g c = λ all known same.
       past = past;
       fits = found.0;
       text = found.1;
+      begins = sym c.is_beyond.ensures ∙ c.if-is_beyond.false;
       much = inr (record {
         before = before;
         state = subst (λ n. IsStateLine (first n past) before) c.cut-first.ensures.first c.in-Ok-state_line.ensures;
@@ -66,6 +67,7 @@ returns-in-Ok-write_all-clause-done g c = λ all known same.
       past = past;
       fits = found.0;
       text = found.1;
+      begins = sym c.is_beyond.ensures ∙ c.if-is_beyond.false;
       before = before;
       state = subst (λ n. IsStateLine (first n past) before) c.cut-first.ensures.first c.in-Ok-state_line.ensures;
       written = rw page at c.in-Ok-write_all.ensures.whole;
@@ -86,6 +88,7 @@ returns-clause-output g c = λ all known failed.
       past = past;
       fits = found.0;
       text = found.1;
+      begins = sym c.is_beyond.ensures ∙ c.if-is_beyond.false;
       before = before;
       state = subst (λ n. IsStateLine (first n past) before) c.cut-first.ensures.first c.in-Ok-state_line.ensures;
       written = rw page at c.in-Err-write_all.ensures.failed;

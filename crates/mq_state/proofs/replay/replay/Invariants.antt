@@ -1,4 +1,4 @@
-use Rattle.std.proofs.Common.{◌≡◌, None}
+use Rattle.std.proofs.Common.{None}
 use Rattle.mq_model.specs.Record.{first}
 use Rattle.mq_state.specs.Kept.{AreThoseOf}
 use Rattle.mq_state.specs.Pool.{IsPooled}
@@ -7,6 +7,5 @@ use Rattle.mq_state.proofs.replay.replay.Given as goal
 abbrev pub invariant-loop-place : goal.invariant-loop-place
 invariant-loop-place l = record {
   tables : AreThoseOf (first l.place l.journal.records) l.tables;
-  n : l.tables.n ≡ 32;
   pool : IsPooled None l.tables;
 }

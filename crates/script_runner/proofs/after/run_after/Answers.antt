@@ -27,7 +27,7 @@ returns-clause-done g c =
     IfOk-weaker c.make_on.result
     (λ journal. RunsOn mq before script.phases replies journal.records × (some_refused noted ≡ false)) (λ journal. RunsServedAfter past script noted journal.records)
     (λ journal runs. record {
-      ran = after-of past script mq before replies journal.records (c.in-Ok.ensures.count ∙ c.requires.count) (c.in-Ok.ensures.bounds ∙ c.requires.stored.0) c.requires.free are runs.0;
+      ran = after-of past script mq before replies journal.records (c.in-Ok.ensures.count ∙ c.requires.count) c.requires.processes.1 (c.in-Ok.ensures.bounds ∙ c.requires.stored.0) c.requires.free are runs.0;
       served = runs.1;
     })
     c.make_on.ensures.done

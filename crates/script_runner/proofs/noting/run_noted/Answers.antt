@@ -21,7 +21,7 @@ returns-clause-done g c =
     IfOk-weaker c.make_on.result
     (λ journal. RunsOn mq before script.phases replies journal.records × (some_refused noted ≡ false)) (λ journal. RunsServed script noted journal.records)
     (λ journal runs. record {
-      ran = whole-of script mq before replies journal.records c.in-Ok.ensures.count c.in-Ok.ensures.bounds c.in-Ok.ensures.processes runs.0;
+      ran = whole-of script mq before replies journal.records c.in-Ok.ensures.count c.requires.processes.1 c.in-Ok.ensures.bounds c.in-Ok.ensures.processes runs.0;
       served = runs.1;
     })
     c.make_on.ensures.done

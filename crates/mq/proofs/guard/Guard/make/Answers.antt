@@ -25,7 +25,7 @@ pub returns-clause-call : goal.returns-clause-call
 returns-clause-call g c =
     let came = came-in c.begin-inside.ensures.came (ap (λ (e : Entrant). e.process) c.self.view_is) c.requires.made in
     let is = asked c.ask-answer.ensures.made.entry c.ask-answer.ensures.made.no_entry in
-    rw (c.process_of.ensures, c.depart_after-seat.ensures.left) (is-call c.args.call c.args.buf.now c.ask-answer.new.buf g.A.Returned.kind c.ask-answer.result.reply g.met.A.Returned.is_kind c.requires.brings.1
+    rw (c.departed_of.ensures, c.depart_after-seat.ensures.left) (is-call c.args.call c.args.buf.now c.ask-answer.new.buf g.A.Returned.kind c.ask-answer.result.reply g.met.A.Returned.is_kind c.requires.brings.1
     (replied c.ask-answer.ensures.made.entry (may-be-refused c.args.call c.args.given.now _ c.requires.brings))
     (came-made c.args.call c.args.given.now c.ask-answer.result.reply came c.requires.made is c.depart_after-seat.ensures.legal)
     (came-found c.args.call c.args.given.now c.ask-answer.result.reply came c.requires.made is c.ask-answer.ensures.made.full)
@@ -36,4 +36,4 @@ pub returns-clause-begun : goal.returns-clause-begun
 returns-clause-begun g c =
     let came = came-in c.begin-inside.ensures.came (ap (λ (e : Entrant). e.process) c.self.view_is) c.requires.made in
     let is = asked c.ask-answer.ensures.made.entry c.ask-answer.ensures.made.no_entry in
-    rw (c.process_of.ensures, c.depart_after-seat.ensures.left) (begun c.args.call c.args.given.now c.ask-answer.result.reply came c.requires.free is)
+    rw (c.departed_of.ensures, c.depart_after-seat.ensures.left) (begun c.args.call c.args.given.now c.ask-answer.result.reply came c.requires.free is)

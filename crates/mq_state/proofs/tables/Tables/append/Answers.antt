@@ -1,8 +1,8 @@
 use Rattle.std.proofs.Common.{◌≡◌, ◌≤◌, length, arith, refl, ◌∙◌}
 use Rattle.std.proofs.lemmas.List.Elements.{All-cons}
 use Rattle.mq_model.specs.Record.{Record}
-use Rattle.mq_model.specs.Owners.{waits_count}
-use Rattle.mq_model.specs.OwnersNoted.{noted}
+use Rattle.mq_model.specs.Callers.{waits_count}
+use Rattle.mq_model.specs.CallersNoted.{noted_waits}
 use Rattle.mq_model.proofs.LegalReplies.{legal_says}
 use Rattle.mq_state.proofs.WaitsNoted.{waits-noted}
 use Rattle.mq_state.proofs.Reachable.{room-stays, goes-to}
@@ -18,8 +18,8 @@ pub push-requires-clause-entry_room : goal.push-requires-clause-entry_room
 push-requires-clause-entry_room c =
     let past = c.args.journal.now.records in
     let e = c.args.entry in
-    let count = c.requires.kept.tables.mirror.owner_count in
-    let room = waits-noted past c.args.self.now.owners.items c.requires.kept.tables.mirror.lines e.process e.call e.reply c.args.q c.args.journal.now.entry_room (legal_says past (record { entry = e; payload = c.args.payload.now }) c.requires.next) c.requires.next.turn (let le = c.requires.at_most in omega (arith, le, count)) c.requires.entries in
+    let count = c.requires.kept.tables.mirror.caller_count in
+    let room = waits-noted past c.args.self.now.callers.items c.requires.kept.tables.mirror.waits e.process e.call e.reply c.args.q c.args.journal.now.entry_room (legal_says past (record { entry = e; payload = c.args.payload.now }) c.requires.next) c.requires.next.turn (let le = c.requires.at_most in omega (arith, le, count)) c.requires.entries in
     omega (arith, room)
 
 pub push-requires-clause-queue : goal.push-requires-clause-queue
@@ -34,9 +34,9 @@ returns-clause-kept c =
     let before = c.args.self.now in
     let after = c.note_next.new.self in
     let r : Record = record { entry = e; payload = c.args.payload.now } in
-    let count = c.requires.kept.tables.mirror.owner_count in
-    let room = waits-noted past before.owners.items c.requires.kept.tables.mirror.lines e.process e.call e.reply c.args.q c.args.journal.now.entry_room (legal_says past r c.requires.next) c.requires.next.turn (let le = c.requires.at_most in omega (arith, le, count)) c.requires.entries in
-    let waits : waits_count after.owners.items ≡ waits_count (noted before.owners.items (length past) e.process e.call e.reply c.args.q) = rw (c.note_next.ensures.owners, c.whole.ensures) refl in
+    let count = c.requires.kept.tables.mirror.caller_count in
+    let room = waits-noted past before.callers.items c.requires.kept.tables.mirror.waits e.process e.call e.reply c.args.q c.args.journal.now.entry_room (legal_says past r c.requires.next) c.requires.next.turn (let le = c.requires.at_most in omega (arith, le, count)) c.requires.entries in
+    let waits : waits_count after.callers.items ≡ waits_count (noted_waits before.callers.items (length past) e.process e.call e.reply c.args.q) = rw (c.note_next.ensures.callers, c.whole.ensures) refl in
     let pushed = c.push.ensures.entry_room in
     record {
       tables = rw c.push.ensures.records (rw c.whole.ensures at c.note_next.ensures.tables);

@@ -1,7 +1,0 @@
-use Rattle.mq_model.specs.Owners.{with_wait}
-use Rattle.mq_model.proofs.OwnerLines.{changed-set}
-use Rattle.mq_model.proofs.owners.set_wait.Goals as goal
-
-pub returns : goal.returns
-unfolding with_wait
-returns c = changed-set _ c.args.owners.now c.args.p _ c.requires
