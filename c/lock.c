@@ -19,8 +19,14 @@ enum {
     TRIES = 24,
     SHORTEST_PAUSE = 128,
     LONGEST_PAUSE = 2048,
-    /* So many nanoseconds a sleeper sleeps until it looks whether the holder lives. */
-    LONGEST_SLEEP = 50000000
+    /* So many nanoseconds a sleeper sleeps until it looks again, and whether the holder lives: the
+       first time, and then each time twice as many, up to so many. */
+    FIRST_SLEEP = 500000,
+    LONGEST_SLEEP = 50000000,
+    /* And so many for the next sleep of one that starves: it has slept twice. */
+    STARVING_SLEEP = 4 * FIRST_SLEEP,
+    /* So many the others sleep at most to let one in that starves. */
+    LONGEST_HOLD = 1000000
 };
 
 bool program_is_watched;
@@ -89,12 +95,20 @@ static yak_word_ lock_word(void)
     return (yak_word_){.at = (uint32_t *)PROGRAM_WORD, .is_shared = true};
 }
 
+/* A thread that starves writes its number to the_program.starving while it tries, and marks the
+ * lock's word as one on which threads sleep. Who releases the lock then leaves the free word
+ * marked, instead of waking a sleeper: so nobody else acquires it by a first attempt, and all that
+ * try again see who starves, and wait until that one is inside. */
 void program_wake_next(void)
 {
+    int nobody = 0;
     if (program_is_apart)
         program_come_to_family();
-    else
+    else if (__atomic_load_n(&the_program.starving, __ATOMIC_RELAXED) == 0)
         yak_wake_on_(lock_word(), 1);
+    else
+        __atomic_compare_exchange_n(PROGRAM_WORD, &nobody, (int)FUTEX_WAITERS, false,
+                                    __ATOMIC_RELAXED, __ATOMIC_RELAXED);
 }
 
 void program_unlock_watched(void)
@@ -105,46 +119,76 @@ void program_unlock_watched(void)
     tell_unlocked(false);
 }
 
-/* A wake is lost if the thread that was woken is killed before it takes the lock, and a death is if
- * a handler inside used a robust mutex. So nobody sleeps for long, and then it looks whether the
- * holder lives. */
-static void sleep_for_lock(int seen)
+/* Says that this thread starves, unless another one does, and marks the word. */
+static void starve(int seen)
 {
-    const struct timespec delay = {.tv_nsec = LONGEST_SLEEP};
-    if (syscall(SYS_futex, PROGRAM_WORD, FUTEX_WAIT, seen, &delay, 0, 0) >= 0 ||
-        errno != ETIMEDOUT || kill(seen & FUTEX_TID_MASK, 0) == 0 || errno != ESRCH)
-        return;
-    __atomic_compare_exchange_n(PROGRAM_WORD, &seen, (int)(FUTEX_WAITERS | FUTEX_OWNER_DIED), false,
+    int nobody = 0;
+    __atomic_compare_exchange_n(&the_program.starving, &nobody, program_thread.number, false,
                                 __ATOMIC_RELAXED, __ATOMIC_RELAXED);
+    if (seen > 0)
+        __atomic_compare_exchange_n(PROGRAM_WORD, &seen, seen | (int)FUTEX_WAITERS, false,
+                                    __ATOMIC_RELAXED, __ATOMIC_RELAXED);
+}
+
+/* Sleeps while the lock is held, or free for one that starves. A wake is lost if the thread that
+ * was woken is killed before it takes the lock, and a death is if a handler inside used a robust
+ * mutex. So nobody sleeps for long. Who starves may be stopped or dead: then it starves no longer,
+ * and says so again if it only was late. */
+static void sleep_for_lock(int seen, int starving, long nanos)
+{
+    const int holder = seen & FUTEX_TID_MASK;
+    const struct timespec delay = {.tv_nsec = holder != 0 ? nanos : LONGEST_HOLD};
+    if (syscall(SYS_futex, PROGRAM_WORD, FUTEX_WAIT, seen, &delay, 0, 0) >= 0 || errno != ETIMEDOUT)
+        return;
+    if (holder == 0)
+        __atomic_compare_exchange_n(&the_program.starving, &starving, 0, false, __ATOMIC_RELAXED,
+                                    __ATOMIC_RELAXED);
+    else if (kill(holder, 0) != 0 && errno == ESRCH)
+        __atomic_compare_exchange_n(PROGRAM_WORD, &seen, (int)(FUTEX_WAITERS | FUTEX_OWNER_DIED),
+                                    false, __ATOMIC_RELAXED, __ATOMIC_RELAXED);
 }
 
 /* Takes the lock: whether its holder has died. The pauses become long: meanwhile the holder makes
- * several calls, for which the memory stays with its processor. */
+ * several calls, for which the memory stays with its processor. A thread that has slept twice
+ * starves. */
 static bool take(void)
 {
     int *const word = PROGRAM_WORD, waiters = 0;
     unsigned tries = 0, pause = SHORTEST_PAUSE;
+    long nanos = FIRST_SLEEP;
     for (;;) {
         int seen = __atomic_load_n(word, __ATOMIC_RELAXED);
         const int sleepers = seen & (int)FUTEX_WAITERS;
-        if ((seen & FUTEX_TID_MASK) == 0) {
-            if (__atomic_compare_exchange_n(word, &seen, program_thread.number | waiters | sleepers,
-                                            false, __ATOMIC_ACQUIRE, __ATOMIC_RELAXED))
-                return (seen & FUTEX_OWNER_DIED) != 0;
-        } else if (tries < TRIES) {
+        const int starving = __atomic_load_n(&the_program.starving, __ATOMIC_RELAXED);
+        const bool is_first = starving == program_thread.number;
+        if ((seen & FUTEX_TID_MASK) == 0 && (starving == 0 || is_first)) {
+            if (!__atomic_compare_exchange_n(word, &seen,
+                                             program_thread.number | waiters | sleepers, false,
+                                             __ATOMIC_ACQUIRE, __ATOMIC_RELAXED))
+                continue;
+            if (is_first)
+                __atomic_store_n(&the_program.starving, 0, __ATOMIC_RELAXED);
+            return (seen & FUTEX_OWNER_DIED) != 0;
+        }
+        if (tries < TRIES) {
+            if (nanos >= STARVING_SLEEP)
+                starve(seen);
             ++tries;
             yak_pause_(pause);
             pause *= pause < LONGEST_PAUSE ? 2 : 1;
-        } else {
-            if (sleepers == 0 &&
-                !__atomic_compare_exchange_n(word, &seen, seen | (int)FUTEX_WAITERS, false,
-                                             __ATOMIC_RELAXED, __ATOMIC_RELAXED))
-                continue;
-            sleep_for_lock(seen | (int)FUTEX_WAITERS);
-            waiters = (int)FUTEX_WAITERS;
-            tries = 0;
-            pause = SHORTEST_PAUSE;
+            continue;
         }
+        if (is_first) /* nobody is to wait for a thread that sleeps */
+            __atomic_store_n(&the_program.starving, 0, __ATOMIC_RELAXED);
+        if (sleepers == 0 &&
+            !__atomic_compare_exchange_n(word, &seen, seen | (int)FUTEX_WAITERS, false,
+                                         __ATOMIC_RELAXED, __ATOMIC_RELAXED))
+            continue;
+        sleep_for_lock(seen | (int)FUTEX_WAITERS, starving, nanos);
+        nanos = 2 * nanos < LONGEST_SLEEP ? 2 * nanos : LONGEST_SLEEP;
+        waiters = (int)FUTEX_WAITERS;
+        tries = 0;
+        pause = SHORTEST_PAUSE;
     }
 }
 

@@ -245,6 +245,7 @@ typedef struct waiting {
 /* What all operating-system processes of the program share. */
 typedef struct program {
     pthread_mutex_t lock; /* only its memory is used: lock.c */
+    int starving;         /* the number of a thread that has waited for the lock for long, or 0 */
     arena arena;
     unsigned long inode; /* of the arena, from the first fork on; 0 if it is not known */
     bool is_ready;

@@ -3,8 +3,9 @@
  * A futex word is a word of the library that is 1 if a thread may sleep on it. A thread that is
  * about to sleep stores 1, looks once more at what it waits for, and sleeps while the word is 1. A
  * thread that changes what others wait for stores 0 and wakes one. Word 0 is the futex word of the
- * lock, word j that of process j's flag, and word YAK_ANSWER_WORD_ + j that of its answer. A missed
- * wake-up makes a sleep late and does not lose it, since each sleep has an end. */
+ * lock, word j that of process j's flag, and word YAK_ANSWER_WORD_ + j that of its answer. No
+ * wake-up is lost (docs/lock.md), so a thread that waits for an answer sleeps until it is woken, or
+ * until its deadline. */
 #define _GNU_SOURCE
 /* quick.h must not define yak_send and yak_receive: they are below. */
 #define YAK_DEFINES_CALLS_
@@ -13,6 +14,7 @@
 #include "proved.h"
 
 #include <errno.h>
+#include <limits.h>
 #include <stdlib.h>
 #include <string.h>
 #ifdef __linux__
@@ -26,7 +28,14 @@
 
 #define SELDOM(what) __builtin_expect(!!(what), 0)
 
-enum { LOCK_WORD = 0, SECOND = 1000000000, MILLISECOND = 1000000 };
+enum { SECOND = 1000000000, MILLISECOND = 1000000 };
+
+/* The longest sleep for the lock, in seconds. */
+enum { LONGEST_SLEEP = 60 };
+
+/* The index of the futex word of the lock, and of the word that counts how often the owner of a
+ * clock has said that it moved, which the library never accesses. */
+enum { LOCK_WORD = 0, MOVES_WORD = 105 };
 
 /* The process that the thread is attached to (yakyrombe/mqueue.h). */
 _Thread_local yak_process *yak_attached;
@@ -95,16 +104,26 @@ static yak_word_ low_half(uint64_t *futex_word)
     return half;
 }
 
-/* Sleeps on a futex word that was announced, for so many nanoseconds at the most. */
-static void sleep_on(uint64_t *futex_word, int64_t nanos)
+/* The moment after so many nanoseconds. */
+static struct timespec after(int64_t nanos)
 {
-    struct timespec until;
-    const yak_sleep_ sleep = {.until = &until, .clock = CLOCK_MONOTONIC};
-    clock_gettime(CLOCK_MONOTONIC, &until);
-    nanos += until.tv_nsec;
-    until.tv_sec += (time_t)(nanos / SECOND);
-    until.tv_nsec = (long)(nanos % SECOND);
-    yak_sleep_on_(low_half(futex_word), 1, &sleep);
+    struct timespec end;
+    clock_gettime(CLOCK_MONOTONIC, &end);
+    end.tv_sec += (time_t)(nanos / SECOND);
+    end.tv_nsec += (long)(nanos % SECOND);
+    if (end.tv_nsec >= SECOND) {
+        ++end.tv_sec;
+        end.tv_nsec -= SECOND;
+    }
+    return end;
+}
+
+/* Sleeps while a futex word has the value, for so many nanoseconds at the most. */
+static void sleep_on(uint64_t *futex_word, uint32_t value, int64_t nanos)
+{
+    const struct timespec end = after(nanos);
+    const yak_sleep_ sleep = {.until = &end, .clock = CLOCK_MONOTONIC};
+    yak_sleep_on_(low_half(futex_word), value, &sleep);
 }
 
 static void announce(uint64_t *futex_word)
@@ -172,9 +191,70 @@ static void begin_call(const yak_process *process)
         __tsan_release(order_of(process));
 }
 
+/* ---- who starves ---- */
+
+/* A process that has waited for the lock for long says so in a word, while it tries. The others
+ * look at that word behind each call: they return only once that process is inside, or is about to
+ * sleep. So each of them is inside at most once before it. The word is no futex word of the
+ * algorithm, and nobody is woken later for it. */
+
+/* How far a call has come that tries to acquire the lock. */
+typedef struct way {
+    unsigned tries;
+    bool starves;
+    int64_t since; /* when it was about to sleep first, in nanoseconds; 0 before that */
+    int64_t nanos; /* how long its last sleep lasted at most */
+} way;
+
+static int64_t nanos_now(void)
+{
+    struct timespec now;
+    clock_gettime(CLOCK_MONOTONIC, &now);
+    return (int64_t)now.tv_sec * SECOND + now.tv_nsec;
+}
+
+_Static_assert((int)YAK_STARVING_ == (int)YAK_STARVING_WORD_,
+               "quick.h loads the word of who starves");
+
+static void starve(yak_process *process)
+{
+    uint64_t *word = &process->futex_words[YAK_STARVING_WORD_], nobody = 0;
+    if (__atomic_load_n(word, __ATOMIC_RELAXED) == 0)
+        __atomic_compare_exchange_n(word, &nobody, process->number, false, __ATOMIC_SEQ_CST,
+                                    __ATOMIC_RELAXED);
+}
+
+static void end_starving(yak_process *process)
+{
+    uint64_t *word = &process->futex_words[YAK_STARVING_WORD_];
+    if (__atomic_load_n(word, __ATOMIC_RELAXED) % YAK_HELD_ == process->number &&
+        __atomic_exchange_n(word, 0, __ATOMIC_SEQ_CST) >= YAK_HELD_)
+        yak_wake_on_(low_half(word), INT_MAX);
+}
+
+/* Waits until the process that starves is inside. It may be stopped: then, after a millisecond, it
+ * starves no longer, and says so again if it only was late. */
+static __attribute__((noinline)) void let_starving_in(uint64_t *word)
+{
+    unsigned tries = 0;
+    uint64_t starving, held;
+    do
+        starving = __atomic_load_n(word, __ATOMIC_SEQ_CST);
+    while (starving != 0 && yak_spin_(&tries, YAK_POLLS_HELD_BACK_));
+    held = starving % YAK_HELD_ + YAK_HELD_;
+    if (starving == 0 ||
+        (starving != held && !__atomic_compare_exchange_n(word, &starving, held, false,
+                                                          __ATOMIC_SEQ_CST, __ATOMIC_RELAXED)))
+        return;
+    sleep_on(word, (uint32_t)held, (int64_t)YAK_LONGEST_HOLD_ * MILLISECOND);
+    if (__atomic_compare_exchange_n(word, &held, 0, false, __ATOMIC_SEQ_CST, __ATOMIC_RELAXED))
+        yak_wake_on_(low_half(word), INT_MAX);
+}
+
 /* ---- the way into the lock ---- */
 
-/* Wakes those that wait for what the last call of the process changed. */
+/* Wakes those that wait for what the last call of the process changed, and lets one in that
+ * starves. */
 static void end_call(yak_process *process)
 {
     if (process->futex_words == 0)
@@ -185,6 +265,8 @@ static void end_call(yak_process *process)
     wake(&process->futex_words[process->number]);
     for (uint32_t left = process->answered; left != 0; left &= left - 1)
         wake(&process->futex_words[YAK_ANSWER_WORD_ + 1 + __builtin_ctz(left)]);
+    if (SELDOM(__atomic_load_n(&process->futex_words[YAK_STARVING_WORD_], __ATOMIC_SEQ_CST) != 0))
+        let_starving_in(&process->futex_words[YAK_STARVING_WORD_]);
 }
 
 /* Once the tries of a call have gone on from the flag at which they announced a sleep, wakes the
@@ -195,27 +277,53 @@ static void go_on(yak_process *process, unsigned tries)
         wake(&process->futex_words[tries - YAK_SPINS_ - 1]);
 }
 
+/* The same once a call is made. */
+static void come_through(yak_process *process, const way *its)
+{
+    go_on(process, its->tries);
+    if (SELDOM(its->starves))
+        end_starving(process);
+}
+
+/* Sleeps on a futex word that was announced, until it is woken. The first sleep of a call lasts for
+ * half a millisecond at the most, so that it finds out that it starves, and each further one for
+ * twice as long. */
+static void sleep_for_lock(yak_process *process, way *its, uint32_t futex_word)
+{
+    end_starving(process); /* nobody is to wait for one that sleeps */
+    if (its->since == 0)
+        its->since = nanos_now();
+    its->nanos = its->nanos == 0 ? (int64_t)YAK_LOCK_SLEEP_ * 1000 : 2 * its->nanos;
+    if (its->nanos > (int64_t)LONGEST_SLEEP * SECOND)
+        its->nanos = (int64_t)LONGEST_SLEEP * SECOND;
+    sleep_on(&process->futex_words[futex_word], 1, its->nanos);
+    its->starves = nanos_now() - its->since >= (int64_t)YAK_LOCK_SLEEP_ * 1000;
+}
+
 /* Passes the time before the next try of a call: pauses, and after some tries announces that the
  * process sleeps. If the next try fails too, and for the same reason, it sleeps, and begins anew.
- * A process that wakes from a sleep for the lock announces the next sleep for those that sleep on,
- * since each departure wakes one. A process that wakes from a sleep for the flag of another wakes
- * the next, since nobody may come to lower that flag again. */
-static __attribute__((noinline)) void rest(yak_process *process, unsigned *tries)
+ * If the last step of a try made progress, there is no futex word on which it could sleep, and it
+ * tries again. A process that wakes from a sleep for the lock announces the next sleep for those
+ * that sleep on, since each departure wakes one. A process that wakes from a sleep for the flag of
+ * another wakes the next, since nobody may come to lower that flag again. */
+static __attribute__((noinline)) void rest(yak_process *process, way *its)
 {
     uint32_t futex_word;
-    if (yak_spin_(tries, YAK_SPINS_) || process->futex_words == 0 ||
+    if (its->starves)
+        starve(process);
+    if (yak_spin_(&its->tries, YAK_SPINS_) || process->futex_words == 0 ||
         yak_proved_futex_word(process, &futex_word) != YAK_DONE || futex_word > YAK_ANSWER_WORD_)
         return;
     wake(&process->futex_words[process->number]); /* its own flag, which the last try may have
                                                      lowered */
-    if (*tries != YAK_SPINS_ + 1 + futex_word) {
-        go_on(process, *tries);
-        *tries = YAK_SPINS_ + 1 + futex_word;
+    if (its->tries != YAK_SPINS_ + 1 + futex_word) {
+        go_on(process, its->tries);
+        its->tries = YAK_SPINS_ + 1 + futex_word;
         announce(&process->futex_words[futex_word]);
         return;
     }
-    *tries = 0;
-    sleep_on(&process->futex_words[futex_word], (int64_t)YAK_LOCK_SLEEP_ * MILLISECOND);
+    its->tries = 0;
+    sleep_for_lock(process, its, futex_word);
     if (futex_word == LOCK_WORD)
         announce(&process->futex_words[futex_word]);
     else
@@ -227,12 +335,12 @@ static __attribute__((noinline)) void rest(yak_process *process, unsigned *tries
 #define THROUGH(name, parameters, ...)                                  \
     uint32_t yak_##name parameters                                      \
     {                                                                   \
-        unsigned tries_ = 0;                                            \
+        way its_ = {0};                                                 \
         uint32_t answer_;                                               \
         begin_call(process);                                            \
         while ((answer_ = yak_proved_##name(__VA_ARGS__)) == YAK_RETRY) \
-            rest(process, &tries_);                                     \
-        go_on(process, tries_);                                         \
+            rest(process, &its_);                                       \
+        come_through(process, &its_);                                   \
         end_call(process);                                              \
         return answer_;                                                 \
     }
@@ -290,6 +398,30 @@ typedef struct waiting {
     const yak_moment *until; /* null if it has no deadline */
     yak_clock *clock;
 } waiting;
+
+/* Whether its deadline is by a clock of the program. */
+static bool has_own_clock(const waiting *it)
+{
+    return it->until != 0 && it->clock != 0 && it->clock != yak_now &&
+           it->clock != yak_monotonic_now;
+}
+
+/* How often the owner of a clock has said that it moved. */
+static uint64_t moves_of(const yak_process *process)
+{
+    return process->futex_words == 0
+               ? 0
+               : __atomic_load_n(&process->futex_words[MOVES_WORD], __ATOMIC_SEQ_CST);
+}
+
+void yak_time_has_moved(const yak_process *process)
+{
+    if (process->futex_words == 0)
+        return;
+    __atomic_add_fetch(&process->futex_words[MOVES_WORD], 1, __ATOMIC_SEQ_CST);
+    for (unsigned word = YAK_ANSWER_WORD_ + 1; word <= YAK_MISSES_WORD_; ++word)
+        wake(&process->futex_words[word]);
+}
 
 static yak_moment now_by(clockid_t clock)
 {
@@ -353,16 +485,19 @@ static bool polls_fail(yak_process *process)
 }
 
 /* Looks until the open wait is answered, and then sleeps until the call that answers it wakes the
- * process, for so many nanoseconds at the most: false if it is not answered. */
-static bool await_answer(yak_process *process, const waiting *it, int64_t nanos)
+ * process, or the sleep ends: false if it is not answered. By a clock of the program that has moved
+ * since `moves` it does not sleep. */
+static bool await_answer(yak_process *process, const waiting *it, const yak_sleep_ *sleep,
+                         uint64_t moves)
 {
     if (SELDOM(turns != 0)) {
         turns->await_answer(process, it->until, it->call, it->d);
     } else if (process->futex_words != 0 && polls_fail(process)) {
         uint64_t *futex_word = &process->futex_words[YAK_ANSWER_WORD_ + process->number];
         announce(futex_word);
-        if (yak_answered(process) == YAK_WAITS)
-            sleep_on(futex_word, nanos);
+        if (yak_answered(process) == YAK_WAITS &&
+            (!has_own_clock(it) || moves_of(process) == moves))
+            yak_sleep_on_(low_half(futex_word), 1, sleep);
         __atomic_store_n(futex_word, 0, __ATOMIC_SEQ_CST);
     }
     return yak_answered(process) != YAK_WAITS;
@@ -370,38 +505,64 @@ static bool await_answer(yak_process *process, const waiting *it, int64_t nanos)
 
 uint32_t yak_await_answered(yak_process *process, int64_t nanos)
 {
-    const int64_t most = (int64_t)YAK_LONGEST_SLEEP_ * MILLISECOND;
+    const int64_t most = nanos < 0 ? 0 : nanos;
+    const struct timespec end = after(most);
+    const yak_sleep_ sleep = {.until = &end, .clock = CLOCK_MONOTONIC};
     yak_moment until = yak_monotonic_now();
     const waiting it = {.call = "a call", .until = &until};
-    nanos = nanos < 0 ? 0 : nanos < most ? nanos : most;
-    until.nsec += nanos;
-    until.sec += until.nsec / SECOND;
+    until.nsec += most % SECOND;
+    until.sec += most / SECOND + until.nsec / SECOND;
     until.nsec %= SECOND;
     if (yak_answered(process) == YAK_WAITS)
-        await_answer(process, &it, nanos);
+        await_answer(process, &it, &sleep, 0);
     return yak_answered(process);
+}
+
+/* Until when an open wait sleeps at most: until its deadline if that is by a clock of the system,
+ * and if it has none, without an end. By a clock of the program it also sleeps without an end if
+ * somebody says when that moves, and else for so many nanoseconds, and then looks at the clock. */
+static yak_sleep_ sleep_of(const waiting *it, bool has_other_deadline, bool is_told, int64_t delay,
+                           struct timespec *end)
+{
+    yak_sleep_ sleep = {.until = end, .clock = CLOCK_MONOTONIC};
+    const bool is_own = has_own_clock(it);
+    if (it->until == 0 || (is_own && !has_other_deadline && is_told)) {
+        sleep.until = 0;
+    } else if (!is_own && !has_other_deadline && it->until->sec >= 0 && it->until->nsec >= 0 &&
+               it->until->nsec < SECOND) {
+        end->tv_sec = (time_t)it->until->sec;
+        end->tv_nsec = (long)it->until->nsec;
+        sleep.clock = it->clock == yak_now ? CLOCK_REALTIME : CLOCK_MONOTONIC;
+    } else {
+        const int64_t left = has_other_deadline ? delay : time_left(it->until, it->clock(), delay);
+        *end = after(left);
+    }
+    return sleep;
 }
 
 /* Waits until the open wait is answered, or its deadline has passed, and ends it. If it is too
  * early for that, the wait has another deadline, or none. */
 static uint32_t await_end(yak_process *process, const waiting *it)
 {
-    int64_t delay = (int64_t)YAK_FIRST_SLEEP_ * MILLISECOND, left = delay;
+    int64_t delay = (int64_t)YAK_FIRST_SLEEP_ * MILLISECOND;
     uint32_t answer = YAK_WAITS;
+    /* 0 at first: the clock was read before, so if it has moved ever, it is read once more. */
+    uint64_t moves = 0;
     while (answer == YAK_WAITS || answer == YAK_EARLY) {
-        if (it->until != 0 && answer == YAK_WAITS)
-            left = time_left(it->until, it->clock(), delay);
+        struct timespec end;
+        const yak_sleep_ sleep = sleep_of(it, answer == YAK_EARLY, moves != 0, delay, &end);
         answer = YAK_WAITS;
-        if (await_answer(process, it, left)) {
+        if (await_answer(process, it, &sleep, moves)) {
             answer = yak_collect(process, it->buf, it->len, it->message);
         } else if (it->until != 0) {
-            const yak_moment now = it->clock();
+            yak_moment now;
+            moves = moves_of(process);
+            now = it->clock();
             if (time_left(it->until, now, 1) == 0)
                 answer = yak_end_wait(process, it->buf, it->len, it->message, &now);
         }
         if (delay < (int64_t)YAK_LONGEST_SLEEP_ * MILLISECOND)
             delay *= 2;
-        left = delay;
     }
     return answer;
 }
@@ -431,12 +592,12 @@ uint32_t yak_send_on_(yak_process *process, uint32_t d, const uint8_t *bytes, si
     uint8_t none = 0;
     yak_message message = {0};
     const waiting it = {.call = "a send", .d = d, .buf = &none, .message = &message};
-    unsigned tries = 0;
+    way way = {0};
     while (answer == YAK_RETRY) {
-        rest(process, &tries);
+        rest(process, &way);
         answer = yak_proved_start_send(process, d, bytes, len, prio);
     }
-    go_on(process, tries);
+    come_through(process, &way);
     end_call(process);
     return answer == YAK_WAITS ? await_end(process, &it) : answer;
 }
@@ -445,12 +606,12 @@ uint32_t yak_receive_on_(yak_process *process, uint32_t d, uint8_t *buf, size_t 
                          yak_message *message, uint32_t answer)
 {
     const waiting it = {.call = "a receive", .d = d, .buf = buf, .len = len, .message = message};
-    unsigned tries = 0;
+    way way = {0};
     while (answer == YAK_RETRY) {
-        rest(process, &tries);
+        rest(process, &way);
         answer = yak_proved_start_receive(process, d, buf, len, message);
     }
-    go_on(process, tries);
+    come_through(process, &way);
     end_call(process);
     return answer == YAK_WAITS ? await_end(process, &it) : answer;
 }

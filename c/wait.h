@@ -30,9 +30,18 @@ enum {
     /* The shortest and the longest backoff between two polls, in iterations of a loop. */
     YAK_SHORT_BACKOFF_ = 1024, /* fast_mutex/src/backoff.rt: const SHORTEST: u32 = 1_024; */
     YAK_LONG_BACKOFF_ = 16384, /* fast_mutex/src/backoff.rt: const LONGEST: u32 = 16_384; */
-    /* The longest sleep while acquiring the lock, in milliseconds. */
-    YAK_LOCK_SLEEP_ = 10, /* fast_mutex/src/futex_words.rt: const LONGEST_SLEEP: u64 = 10; */
-    /* The first and the longest sleep of a wait for an answer, in milliseconds. */
+    /* The longest first sleep while acquiring the lock, in microseconds. */
+    YAK_LOCK_SLEEP_ = 500, /* fast_mutex/src/enter.rt: const FIRST_SLEEP: u64 = 500; */
+    /* The index of the word that says who starves. */
+    YAK_STARVING_WORD_ =
+        104, /* fast_mutex/src/futex_words.rt: keep who of them starves in word 104 */
+    /* What is added to it if threads sleep until that process is inside; how often they poll
+       before; and for how many milliseconds they sleep at most. */
+    YAK_HELD_ = 64,           /* fast_mutex/src/futex_words.rt: const HELD: u64 = 64; */
+    YAK_POLLS_HELD_BACK_ = 8, /* fast_mutex/src/futex_words.rt: const POLLS_HELD_BACK: u32 = 8; */
+    YAK_LONGEST_HOLD_ = 1,    /* fast_mutex/src/futex_words.rt: const LONGEST_HOLD: u64 = 1; */
+    /* The first and the longest sleep of a wait with a deadline by a clock of the program, in
+     * milliseconds. */
     YAK_FIRST_SLEEP_ = 10,  /* mq/src/sleep_times.rt: const FIRST_SLEEP: u64 = 10; */
     YAK_LONGEST_SLEEP_ = 80 /* mq/src/sleep_times.rt: const LONGEST_SLEEP: u64 = 80; */
 };

@@ -144,6 +144,58 @@ static bool ends_at_its_own(uint32_t d)
     return millis_between(now, yak_now()) >= 145;
 }
 
+/* A clock that the program moves, and how often it was read. */
+static _Atomic int64_t second, reads;
+
+static yak_moment moved_by_hand(void)
+{
+    const yak_moment now = {.sec = second};
+    ++reads;
+    return now;
+}
+
+static void pause_for(long millis)
+{
+    const struct timespec pause = {0, millis * 1000000};
+    nanosleep(&pause, 0);
+}
+
+static void *wait_by_hand(void *d)
+{
+    const yak_moment until = {.sec = 3};
+    yak_message message;
+    uint8_t buf[8];
+    const bool is_late = yak_clock_receive(&processes[0], *(uint32_t *)d, buf, sizeof buf, &message,
+                                           &until, moved_by_hand) == YAK_TIMEDOUT;
+    return is_late && second == 3 ? d : 0;
+}
+
+/* A wait by a clock whose owner says that it has moved reads it at each move and at no other time,
+ * and ends at once. */
+static bool ends_by_moves(uint32_t d)
+{
+    pthread_t waiter;
+    void *ended;
+    int64_t before;
+    yak_time_has_moved(&processes[1]);
+    if (pthread_create(&waiter, 0, wait_by_hand, &d) != 0)
+        return false;
+    /* It reads the clock when it begins, when it is about to sleep, and since it has been told. */
+    for (int k = 0; k < 10000 && reads < 3; ++k)
+        pause_for(1);
+    before = reads;
+    pause_for(300);
+    if (reads != before)
+        return false;
+    while (second < 3) {
+        ++second;
+        yak_time_has_moved(&processes[1]);
+        pause_for(20);
+    }
+    pthread_join(waiter, &ended);
+    return ended != 0;
+}
+
 int main(void)
 {
     static const yak_opening opening = {
@@ -164,6 +216,8 @@ int main(void)
         return 5;
     if (!is_awaited(d))
         return 6;
+    if (!ends_by_moves(d))
+        return 7;
     puts("well");
     return yak_finish(processes, 2, 0, 0) != YAK_DONE;
 }

@@ -4,22 +4,14 @@
  * is linked with --wrap, and stands in for two exports of the proved library and for the system
  * calls of c/wait.c. */
 #define _GNU_SOURCE
-#include <linux/futex.h>
 #include <pthread.h>
 #include <signal.h>
-#include <stdarg.h>
 #include <stdatomic.h>
 #include <stdio.h>
-#include <sys/syscall.h>
 #include <time.h>
 #include <unistd.h>
 
-#include <yakyrombe.h>
-
-uint32_t __wrap_yak_proved_close(yak_process *process, uint32_t d);
-uint32_t __wrap_yak_proved_futex_word(yak_process *process, uint32_t *futex_word);
-long __wrap_syscall(long number, ...);
-long __real_syscall(long number, ...);
+#include "wrapped.h"
 
 enum { FLAG = 1, POLLED = 1, WOKEN, ANNOUNCED, SLEEPS };
 
@@ -58,31 +50,16 @@ uint32_t __wrap_yak_proved_futex_word(yak_process *process, uint32_t *futex_word
     return YAK_DONE;
 }
 
-/* The system calls of c/wait.c. */
-long __wrap_syscall(long number, ...)
+/* Process 2 sleeps until it is woken, once process 3 has announced a sleep. */
+static bool ends_at_once(long *arguments)
 {
-    long a[6];
-    va_list rest;
-    va_start(rest, number);
-    for (int i = 0; i < 6; ++i)
-        a[i] = va_arg(rest, long);
-    va_end(rest);
-    if (number == SYS_futex && (a[1] & FUTEX_CMD_MASK) == FUTEX_WAIT_BITSET && me == 2 &&
-        atomic_load(&turn) < SLEEPS) {
+    if (me == 2 && atomic_load(&turn) < SLEEPS) {
         atomic_store(&turn, POLLED);
         await(ANNOUNCED);
         atomic_store(&turn, SLEEPS);
-        a[3] = 0; /* it sleeps until it is woken */
+        arguments[3] = 0;
     }
-    return __real_syscall(number, a[0], a[1], a[2], a[3], a[4], a[5]);
-}
-
-static void tell_late(int number)
-{
-    (void)number;
-    puts("late");
-    fflush(stdout);
-    _exit(1);
+    return false;
 }
 
 static void *close_as(void *of)

@@ -262,7 +262,9 @@ static void journals_are_refused(resumes *by, journal from)
     text_is_refused(by, "\n", YAK_BAD_LINE, 1);
     text_is_refused(by, "0 1 unlink \"/q\" -> ENOENT\n1 1 unlink -> ENOENT", YAK_BAD_LINE, 2);
     text_is_refused(by, "0 1 close 0 -> ok\n", YAK_ILLEGAL, 1);
-    text_is_refused(by, "0 1 notice -> notice none\n1 33 notice -> notice none\n", YAK_ILLEGAL, 2);
+    text_is_refused(by, "0 1 notice -> notice none\n1 33 notice -> notice none\n", YAK_BAD_LINE, 2);
+    text_is_refused(by, "0 1 notice -> notice none\n1 1.65 notice -> EBADF\n", YAK_ILLEGAL, 2);
+    text_is_refused(by, "0 1 notice -> notice none\n1 1.2 notice -> notice none\n", YAK_FOREIGN, 2);
     is_refused_so(by, cut, PROCESSES, YAK_BAD_LINE, entries);
     is_refused_so(by, from, PROCESSES - 1, YAK_FOREIGN, entries - 3);
     is_refused_so(by, from, 0, YAK_INVAL, 77);

@@ -28,15 +28,19 @@ uint32_t yak_receive_on_(yak_process *process, uint32_t d, uint8_t *buf, size_t 
 /* Inlined in each file that calls it, without an out-of-line copy. */
 #define YAK_INLINE_ extern inline __attribute__((gnu_inline, always_inline))
 
-/* Whether a call acquired the lock and is done, and no thread can be asleep until the change that
- * it made. A futex word is 0 or 1. */
+/* The index of the word that says who starves; 0 there if nobody does. */
+enum { YAK_STARVING_ = 104 };
+
+/* Whether a call acquired the lock and is done, no thread can be asleep until the change that it
+ * made, and nobody starves. A futex word is 0 or 1. */
 YAK_INLINE_ bool yak_is_through_(const yak_process *process, uint32_t answer)
 {
     const uint64_t *futex_words = process->futex_words;
     return __builtin_expect(
         answer == YAK_DONE &&
             ((uint32_t)(__atomic_load_n(&futex_words[0], __ATOMIC_SEQ_CST) |
-                        __atomic_load_n(&futex_words[process->number], __ATOMIC_SEQ_CST)) |
+                        __atomic_load_n(&futex_words[process->number], __ATOMIC_SEQ_CST) |
+                        __atomic_load_n(&futex_words[YAK_STARVING_], __ATOMIC_RELAXED)) |
              process->answered) == 0,
         1);
 }

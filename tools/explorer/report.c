@@ -3,9 +3,12 @@
 #include "explorer.h"
 
 #include <errno.h>
+#include <fcntl.h>
 #include <stdlib.h>
 #include <string.h>
 #include <sys/stat.h>
+#include <sys/wait.h>
+#include <unistd.h>
 
 /* The outcomes for which the places of the threads are looked up are fewer, since it takes time. */
 enum { MOST_LINES = 20, MOST_OUTCOMES = 20, MOST_PLACED = 5 };
@@ -80,11 +83,12 @@ static const char *name_of(const yak_explored *of, unsigned thread)
     return thread > 1 && *name != 0 && strcmp(name, of->thread_name[0]) != 0 ? name : "";
 }
 
-static void write_thread(FILE *to, const yak_explored *of, unsigned thread, const char *place)
+static void write_thread(FILE *to, const char *before, const yak_explored *of, unsigned thread,
+                         const char *place)
 {
     const char *name = name_of(of, thread);
     if (place != 0)
-        fprintf(to, "  thread %u%s%s%s: %s\n", thread, *name != 0 ? " (" : "", name,
+        fprintf(to, "%s thread %u%s%s%s: %s\n", before, thread, *name != 0 ? " (" : "", name,
                 *name != 0 ? ")" : "", place);
 }
 
@@ -104,21 +108,18 @@ static bool is_there(const yak_explored *of, unsigned thread)
     return false;
 }
 
-/* Where the threads were at the end, and what two accesses of a data race are. */
-static void write_places(FILE *to, const outcome *of, program *it)
+/* Where the threads were at the end of a run, or what two accesses of a data race are. Each line
+ * begins with `before`. */
+static void write_places(FILE *to, const char *before, const yak_explored *of, const places *found)
 {
-    const yak_explored *shared = it->shared;
-    places found;
-    repeat(of, it, &found);
-    if (shared->race[0] != 0)
+    if (of->race[0] != 0)
         for (unsigned i = 0; i < 2; ++i)
-            write_thread(to, shared, shared->race_thread[i], place_of(&found, &shared->race[i], 1));
+            write_thread(to, before, of, of->race_thread[i], place_of(found, &of->race[i], 1));
     else
         for (unsigned thread = 1; thread <= YAK_SEATS; ++thread)
-            if (is_there(shared, thread))
-                write_thread(to, shared, thread,
-                             place_of(&found, shared->last_place[thread - 1], YAK_FRAMES));
-    places_free(&found);
+            if (is_there(of, thread))
+                write_thread(to, before, of, thread,
+                             place_of(found, of->last_place[thread - 1], YAK_FRAMES));
 }
 
 static void write_outcome(FILE *to, const outcome *of, program *it)
@@ -135,8 +136,12 @@ static void write_outcome(FILE *to, const outcome *of, program *it)
     if (of->fails || of->is_open) {
         fprintf(to, "  repeat it: ");
         write_command(to, of, it);
-        if (it->server > 0 && of->fails && it->placed++ < MOST_PLACED)
-            write_places(to, of, it);
+        if (it->server > 0 && of->fails && it->placed++ < MOST_PLACED) {
+            places found;
+            repeat(of, it, &found);
+            write_places(to, " ", it->shared, &found);
+            places_free(&found);
+        }
     }
 }
 
@@ -179,19 +184,13 @@ static void write_result(FILE *to, const yak_explored *of, const step *it)
     }
 }
 
-static void write_step(FILE *to, const yak_explored *of, const step *it, unsigned threads,
-                       const places *found)
+/* What a step does, to the end of a line. */
+static void write_what(FILE *to, const yak_explored *of, const step *it, const places *found)
 {
     const char *place =
         place_of(found, of->place[(it->choice->step - 1u) % YAK_MOST_STEPS], YAK_FRAMES);
     char text[64];
-    fprintf(to, "%5u%s", it->choice->step, it->preempts ? "*" : " ");
-    for (unsigned i = 1; i <= threads; ++i)
-        if (i == it->choice->thread)
-            fprintf(to, " %2u", i);
-        else
-            fprintf(to, "  |");
-    fprintf(to, "  %s", call_name(it->chosen));
+    fputs(call_name(it->chosen), to);
     if (it->chosen->kind == STEP_JOIN)
         fprintf(to, " thread %u", it->chosen->arg);
     else if (it->chosen->object != 0 && it->chosen->kind != STEP_OPEN &&
@@ -201,6 +200,19 @@ static void write_step(FILE *to, const yak_explored *of, const step *it, unsigne
     if (place != 0)
         fprintf(to, "  [%s]", place);
     fputc('\n', to);
+}
+
+static void write_step(FILE *to, const yak_explored *of, const step *it, unsigned threads,
+                       const places *found)
+{
+    fprintf(to, "%5u%s", it->choice->step, it->preempts ? "*" : " ");
+    for (unsigned i = 1; i <= threads; ++i)
+        if (i == it->choice->thread)
+            fprintf(to, " %2u", i);
+        else
+            fprintf(to, "  |");
+    fputs("  ", to);
+    write_what(to, of, it, found);
 }
 
 static unsigned count_threads(const yak_explored *of)
@@ -238,10 +250,10 @@ static char *path_in(const char *folder, const char *name)
     return path;
 }
 
-static FILE *create(const char *folder, const char *name)
+static FILE *open_in(const char *folder, const char *name, const char *mode)
 {
     char *path = path_in(folder, name);
-    FILE *to = fopen(path, "w");
+    FILE *to = fopen(path, mode);
     if (to == 0)
         stop("%s: %s", path, strerror(errno));
     free(path);
@@ -254,6 +266,49 @@ static void make_folder(const char *path)
         stop("%s: %s", path, strerror(errno));
 }
 
+/* The steps of a run, and how it ended, behind the lines of the threads that made its entries. */
+static void add_end(const char *folder, const yak_explored *of, const outcome *outcome,
+                    const places *found)
+{
+    FILE *to = open_in(folder, "threads", "a");
+    steps all = steps_of(of);
+    for (step it; next_step(&all, &it);) {
+        fprintf(to, "step %5u%s thread %u  ", it.choice->step, it.preempts ? "*" : " ",
+                it.choice->thread);
+        write_what(to, of, &it, found);
+    }
+    for (const char *at = outcome->what, *end; *at != 0; at = end) {
+        end = strchrnul(at, '\n');
+        fprintf(to, "end %.*s\n", (int)(end - at), at);
+        end += *end != 0;
+    }
+    write_places(to, "end", of, found);
+    fclose(to);
+}
+
+/* Lets mqlog write a page of the run, if it is there. */
+static void write_page(const char *folder)
+{
+    static const char *const folders[] = {".", "../crates/mqlog/out", 0};
+    char *mqlog = find_beside("mqlog", folders), *page = path_in(folder, "page.html"),
+         *journal = path_in(folder, "journal"), *threads = path_in(folder, "threads");
+    int status = 0;
+    pid_t child = -1;
+    fflush(0);
+    if (mqlog != 0 && (child = fork()) == 0) {
+        const int to = open(page, O_WRONLY | O_CREAT | O_TRUNC, 0666);
+        if (to >= 0 && dup2(to, 1) >= 0)
+            execl(mqlog, mqlog, "view", "--threads", threads, journal, (char *)0);
+        _exit(WRONG_USE);
+    }
+    if (child > 0 && (waitpid(child, &status, 0) != child || status != 0))
+        fprintf(stderr, "yak-explore: %s: mqlog wrote no page\n", folder);
+    free(mqlog);
+    free(page);
+    free(journal);
+    free(threads);
+}
+
 static void write_folder(const char *folder, const outcome *of, program *it)
 {
     char *schedule = schedule_of(of, it->options), *printed = path_in(folder, "output"),
@@ -261,16 +316,18 @@ static void write_folder(const char *folder, const outcome *of, program *it)
     FILE *to;
     places found;
     make_folder(folder);
-    to = create(folder, "schedule");
+    to = open_in(folder, "schedule", "w");
     fprintf(to, "%s\n", schedule);
     fclose(to);
     repeat(of, it, &found);
-    to = create(folder, "lanes");
+    to = open_in(folder, "lanes", "w");
     write_lanes(to, it->shared, of, &found);
     fclose(to);
-    places_free(&found);
     if (program_run_alone(it, schedule, printed, journal, threads) == 0)
         fprintf(stderr, "yak-explore: %s: outside the explorer this run did not fail\n", folder);
+    add_end(folder, it->shared, of, &found);
+    places_free(&found);
+    write_page(folder);
     free(schedule);
     free(printed);
     free(journal);
