@@ -74,7 +74,10 @@ fn main() -> Result<(), Error> {
         if next > END {
             break;
         }
-        assert_eq!(stop.receive_until(&mut [0; 32], Deadline::Moment(next)), Err(Error::TimedOut));
+        assert_eq!(
+            stop.receive_deadline(&mut [0; 32], Deadline::Moment(next)),
+            Err(Error::TimedOut)
+        );
         for task in tasks.iter_mut().filter(|task| task.next == clock.now()) {
             (task.act)(task.next)?;
             task.next += task.period;

@@ -7,7 +7,7 @@ fn main() -> Result<(), Error> {
     let (_, [process]) = System::builder().bounded(100, 1000).build_array()?;
     let queue = process.open("/answers", OpenOptions::read_write().create().limits(1, 32))?;
     let mut buf = [0; 32];
-    match queue.receive_until(&mut buf, Duration::from_millis(20)) {
+    match queue.receive_timeout(&mut buf, Duration::from_millis(20)) {
         Err(Error::TimedOut) => println!("nothing came in 20 milliseconds"),
         other => println!("{other:?}"),
     }

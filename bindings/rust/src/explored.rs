@@ -5,6 +5,7 @@
 //! it while no other runs. So it never waits inside the library: a send or a receive gets its turn
 //! when it can be made, or when its deadline passes.
 
+use crate::options::MOST_PRIORITY;
 use crate::raw::machine::{self, Queue, NEVER_BLOCKS, TRY};
 use crate::raw::{
     self, answer, errno_of, Attributes, Kept, Message, Moment, Opening, RoomLeft, Storage,
@@ -17,7 +18,6 @@ use std::time::Duration;
 
 const ACCESS_READ: u32 = 0;
 const ACCESS_WRITE: u32 = 1;
-const MOST_PRIORITY: u32 = 32_767;
 /// The limits of a queue that is created without any.
 const MAXMSG: i64 = 10;
 const MSGSIZE: i64 = 8_192;
@@ -155,6 +155,11 @@ impl Handle {
             }
             None => None,
         }
+    }
+
+    /// Whether the calls of a system that is made now are steps of an exploration.
+    pub fn are_steps() -> bool {
+        machine::decides()
     }
 
     fn open_as(&self, d: u32) -> Option<Open> {
@@ -358,7 +363,6 @@ impl Handle {
         self.raw.number()
     }
 
-    #[cfg(feature = "futures")]
     #[inline]
     pub fn answered_others(&self) -> u32 {
         self.raw.answered_others()
@@ -371,6 +375,10 @@ impl Handle {
 
     pub fn await_answered(&self, most: Duration) -> bool {
         self.raw.await_answered(most)
+    }
+
+    pub fn time_has_moved(&self) {
+        self.raw.time_has_moved();
     }
 
     pub fn collect(&self, buf: &mut [u8], message: &mut Message) -> u32 {

@@ -1,48 +1,12 @@
 //! Sends and receives as futures.
-//!
-//! A call knows whose waits it answered, and wakes their futures before it returns. So no thread is
-//! needed to wait for others, and nothing polls.
 
 use crate::error::Error;
 use crate::holder::Holder;
 use crate::options::{Message, Received};
-use crate::process::Process;
 use crate::queue::Queue;
-use crate::system::MOST_PROCESSES;
 use std::future::Future;
-use std::mem::replace;
 use std::pin::Pin;
-use std::sync::{Mutex, MutexGuard, PoisonError};
-use std::task::{Context, Poll, Waker};
-
-/// The wakers to call when the wait of a process is answered, process 1 first.
-#[derive(Default)]
-pub(crate) struct Wakers([Mutex<Option<Waker>>; MOST_PROCESSES]);
-
-impl Wakers {
-    fn of(&self, place: usize) -> MutexGuard<'_, Option<Waker>> {
-        // Nothing panics while it is locked.
-        self.0[place].lock().unwrap_or_else(PoisonError::into_inner)
-    }
-
-    fn set(&self, process: &Process, waker: Option<Waker>) {
-        let before = replace(&mut *self.of(process.number() as usize - 1), waker);
-        drop(before);
-    }
-
-    /// Wakes the futures of the processes whose bits are set; process p has bit p - 1.
-    #[cold]
-    pub fn wake(&self, processes: u32) {
-        let mut left = processes;
-        while left != 0 {
-            let waker = self.of(left.trailing_zeros() as usize).take();
-            left &= left - 1;
-            if let Some(waker) = waker {
-                waker.wake();
-            }
-        }
-    }
-}
+use std::task::{Context, Poll};
 
 /// Futures, with the feature `futures`. They need no runtime: the call of another process that
 /// answers the wait wakes them. A future of a queue that owns its process is `Send`.
@@ -91,7 +55,7 @@ impl<P: Holder> Queue<P> {
         let mut bytes = vec![0; self.msgsize()?];
         let Received { len, priority } = self.receive_async(&mut bytes).await?;
         bytes.truncate(len);
-        Ok(Message { priority, bytes })
+        Ok(Message::new(priority, bytes))
     }
 
     /// Registers the task to be woken when the open wait of this queue is answered, and returns

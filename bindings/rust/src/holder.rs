@@ -12,6 +12,8 @@ use std::rc::Rc;
 /// | `Queue<Process>` | yes | through its [`process`](crate::Queue::process) | yes |
 /// | `Queue<Rc<Process>>` | | yes | yes |
 ///
+/// A [`SharedQueue`](crate::SharedQueue) does all three, with a lock.
+///
 /// ```
 /// use std::rc::Rc;
 /// use yakyrombe::{Error, OpenOptions, Process, Queue, System};

@@ -14,7 +14,7 @@ impl<'q, P: Holder> IntoIterator for &'q Queue<P> {
     }
 }
 
-/// The messages that arrive at a queue, without end ([`Queue::iter`]).
+/// The messages that arrive at a queue ([`Queue::iter`]).
 ///
 /// ```
 /// use yakyrombe::{OpenOptions, System};
@@ -48,7 +48,10 @@ impl<P: Holder> Iterator for Iter<'_, P> {
         }
         let received = self.queue.receive_vec();
         self.is_over = received.is_err();
-        Some(received)
+        match received {
+            Err(Error::Disconnected) => None,
+            received => Some(received),
+        }
     }
 }
 
@@ -87,7 +90,7 @@ impl<P: Holder> Iterator for TryIter<'_, P> {
         let received = self.queue.try_receive_vec();
         self.is_over = received.is_err();
         match received {
-            Err(Error::Again) => None,
+            Err(Error::Again | Error::Disconnected) => None,
             received => Some(received),
         }
     }

@@ -67,10 +67,11 @@
 //!
 //! # Time
 //!
-//! [`send_until`](Queue::send_until) and [`receive_until`](Queue::receive_until) take a
-//! [`Duration`](std::time::Duration), an [`Instant`](std::time::Instant) or another [`Deadline`].
-//! Durations are measured by the clock of the system, which is a monotonic clock unless
-//! [`Builder::clock`] names another [`Clock`]. With a [`VirtualClock`] the same calls run a
+//! [`send_timeout`](Queue::send_timeout) and [`receive_timeout`](Queue::receive_timeout) take a
+//! [`Duration`](std::time::Duration), [`send_deadline`](Queue::send_deadline) and
+//! [`receive_deadline`](Queue::receive_deadline) an [`Instant`](std::time::Instant) or another
+//! [`Deadline`]. Durations are measured by the clock of the system, which is a monotonic clock
+//! unless [`Builder::clock`] names another [`Clock`]. With a [`VirtualClock`] the same calls run a
 //! simulation in one thread: a call that would wait moves the clock to its deadline. Here three
 //! tasks report every 10, 20 and 50 milliseconds:
 //!
@@ -95,7 +96,7 @@
 //! while clock.now() < millis(100) {
 //!     let next = tasks.iter().map(|task| task.3).min().unwrap();
 //!     // No report arrives before a task runs again, so the clock jumps to that moment.
-//!     while reports.receive_vec_until(Deadline::Moment(next)) != Err(Error::TimedOut) {
+//!     while reports.receive_vec_deadline(Deadline::Moment(next)) != Err(Error::TimedOut) {
 //!         count += 1;
 //!     }
 //!     for (queue, name, period, next) in &mut tasks {
@@ -109,6 +110,10 @@
 //! # Ok(())
 //! # }
 //! ```
+//!
+//! # Several queues
+//!
+//! [`select`] waits for a message of one of several queues, each of a process of its own.
 //!
 //! # Without blocking
 //!
@@ -154,9 +159,9 @@
 //!
 //! # What to keep in mind
 //!
-//! - A wait without a deadline that no other call answers never ends. Queues are not channels: a
-//!   `receive` does not fail when nobody is left who could send. Wait with a deadline, or let the
-//!   last sender send a message that says so.
+//! - A wait without a deadline that no other call answers never ends, as POSIX has it: unlike that
+//!   of a channel, a `receive` does not fail when no sender is left. Open the queue with
+//!   [`OpenOptions::disconnecting`], and it does. A send does not fail when no receiver is left.
 //! - The library allocates with C's `malloc`.
 //! - No call may be made from a signal handler, or in a forked child of a program with threads.
 #![deny(missing_docs)]
@@ -172,14 +177,19 @@ mod journal;
 #[cfg(feature = "model")]
 mod model;
 mod options;
+mod payload;
 mod process;
 mod queue;
 #[allow(missing_docs)]
 mod raw;
+mod select;
+mod senders;
+mod shared;
 #[cfg(feature = "model")]
 pub mod sync;
 mod system;
 mod time;
+mod wakers;
 
 /// The same as [`std::thread`]: the starts, ends, joins, parks and sleeps of its threads are steps
 /// of a [`model`](crate::model()).
@@ -188,7 +198,7 @@ pub mod thread {
     pub use std::thread::*;
 }
 
-pub use error::{Error, Refused, ResumeError};
+pub use error::{Error, Invalid, Refused, ResumeError};
 #[cfg(feature = "futures")]
 pub use futures::{ReceiveFuture, SendFuture};
 pub use holder::Holder;
@@ -197,8 +207,11 @@ pub use journal::Journal;
 #[cfg(feature = "model")]
 pub use model::{model, Model};
 pub use options::{Attr, Message, OpenOptions, Received, Room};
+pub use payload::Payload;
 pub use process::Process;
 pub use queue::Queue;
+pub use select::{select, select_timeout};
+pub use shared::{SharedProcess, SharedQueue};
 pub use system::{Builder, System, MOST_PROCESSES};
 pub use time::{Clock, Deadline, Monotonic, VirtualClock};
 

@@ -112,6 +112,25 @@ impl Model {
     /// [Waits in two parts](crate::Queue#waits-in-two-parts), futures and a
     /// [`Clock`](crate::Clock) panic in it. Reads of a journal are not steps.
     ///
+    /// To see a failing run as a page, store the journal ([`Builder::journal`]) and let the closure
+    /// write it to a file before it fails. Then repeat the run by the command that the failure
+    /// names: `mqlog view run.journal > page.html` shows each call with the state before and after.
+    ///
+    /// ```no_run
+    /// use std::fs;
+    /// use yakyrombe::{Model, OpenOptions, System};
+    ///
+    /// Model::new().check(|| {
+    ///     let (_, [process]) = System::builder().journal(true).build_array().unwrap();
+    ///     let queue = process.open("/q", OpenOptions::read_write().create()).unwrap();
+    ///     // More calls, in this thread and others.
+    ///     fs::write("run.journal", process.journal().unwrap().as_str()).unwrap();
+    ///     assert_eq!(queue.attr().unwrap().curmsgs, 0);
+    /// });
+    /// ```
+    ///
+    /// [`Builder::journal`]: crate::Builder::journal
+    ///
     /// # Panics
     /// If the closure panics, deadlocks or crashes in some order: the message has the schedule and
     /// the command that repeats it. If some orders were left out. If `yak-explore` can't be run.

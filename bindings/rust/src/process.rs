@@ -1,6 +1,6 @@
 //! Processes and their calls.
 
-use crate::error::Error;
+use crate::error::{Error, Invalid};
 use crate::journal::{push_entry, string_of, text_of, Journal, Left};
 use crate::options::{OpenOptions, Room};
 use crate::queue::Queue;
@@ -117,12 +117,21 @@ impl Process {
         &self.0.system
     }
 
+    /// Tells the calls of the system that wait by its clock ([`Builder::clock`]) that the clock has
+    /// moved, so that they read it at once. Otherwise they read it every 80 milliseconds. Any process
+    /// of the system can tell it.
+    ///
+    /// [`Builder::clock`]: crate::Builder::clock
+    pub fn time_has_moved(&self) {
+        self.handle().time_has_moved();
+    }
+
     /// Opens a queue by its name, a slash and 1 to 255 bytes without a slash or 0 (`mq_open`). The
     /// queue borrows the process; [`Queue::open`] returns one that owns it.
     ///
     /// # Errors
-    /// [`Exists`](Error::Exists), [`NoEntry`](Error::NoEntry), [`Invalid`](Error::Invalid) for a
-    /// malformed name or wrong limits, [`NameTooLong`](Error::NameTooLong),
+    /// [`Exists`](Error::Exists), [`NoEntry`](Error::NoEntry), [`Invalid::Name`],
+    /// [`Invalid::Messages`], [`Invalid::Bytes`], [`NameTooLong`](Error::NameTooLong),
     /// [`TooManyOpen`](Error::TooManyOpen), [`NoSpace`](Error::NoSpace);
     /// [`Waiting`](Error::Waiting).
     pub fn open(
@@ -175,10 +184,12 @@ impl Process {
     /// Removes the name of a queue, which exists until no process has it open (`mq_unlink`).
     ///
     /// # Errors
-    /// [`NoEntry`](Error::NoEntry), [`Invalid`](Error::Invalid),
-    /// [`NameTooLong`](Error::NameTooLong); [`Waiting`](Error::Waiting).
+    /// [`NoEntry`](Error::NoEntry), [`Invalid::Name`], [`NameTooLong`](Error::NameTooLong);
+    /// [`Waiting`](Error::Waiting).
     pub fn unlink(&self, name: impl AsRef<[u8]>) -> Result<(), Error> {
-        done(self.handle().unlink(name.as_ref()))
+        let name = name.as_ref();
+        let answer = self.0.system.shared.names.unlink(name, || self.handle().unlink(name));
+        done(answer).map_err(|error| error.naming(|| Invalid::Name(name.into())))
     }
 
     /// Takes the oldest notice of this process ([`Queue::notify`]).
@@ -335,7 +346,7 @@ impl Process {
         }
     }
 
-    fn skips_to(&self, until: Moment) -> bool {
+    pub(crate) fn skips_to(&self, until: Moment) -> bool {
         self.0.system.shared.clock.as_ref().is_some_and(|clock| clock.skip_to(until.time()))
     }
 
@@ -364,17 +375,13 @@ impl Process {
         }
     }
 
-    /// Wakes the futures whose waits the last call has answered.
-    // Without the feature `futures` there is nothing to do.
-    #[cfg_attr(not(feature = "futures"), allow(clippy::unused_self))]
+    /// Wakes those whose waits the last call has answered, if they are not threads that the library
+    /// wakes.
     #[inline]
     pub(crate) fn wake_answered(&self) {
-        #[cfg(feature = "futures")]
-        {
-            let others = self.handle().answered_others();
-            if others != 0 {
-                self.0.system.shared.wakers.wake(others);
-            }
+        let others = self.handle().answered_others();
+        if others != 0 {
+            self.0.system.shared.wakers.wake(others);
         }
     }
 }

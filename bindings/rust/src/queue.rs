@@ -1,17 +1,23 @@
 //! Open queues, and the calls on them.
 
-use crate::error::{Error, Refused};
+use crate::error::{Error, Invalid, Refused};
 use crate::holder::Holder;
 use crate::iter::{Iter, TryIter};
 use crate::options::{Attr, Message, OpenOptions, Received};
 use crate::process::{done, refusal, OpenWait, Process};
 use crate::raw::{self, answer, Attributes};
+use crate::senders::Part;
 use crate::time::{Deadline, Limit};
 use crate::Handle;
 use std::cell::Cell;
 use std::fmt;
+use std::mem::take;
 use std::task::Poll;
-use std::time::{Duration, Instant};
+use std::time::Duration;
+
+mod waits;
+
+pub(crate) use waits::Cancels;
 
 /// A queue that a process has open. Calls on it are calls of that process, so it can't be used with
 /// another process or system. It is closed when it is dropped.
@@ -75,7 +81,7 @@ use std::time::{Duration, Instant};
 /// assert!(here.is_answered());
 /// assert_eq!(
 ///     here.collect_receive(&mut buf)?,
-///     Poll::Ready(Received { len: 3, priority: 4 })
+///     Poll::Ready(Received::new(3, 4))
 /// );
 /// # Ok(())
 /// # }
@@ -94,6 +100,30 @@ pub struct Queue<P: Holder> {
     scratch: Cell<Vec<u8>>,
     /// A message that was handed to a wait before it was cancelled.
     kept: Cell<Option<Box<Message>>>,
+    /// Its part in the senders of the queue.
+    part: Part,
+}
+
+/// An open queue without its process.
+#[derive(Default)]
+pub(crate) struct Open {
+    d: u32,
+    msgsize: usize,
+    kept: Option<Box<Message>>,
+    part: Part,
+}
+
+impl Open {
+    pub fn take(&mut self) -> Open {
+        take(self)
+    }
+
+    pub fn in_process(self, process: &Process) -> Queue<&Process> {
+        let queue = Queue::of(process, self.d, self.part);
+        queue.msgsize.set(self.msgsize);
+        queue.kept.set(self.kept);
+        queue
+    }
 }
 
 impl<P: Holder> Queue<P> {
@@ -106,11 +136,15 @@ impl<P: Holder> Queue<P> {
         name: impl AsRef<[u8]>,
         options: OpenOptions,
     ) -> Result<Queue<P>, Refused<P>> {
-        let mut d = 0;
-        if let Err(error) = done(holder.borrow().handle().open(name.as_ref(), &options.0, &mut d)) {
+        let (name, mut d) = (name.as_ref(), 0);
+        let process: &Process = holder.borrow();
+        let open = || process.handle().open(name, &options.opening, &mut d);
+        let (answer, part) = process.system().shared.names.open(name, &options, open);
+        if let Err(error) = done(answer) {
+            let error = error.naming(|| Invalid::of_open(name, &options.opening));
             return Err(Refused { holder, error });
         }
-        Ok(Queue::of(holder, d))
+        Ok(Queue::of(holder, d, part))
     }
 
     /// The queue that the resumed journal left open under this descriptor, as [`Process::resumed`]
@@ -122,12 +156,19 @@ impl<P: Holder> Queue<P> {
         if !holder.borrow().take_left(descriptor) {
             return Err(Refused { holder, error: Error::BadDescriptor });
         }
-        Ok(Queue::of(holder, descriptor))
+        Ok(Queue::of(holder, descriptor, Part::default()))
     }
 
-    fn of(holder: P, d: u32) -> Queue<P> {
+    /// Takes the open queue out of this value, which then closes nothing.
+    pub(crate) fn take_open(&mut self) -> Open {
+        self.holder = None;
+        let (msgsize, kept) = (self.msgsize.get(), self.kept.take());
+        Open { d: self.d, msgsize, kept, part: take(&mut self.part) }
+    }
+
+    fn of(holder: P, d: u32, part: Part) -> Queue<P> {
         let (msgsize, scratch, kept) = (Cell::default(), Cell::default(), Cell::default());
-        Queue { holder: Some(holder), d, msgsize, scratch, kept }
+        Queue { holder: Some(holder), d, msgsize, scratch, kept, part }
     }
 
     /// Closes the queue (`mq_close`), and returns what held its process. Unlike a drop, it reports
@@ -199,9 +240,10 @@ impl<P: Holder> Queue<P> {
     /// Ends the registration of this process.
     ///
     /// # Errors
-    /// [`Invalid`](Error::Invalid) if it is not registered; [`Waiting`](Error::Waiting).
+    /// [`Invalid::NotRegistered`]; [`Waiting`](Error::Waiting).
     pub fn unnotify(&self) -> Result<(), Error> {
         done(self.handle().notify(self.d, None))
+            .map_err(|error| error.naming(|| Invalid::NotRegistered))
     }
 }
 
@@ -211,38 +253,54 @@ impl<P: Holder> Queue<P> {
     ///
     /// # Errors
     /// [`BadDescriptor`](Error::BadDescriptor) if the queue is open only to receive;
-    /// [`Invalid`](Error::Invalid) if the priority is above 32,767;
-    /// [`MessageSize`](Error::MessageSize); [`Again`](Error::Again) if the queue is nonblocking;
-    /// [`Waiting`](Error::Waiting).
+    /// [`Invalid::Priority`] if the priority is above 32,767; [`MessageSize`](Error::MessageSize);
+    /// [`Again`](Error::Again) if the queue is nonblocking; [`Waiting`](Error::Waiting).
     #[inline]
     pub fn send(&self, message: &[u8], priority: u32) -> Result<(), Error> {
         let process = self.process();
         let answer = process.handle().send(self.d, message, priority);
         process.wake_answered();
-        done(answer)
+        sent(answer, priority)
     }
 
-    /// Like [`send`](Queue::send), but waits at most until a deadline (`mq_timedsend`): a
-    /// [`Duration`], an [`Instant`], or another [`Deadline`].
+    /// Like [`send`](Queue::send), but waits for at most this long, by the clock of the system.
     ///
     /// # Errors
     /// Those of `send`, and [`TimedOut`](Error::TimedOut).
-    pub fn send_until(
+    pub fn send_timeout(
+        &self,
+        message: &[u8],
+        priority: u32,
+        timeout: Duration,
+    ) -> Result<(), Error> {
+        self.send_by(message, priority, self.limit_after(timeout))
+    }
+
+    /// Like [`send`](Queue::send), but waits at most until a moment (`mq_timedsend`): an
+    /// [`Instant`](std::time::Instant), or another [`Deadline`].
+    ///
+    /// # Errors
+    /// Those of `send`, and [`TimedOut`](Error::TimedOut).
+    pub fn send_deadline(
         &self,
         message: &[u8],
         priority: u32,
         deadline: impl Into<Deadline>,
     ) -> Result<(), Error> {
-        let limit = self.limit(deadline.into());
+        self.send_by(message, priority, Limit::of(deadline.into()))
+    }
+
+    fn send_by(&self, message: &[u8], priority: u32, limit: Limit) -> Result<(), Error> {
         if self.is_library_clock(&limit) {
             let answer = self.handle().send_until(self.d, message, priority, limit.until);
             self.process().wake_answered();
-            return done(answer);
+            return sent(answer, priority);
         }
-        match self.begin_send(message, priority, Some(limit)) {
-            answer::WAITS => done(self.await_end(&mut [], &mut raw::Message::default())),
-            answer => done(answer),
+        let mut answer = self.begin_send(message, priority, Some(limit));
+        if answer == answer::WAITS {
+            answer = self.await_end(&mut [], &mut raw::Message::default());
         }
+        sent(answer, priority)
     }
 
     /// Like [`send`](Queue::send), but never waits, whatever the flag of the queue is. It is a
@@ -252,10 +310,10 @@ impl<P: Holder> Queue<P> {
     /// # Errors
     /// Those of `send`, and [`Again`](Error::Again) if it would wait.
     pub fn try_send(&self, message: &[u8], priority: u32) -> Result<(), Error> {
-        let now = self.limit(Deadline::After(Duration::ZERO));
+        let now = self.limit_after(Duration::ZERO);
         let answer = self.handle().start_send(self.d, message, priority, now.until, now.until);
         self.process().wake_answered();
-        done(answer).map_err(would_wait)
+        sent(answer, priority).map_err(would_wait)
     }
 
     /// Starts a send, and never blocks. It returns `Ready` if the send is done or failed, and
@@ -265,22 +323,45 @@ impl<P: Holder> Queue<P> {
     /// # Errors
     /// Those of [`send`](Queue::send).
     pub fn start_send(&self, message: &[u8], priority: u32) -> Poll<Result<(), Error>> {
-        pending_or(self.begin_send(message, priority, None)).map(done)
+        pending_or(self.begin_send(message, priority, None)).map(|answer| sent(answer, priority))
+    }
+
+    /// Like [`start_send`](Queue::start_send), for a wait of at most this long, by the clock of the
+    /// system. The program has to collect it by then: nothing else reads the clock.
+    ///
+    /// # Errors
+    /// Those of [`send_timeout`](Queue::send_timeout).
+    pub fn start_send_timeout(
+        &self,
+        message: &[u8],
+        priority: u32,
+        timeout: Duration,
+    ) -> Poll<Result<(), Error>> {
+        self.start_send_by(message, priority, self.limit_after(timeout))
     }
 
     /// Like [`start_send`](Queue::start_send), with a deadline for the wait. The program has to
     /// collect it at the deadline: nothing else reads the clock.
     ///
     /// # Errors
-    /// Those of [`send_until`](Queue::send_until).
-    pub fn start_send_until(
+    /// Those of [`send_deadline`](Queue::send_deadline).
+    pub fn start_send_deadline(
         &self,
         message: &[u8],
         priority: u32,
         deadline: impl Into<Deadline>,
     ) -> Poll<Result<(), Error>> {
-        let limit = self.limit(deadline.into());
-        pending_or(self.begin_send(message, priority, Some(limit))).map(done)
+        self.start_send_by(message, priority, Limit::of(deadline.into()))
+    }
+
+    fn start_send_by(
+        &self,
+        message: &[u8],
+        priority: u32,
+        limit: Limit,
+    ) -> Poll<Result<(), Error>> {
+        pending_or(self.begin_send(message, priority, Some(limit)))
+            .map(|answer| sent(answer, priority))
     }
 
     /// Ends the open wait of a send if it is answered or its deadline has passed. Otherwise the
@@ -310,9 +391,13 @@ impl<P: Holder> Queue<P> {
     /// # Errors
     /// [`BadDescriptor`](Error::BadDescriptor) if the queue is open only to send;
     /// [`MessageSize`](Error::MessageSize) if the buffer is shorter than the queue's messages may
-    /// be; [`Again`](Error::Again) if the queue is nonblocking; [`Waiting`](Error::Waiting).
+    /// be; [`Again`](Error::Again) if the queue is nonblocking; [`Waiting`](Error::Waiting);
+    /// [`Disconnected`](Error::Disconnected) if that was asked for.
     #[inline]
     pub fn receive(&self, buf: &mut [u8]) -> Result<Received, Error> {
+        if self.part.disconnects() {
+            return self.receive_or_disconnect(buf, None);
+        }
         if let Some(kept) = self.take_kept(buf) {
             return kept;
         }
@@ -323,20 +408,36 @@ impl<P: Holder> Queue<P> {
         received(answer, &message)
     }
 
-    /// Like [`receive`](Queue::receive), but waits at most until a deadline (`mq_timedreceive`): a
-    /// [`Duration`], an [`Instant`], or another [`Deadline`].
+    /// Like [`receive`](Queue::receive), but waits for at most this long, by the clock of the
+    /// system.
     ///
     /// # Errors
     /// Those of `receive`, and [`TimedOut`](Error::TimedOut).
-    pub fn receive_until(
+    pub fn receive_timeout(&self, buf: &mut [u8], timeout: Duration) -> Result<Received, Error> {
+        self.receive_by(buf, || self.limit_after(timeout))
+    }
+
+    /// Like [`receive`](Queue::receive), but waits at most until a moment (`mq_timedreceive`): an
+    /// [`Instant`](std::time::Instant), or another [`Deadline`].
+    ///
+    /// # Errors
+    /// Those of `receive`, and [`TimedOut`](Error::TimedOut).
+    pub fn receive_deadline(
         &self,
         buf: &mut [u8],
         deadline: impl Into<Deadline>,
     ) -> Result<Received, Error> {
+        self.receive_by(buf, || Limit::of(deadline.into()))
+    }
+
+    fn receive_by(&self, buf: &mut [u8], limit: impl FnOnce() -> Limit) -> Result<Received, Error> {
         if let Some(kept) = self.take_kept(buf) {
             return kept;
         }
-        let limit = self.limit(deadline.into());
+        let limit = limit();
+        if self.part.disconnects() {
+            return self.receive_or_disconnect(buf, Some(limit));
+        }
         let mut message = raw::Message::default();
         if self.is_library_clock(&limit) {
             let answer = self.handle().receive_until(self.d, buf, &mut message, limit.until);
@@ -358,11 +459,15 @@ impl<P: Holder> Queue<P> {
         if let Some(kept) = self.take_kept(buf) {
             return kept;
         }
-        let now = self.limit(Deadline::After(Duration::ZERO));
+        let is_disconnected = self.part.is_disconnected();
+        let now = self.limit_after(Duration::ZERO);
         let mut message = raw::Message::default();
         let answer = self.handle().start_receive(self.d, buf, &mut message, now.until, now.until);
         self.process().wake_answered();
-        received(answer, &message).map_err(would_wait)
+        received(answer, &message).map_err(|error| match error {
+            Error::TimedOut | Error::Again if is_disconnected => Error::Disconnected,
+            error => would_wait(error),
+        })
     }
 
     /// Starts a receive, and never blocks, like [`start_send`](Queue::start_send). If it is
@@ -374,18 +479,30 @@ impl<P: Holder> Queue<P> {
         self.start_receive_by(buf, None)
     }
 
+    /// Like [`start_receive`](Queue::start_receive), for a wait of at most this long, by the clock
+    /// of the system. The program has to collect it by then: nothing else reads the clock.
+    ///
+    /// # Errors
+    /// Those of [`receive_timeout`](Queue::receive_timeout).
+    pub fn start_receive_timeout(
+        &self,
+        buf: &mut [u8],
+        timeout: Duration,
+    ) -> Poll<Result<Received, Error>> {
+        self.start_receive_by(buf, Some(self.limit_after(timeout)))
+    }
+
     /// Like [`start_receive`](Queue::start_receive), with a deadline for the wait. The program has
     /// to collect it at the deadline: nothing else reads the clock.
     ///
     /// # Errors
-    /// Those of [`receive_until`](Queue::receive_until).
-    pub fn start_receive_until(
+    /// Those of [`receive_deadline`](Queue::receive_deadline).
+    pub fn start_receive_deadline(
         &self,
         buf: &mut [u8],
         deadline: impl Into<Deadline>,
     ) -> Poll<Result<Received, Error>> {
-        let limit = self.limit(deadline.into());
-        self.start_receive_by(buf, Some(limit))
+        self.start_receive_by(buf, Some(Limit::of(deadline.into())))
     }
 
     /// Ends the open wait of a receive if it is answered or its deadline has passed. Otherwise the
@@ -396,6 +513,11 @@ impl<P: Holder> Queue<P> {
     /// [`MessageSize`](Error::MessageSize) if the buffer is shorter than that of the start; the
     /// wait then stays open; [`TimedOut`](Error::TimedOut).
     pub fn collect_receive(&self, buf: &mut [u8]) -> Poll<Result<Received, Error>> {
+        if self.part.is_disconnected() {
+            if let Some(wait) = self.process().wait_of(self.d).filter(|wait| !wait.is_send) {
+                return Poll::Ready(self.disconnect(&wait, buf));
+            }
+        }
         let mut message = raw::Message::default();
         self.collect(false, buf, &mut message).map(|answer| received(answer, &message))
     }
@@ -409,13 +531,22 @@ impl<P: Holder> Queue<P> {
         self.with_buffer(|buf| self.receive(buf))
     }
 
-    /// Like [`receive_until`](Queue::receive_until), into a vector, like
+    /// Like [`receive_timeout`](Queue::receive_timeout), into a vector, like
     /// [`receive_vec`](Queue::receive_vec).
     ///
     /// # Errors
-    /// Those of `receive_until`.
-    pub fn receive_vec_until(&self, deadline: impl Into<Deadline>) -> Result<Message, Error> {
-        self.with_buffer(|buf| self.receive_until(buf, deadline))
+    /// Those of `receive_timeout`.
+    pub fn receive_vec_timeout(&self, timeout: Duration) -> Result<Message, Error> {
+        self.with_buffer(|buf| self.receive_timeout(buf, timeout))
+    }
+
+    /// Like [`receive_deadline`](Queue::receive_deadline), into a vector, like
+    /// [`receive_vec`](Queue::receive_vec).
+    ///
+    /// # Errors
+    /// Those of `receive_deadline`.
+    pub fn receive_vec_deadline(&self, deadline: impl Into<Deadline>) -> Result<Message, Error> {
+        self.with_buffer(|buf| self.receive_deadline(buf, deadline))
     }
 
     /// Like [`try_receive`](Queue::try_receive), into a vector, like
@@ -427,7 +558,8 @@ impl<P: Holder> Queue<P> {
         self.with_buffer(|buf| self.try_receive(buf))
     }
 
-    /// An endless iterator over the messages: each step waits for the next. It ends after an error.
+    /// An endless iterator over the messages: each step waits for the next. It ends after an error,
+    /// and instead of the error [`Disconnected`](Error::Disconnected).
     ///
     /// ```
     /// use yakyrombe::{Error, OpenOptions, System};
@@ -468,7 +600,7 @@ impl<P: Holder> Queue<P> {
         TryIter::new(self)
     }
 
-    fn start_receive_by(
+    pub(crate) fn start_receive_by(
         &self,
         buf: &mut [u8],
         limit: Option<Limit>,
@@ -476,9 +608,16 @@ impl<P: Holder> Queue<P> {
         if let Some(kept) = self.take_kept(buf) {
             return Poll::Ready(kept);
         }
+        let is_disconnected = self.part.is_disconnected();
         let mut message = raw::Message::default();
-        pending_or(self.begin_receive(buf, &mut message, limit))
-            .map(|answer| received(answer, &message))
+        match pending_or(self.begin_receive(buf, &mut message, limit)) {
+            Poll::Pending if is_disconnected => self.collect_receive(buf),
+            Poll::Pending => Poll::Pending,
+            Poll::Ready(answer) => Poll::Ready(match received(answer, &message) {
+                Err(Error::Again | Error::TimedOut) if is_disconnected => Err(Error::Disconnected),
+                received => received,
+            }),
+        }
     }
 
     fn begin_receive(
@@ -502,7 +641,7 @@ impl<P: Holder> Queue<P> {
 
     #[cold]
     fn give_kept(&self, kept: Box<Message>, buf: &mut [u8]) -> Result<Received, Error> {
-        let received = Received { len: kept.len(), priority: kept.priority };
+        let received = Received::new(kept.len(), kept.priority);
         if let Some(front) = buf.get_mut(..received.len) {
             front.copy_from_slice(&kept);
             Ok(received)
@@ -520,8 +659,8 @@ impl<P: Holder> Queue<P> {
         let mut buf = self.scratch.take();
         buf.resize(self.msgsize()?, 0);
         let received = receive(&mut buf);
-        let message = received
-            .map(|Received { len, priority }| Message { priority, bytes: buf[..len].to_vec() });
+        let message =
+            received.map(|Received { len, priority }| Message::new(priority, buf[..len].to_vec()));
         self.scratch.set(buf);
         message
     }
@@ -534,91 +673,6 @@ impl<P: Holder> Queue<P> {
             self.msgsize.set(Attr::of(&found).msgsize);
         }
         Ok(self.msgsize.get())
-    }
-}
-
-/// Open waits.
-impl<P: Holder> Queue<P> {
-    /// Whether the open wait of this queue is answered, by one load. If so, the next collect ends
-    /// it.
-    #[inline]
-    #[must_use]
-    pub fn is_answered(&self) -> bool {
-        self.process().wait_of(self.d).is_some() && self.process().is_answered()
-    }
-
-    /// Sleeps until the open wait of this queue is answered, for at most this long in real time,
-    /// and returns whether it is answered.
-    pub fn wait(&self, most: Duration) -> bool {
-        let end = Instant::now().checked_add(most);
-        while self.process().wait_of(self.d).is_some() && !self.process().is_answered() {
-            let left = end.map_or(most, |end| end.saturating_duration_since(Instant::now()));
-            if left.is_zero() {
-                return false;
-            }
-            self.handle().await_answered(left);
-        }
-        self.is_answered()
-    }
-
-    /// Ends the open wait of this queue in any case: it is withdrawn, unless it is already
-    /// answered. Returns true if it was withdrawn; then a send has sent nothing. Returns false if
-    /// no wait was open, or if it was answered: then a send is done, and the next receive by this
-    /// queue returns the message of a receive. It also returns false, and the wait stays open, if
-    /// the wait comes from a journal and has no deadline, as a C program can leave it.
-    pub fn cancel(&self) -> bool {
-        let Some(wait) = self.process().wait_of(self.d) else { return false };
-        let (mut bytes, mut message) = (vec![0; wait.len], raw::Message::default());
-        let answer = self.process().withdraw(&wait, &mut bytes, &mut message);
-        if answer == answer::DONE && !wait.is_send {
-            bytes.truncate(message.len);
-            self.kept.set(Some(Box::new(Message { priority: message.prio, bytes })));
-        }
-        answer == answer::TIMED_OUT
-    }
-
-    fn limit(&self, deadline: Deadline) -> Limit {
-        Limit::of(deadline, &self.process().system().shared.clock)
-    }
-
-    /// Whether the library reads the clock of the deadline itself.
-    fn is_library_clock(&self, limit: &Limit) -> bool {
-        limit.is_real || self.process().system().shared.clock.is_none()
-    }
-
-    /// The result of the open wait of this kind, if it has ended.
-    fn collect(&self, is_send: bool, buf: &mut [u8], message: &mut raw::Message) -> Poll<u32> {
-        match self.process().wait_of(self.d).filter(|wait| wait.is_send == is_send) {
-            None => Poll::Ready(answer::NOT_WAITING),
-            Some(wait) => {
-                self.process().try_end(&wait, buf, message).map_or(Poll::Pending, Poll::Ready)
-            }
-        }
-    }
-
-    /// Waits for the end of the open wait by the program's clock. If that clock panics, the wait is
-    /// cancelled.
-    fn await_end(&self, buf: &mut [u8], message: &mut raw::Message) -> u32 {
-        let Some(wait) = self.process().wait_of(self.d) else { return answer::NOT_WAITING };
-        let cancels = Cancels(self);
-        let answer = self.process().await_end(&wait, buf, message);
-        drop(cancels);
-        answer
-    }
-
-    /// Withdraws the open wait of this queue, which is about to be closed.
-    fn end_wait_for_ever(&self) {
-        self.cancel();
-        self.kept.take();
-    }
-}
-
-/// Cancels the open wait of a queue, if there is one, when it is dropped.
-struct Cancels<'q, P: Holder>(&'q Queue<P>);
-
-impl<P: Holder> Drop for Cancels<'_, P> {
-    fn drop(&mut self) {
-        self.0.cancel();
     }
 }
 
@@ -659,9 +713,14 @@ fn would_wait(error: Error) -> Error {
 }
 
 #[inline]
-fn received(answer: u32, message: &raw::Message) -> Result<Received, Error> {
+fn sent(answer: u32, priority: u32) -> Result<(), Error> {
+    done(answer).map_err(|error| error.naming(|| Invalid::Priority(priority)))
+}
+
+#[inline]
+pub(crate) fn received(answer: u32, message: &raw::Message) -> Result<Received, Error> {
     if answer == answer::DONE {
-        Ok(Received { len: message.len, priority: message.prio })
+        Ok(Received::new(message.len, message.prio))
     } else {
         Err(refusal(answer))
     }

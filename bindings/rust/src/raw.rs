@@ -240,6 +240,7 @@ extern "C" {
     ) -> u32;
     fn yak_answered(process: *mut Fields) -> u32;
     fn yak_await_answered(process: *mut Fields, nanos: i64) -> u32;
+    fn yak_time_has_moved(process: *const Fields);
     fn yak_collect(process: *mut Fields, buf: *mut u8, len: usize, message: *mut Message) -> u32;
     fn yak_end_wait(
         process: *mut Fields,
@@ -335,6 +336,12 @@ impl Handle {
         unsafe { yak_finish(first, count, None, null_mut()) };
     }
 
+    /// Whether the calls of a system that is made now are steps of an exploration.
+    #[cfg(not(feature = "model"))]
+    pub fn are_steps() -> bool {
+        false
+    }
+
     /// The number of its process, from 1.
     pub fn number(&self) -> u32 {
         // SAFETY: no other code writes the fields meanwhile.
@@ -342,7 +349,6 @@ impl Handle {
     }
 
     /// The processes whose waits its last call answered: process p has bit p - 1.
-    #[cfg(feature = "futures")]
     #[inline]
     pub fn answered_others(&self) -> u32 {
         // SAFETY: no other code writes the fields meanwhile.
@@ -484,11 +490,17 @@ impl Handle {
         unsafe { yak_answered(self.0.get()) == answer::DONE }
     }
 
-    /// Sleeps until the open wait is answered, for at most `most` and at most 80 milliseconds.
+    /// Sleeps until the open wait is answered, for at most `most`.
     pub fn await_answered(&self, most: Duration) -> bool {
         let nanos = i64::try_from(most.as_nanos()).unwrap_or(i64::MAX);
         // SAFETY: the handle was borrowed.
         unsafe { yak_await_answered(self.0.get(), nanos) == answer::DONE }
+    }
+
+    /// Wakes the calls of the system that wait by a clock of the program.
+    pub fn time_has_moved(&self) {
+        // SAFETY: the handle was borrowed.
+        unsafe { yak_time_has_moved(self.0.get()) }
     }
 
     pub fn collect(&self, buf: &mut [u8], message: &mut Message) -> u32 {

@@ -1,10 +1,12 @@
 //! Systems, and how they are made.
 
-use crate::error::{Error, ResumeError};
+use crate::error::{Error, Invalid, ResumeError};
 use crate::journal::{Journal, Left};
 use crate::process::{refusal, Process};
 use crate::raw::{Kept, Moment, Storage};
+use crate::senders::Names;
 use crate::time::{moment_now, Clock, OwnClock};
+use crate::wakers::Wakers;
 use crate::Handle;
 use std::fmt;
 use std::hash::{Hash, Hasher};
@@ -42,8 +44,8 @@ pub(crate) struct Shared {
     count: usize,
     is_stored: bool,
     pub(crate) clock: OwnClock,
-    #[cfg(feature = "futures")]
-    pub(crate) wakers: crate::futures::Wakers,
+    pub(crate) names: Names,
+    pub(crate) wakers: Wakers,
 }
 
 impl System {
@@ -232,15 +234,13 @@ impl Builder {
     /// Builds the system, and returns it and its processes, process 1 first.
     ///
     /// # Errors
-    /// [`Invalid`](Error::Invalid) if the number of processes is not 1 to 32;
-    /// [`NoMemory`](Error::NoMemory).
+    /// [`Invalid::Processes`] if their number is not 1 to 32; [`NoMemory`](Error::NoMemory).
     pub fn build(self) -> Result<(System, Vec<Process>), Error> {
-        if self.processes > MOST_PROCESSES {
-            return Err(Error::Invalid);
-        }
+        self.check_count()?;
         let handles = Handle::of_system(self.processes, self.storage).map_err(refusal)?;
         let left = vec![Left::default(); self.processes];
-        Ok(self.with(handles, left))
+        // In an exploration no thread may wait for a lock that is not a step.
+        Ok(self.with(handles, left, !Handle::are_steps()))
     }
 
     /// Like [`build`](Builder::build), for a system that continues from a journal
@@ -259,12 +259,10 @@ impl Builder {
     ///
     /// # Errors
     /// The line at fault; [`JournalFull`](Error::JournalFull) if the journal, with an entry for the
-    /// end of each open wait, is too long for the bounds; [`Invalid`](Error::Invalid) if the number
-    /// of processes is not 1 to 32; [`NoMemory`](Error::NoMemory).
+    /// end of each open wait, is too long for the bounds; [`Invalid::Processes`] if their number is
+    /// not 1 to 32; [`NoMemory`](Error::NoMemory).
     pub fn resume(self, journal: &Journal) -> Result<(System, Vec<Process>), ResumeError> {
-        if self.processes > MOST_PROCESSES {
-            return Err(Error::Invalid.into());
-        }
+        self.check_count()?;
         let (kept, storage) = match self.storage {
             Storage::Bounded { entries, bytes } => (Kept::Bounded { entries, bytes }, self.storage),
             _ => (Kept::Whole, Storage::All),
@@ -272,16 +270,30 @@ impl Builder {
         let handles = Handle::resumed(self.processes, journal.as_str().as_bytes(), kept)
             .map_err(|(answer, line)| ResumeError::of_answer(answer, line))?;
         let left = journal.left(self.processes);
-        Ok(Builder { storage, ..self }.with(handles, left))
+        // The journal does not say which descriptors can send to the same queue.
+        Ok(Builder { storage, ..self }.with(handles, left, false))
     }
 
-    fn with(self, handles: Vec<Handle>, left: Vec<Left>) -> (System, Vec<Process>) {
+    fn check_count(&self) -> Result<(), Error> {
+        if (1..=MOST_PROCESSES).contains(&self.processes) {
+            Ok(())
+        } else {
+            Err(Invalid::Processes(self.processes).into())
+        }
+    }
+
+    fn with(
+        self,
+        handles: Vec<Handle>,
+        left: Vec<Left>,
+        are_counted: bool,
+    ) -> (System, Vec<Process>) {
         let shared = Shared {
             count: self.processes,
             is_stored: self.storage.is_stored(),
             clock: self.clock,
-            #[cfg(feature = "futures")]
-            wakers: crate::futures::Wakers::default(),
+            names: Names::new(are_counted),
+            wakers: Wakers::default(),
         };
         let system = System { shared: Arc::new(shared) };
         let new = |(handle, left)| Process::new(handle, system.clone(), left);
@@ -305,7 +317,7 @@ impl Builder {
     pub fn build_array<const N: usize>(self) -> Result<(System, [Process; N]), Error> {
         let (system, processes) = self.processes(N).build()?;
         // The vector has exactly N processes.
-        let processes = processes.try_into().map_err(|_| Error::Invalid)?;
+        let processes = processes.try_into().map_err(|_| Invalid::Processes(N))?;
         Ok((system, processes))
     }
 }

@@ -43,7 +43,7 @@ pub trait Clock: Send + Sync {
     /// one thread nothing can end the wait before the deadline, so a virtual clock advances to the
     /// deadline and returns true. Any other clock returns false, as this default does. Then the
     /// thread sleeps until its call is answered, and reads the clock again at least every 80
-    /// milliseconds.
+    /// milliseconds, or when [`Process::time_has_moved`](crate::Process::time_has_moved) tells it to.
     fn skip_to(&self, deadline: Duration) -> bool {
         let _ = deadline;
         false
@@ -97,7 +97,7 @@ impl Clock for Monotonic {
 ///
 /// let begin = Instant::now();
 /// let hour = Duration::from_secs(3600);
-/// assert_eq!(queue.receive_until(&mut [0; 8192], hour), Err(Error::TimedOut));
+/// assert_eq!(queue.receive_timeout(&mut [0; 8192], hour), Err(Error::TimedOut));
 /// assert_eq!(clock.now(), hour);
 /// clock.advance(hour);
 /// assert_eq!(clock.now(), 2 * hour);
@@ -150,7 +150,7 @@ impl fmt::Debug for VirtualClock {
     }
 }
 
-/// Until when a call waits. A [`Duration`] and an [`Instant`] convert into one.
+/// The moment until which a call waits. An [`Instant`] converts into one.
 ///
 /// ```
 /// use std::time::{Duration, Instant};
@@ -161,28 +161,19 @@ impl fmt::Debug for VirtualClock {
 /// let queue = process.open("/q", OpenOptions::read().create().limits(1, 8))?;
 /// let soon = Duration::from_millis(2);
 /// let mut buf = [0; 8];
-/// assert_eq!(queue.receive_until(&mut buf, soon), Err(Error::TimedOut));
-/// assert_eq!(queue.receive_until(&mut buf, Instant::now() + soon), Err(Error::TimedOut));
+/// assert_eq!(queue.receive_deadline(&mut buf, Instant::now() + soon), Err(Error::TimedOut));
 /// let moment = Deadline::Moment(system.now() + soon);
-/// assert_eq!(queue.receive_until(&mut buf, moment), Err(Error::TimedOut));
+/// assert_eq!(queue.receive_deadline(&mut buf, moment), Err(Error::TimedOut));
 /// # Ok(())
 /// # }
 /// ```
 #[derive(Clone, Copy, Debug, PartialEq, Eq, PartialOrd, Ord, Hash)]
 #[non_exhaustive]
 pub enum Deadline {
-    /// This long after the call begins, by the clock of the system.
-    After(Duration),
     /// At this moment of the clock of the system ([`System::now`](crate::System::now)).
     Moment(Duration),
     /// At this moment of real time, whatever the clock of the system is.
     Instant(Instant),
-}
-
-impl From<Duration> for Deadline {
-    fn from(time: Duration) -> Deadline {
-        Deadline::After(time)
-    }
 }
 
 impl From<Instant> for Deadline {
@@ -214,19 +205,21 @@ impl Limit {
     /// No deadline: the wait can be cancelled, but does not end by itself.
     pub const NONE: Limit = Limit { until: Moment::LAST, is_real: true };
 
-    pub fn of(deadline: Deadline, own: &OwnClock) -> Limit {
+    pub fn of(deadline: Deadline) -> Limit {
         match deadline {
             Deadline::Moment(moment) => {
                 Limit { until: Moment::since_origin(moment), is_real: false }
-            }
-            Deadline::After(time) => {
-                Limit { until: after(moment_now(own, false), time), is_real: false }
             }
             Deadline::Instant(instant) => {
                 let left = instant.saturating_duration_since(Instant::now());
                 Limit { until: after(Moment::now(), left), is_real: true }
             }
         }
+    }
+
+    /// This long after now, by the clock of a system.
+    pub fn after(time: Duration, own: &OwnClock) -> Limit {
+        Limit { until: after(moment_now(own, false), time), is_real: false }
     }
 
     /// Whether the deadline has passed at a moment of its clock.

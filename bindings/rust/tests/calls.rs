@@ -1,8 +1,9 @@
 //! Each call with each of its errors.
 
+use std::task::Poll;
 use std::time::Duration;
 use yakyrombe::Error::{self, *};
-use yakyrombe::{OpenOptions, Process, Queue, Received, Room, System};
+use yakyrombe::{Invalid, OpenOptions, Process, Queue, Received, Room, System};
 
 const BOTH: OpenOptions = OpenOptions::read_write();
 const NEW: OpenOptions = BOTH.create().limits(2, 4);
@@ -25,13 +26,15 @@ fn attr(queue: &Queue<Process>) -> (usize, usize, usize, bool) {
 
 #[test]
 fn a_system_has_1_to_32_processes() {
+    let wrong = |count| Some(Error::Invalid(Invalid::Processes(count)));
     for count in [0, 33, usize::MAX] {
-        assert_eq!(System::builder().processes(count).build().err(), Some(Invalid));
-        assert_eq!(System::builder().processes(count).journal(true).build().err(), Some(Invalid));
-        assert_eq!(System::builder().processes(count).bounded(1, 1).build().err(), Some(Invalid));
+        let builder = || System::builder().processes(count);
+        assert_eq!(builder().build().err(), wrong(count));
+        assert_eq!(builder().journal(true).build().err(), wrong(count));
+        assert_eq!(builder().bounded(1, 1).build().err(), wrong(count));
     }
-    assert_eq!(System::builder().build_array::<0>().err(), Some(Invalid));
-    assert_eq!(System::builder().build_array::<33>().err(), Some(Invalid));
+    assert_eq!(System::builder().build_array::<0>().err(), wrong(0));
+    assert_eq!(System::builder().build_array::<33>().err(), wrong(33));
     assert_eq!(System::builder().bounded(u64::MAX, 0).build().err(), Some(NoMemory));
     assert_eq!(System::builder().build().unwrap().1.len(), 1);
     let (system, processes) =
@@ -67,12 +70,22 @@ fn open_fails_for_names_and_limits() {
     let longest = format!("/{}", "a".repeat(255));
     let longer = format!("/{}", "a".repeat(256));
     for name in ["q", "/", "", "/a/b", "/a\0"] {
-        assert_eq!(number(process.open(name, NEW)), Err(Invalid), "{name:?}");
+        let wrong = Invalid::Name(name.as_bytes().into());
+        assert_eq!(number(process.open(name, NEW)), Err(Error::Invalid(wrong)), "{name:?}");
     }
-    for (messages, bytes) in
-        [(0, 8), (4097, 8), (1, 0), (1, 65537), (usize::MAX, 8), (8, usize::MAX), (1 << 32, 8)]
-    {
-        assert_eq!(number(process.open("/q", BOTH.create().limits(messages, bytes))), Err(Invalid));
+    let most = usize::try_from(i64::MAX).unwrap();
+    for (messages, bytes, wrong) in [
+        (0, 8, Invalid::Messages(0)),
+        (4097, 8, Invalid::Messages(4097)),
+        (1, 0, Invalid::Bytes(0)),
+        (1, 65537, Invalid::Bytes(65537)),
+        (0, 0, Invalid::Messages(0)),
+        (1 << 32, 8, Invalid::Messages(1 << 32)),
+        (usize::MAX, 8, Invalid::Messages(most)),
+        (8, usize::MAX, Invalid::Bytes(most)),
+    ] {
+        let opened = process.open("/q", BOTH.create().limits(messages, bytes));
+        assert_eq!(number(opened), Err(Error::Invalid(wrong)));
     }
     assert_eq!(number(process.open("/q", BOTH)), Err(NoEntry));
     assert_eq!(number(process.open(&longer, NEW)), Err(NameTooLong));
@@ -111,7 +124,7 @@ fn there_are_64_queues() {
 fn unlink_takes_the_name_and_not_the_queue() {
     let queue = with_queue(NEW);
     let process = queue.process();
-    assert_eq!(process.unlink("q"), Err(Invalid));
+    assert_eq!(process.unlink("q"), Err(Error::Invalid(Invalid::Name((*b"q").into()))));
     assert_eq!(process.unlink(format!("/{}", "a".repeat(256))), Err(NameTooLong));
     assert_eq!(process.unlink("/q"), Ok(()));
     assert_eq!(process.unlink("/q"), Err(NoEntry));
@@ -128,15 +141,19 @@ fn send_and_receive_fail() {
 
     assert_eq!(reader.send(b"a", 0), Err(BadDescriptor));
     assert_eq!(reader.try_send(b"a", 0), Err(BadDescriptor));
-    assert_eq!(reader.send_until(b"a", 0, SOON), Err(BadDescriptor));
-    assert_eq!(both.send(b"a", 32768), Err(Invalid));
+    assert_eq!(reader.send_timeout(b"a", 0, SOON), Err(BadDescriptor));
+    let too_high = Error::Invalid(Invalid::Priority(32768));
+    assert_eq!(both.send(b"a", 32768), Err(too_high.clone()));
+    assert_eq!(both.try_send(b"a", 32768), Err(too_high.clone()));
+    assert_eq!(both.send_timeout(b"a", 32768, SOON), Err(too_high.clone()));
+    assert_eq!(both.start_send(b"a", 32768), Poll::Ready(Err(too_high)));
     assert_eq!(both.send(b"abcde", 0), Err(MessageSize));
     assert_eq!(writer.receive(&mut buf), Err(BadDescriptor));
     assert_eq!(writer.receive_vec(), Err(BadDescriptor));
     assert_eq!(both.receive(&mut buf[..3]), Err(MessageSize));
     assert_eq!(both.receive(&mut []), Err(MessageSize));
-    assert_eq!(both.receive_until(&mut buf, SOON), Err(TimedOut));
-    assert_eq!(both.receive_vec_until(SOON), Err(TimedOut));
+    assert_eq!(both.receive_timeout(&mut buf, SOON), Err(TimedOut));
+    assert_eq!(both.receive_vec_timeout(SOON), Err(TimedOut));
     assert_eq!(both.try_receive(&mut buf), Err(Again));
     assert_eq!(both.try_receive_vec(), Err(Again));
     assert_eq!(buf, [0xee; 6]);
@@ -146,19 +163,19 @@ fn send_and_receive_fail() {
     assert_eq!(both.try_send(b"c", 0), Err(Again));
     assert_eq!(writer.try_send(b"c", 0), Err(Again));
     assert_eq!(writer.send(b"c", 0), Err(Again));
-    assert_eq!(writer.send_until(b"c", 0, SOON), Err(Again));
-    assert_eq!(both.send_until(b"c", 0, SOON), Err(TimedOut));
-    assert_eq!(reader.receive(&mut buf), Ok(Received { len: 0, priority: 32767 }));
-    assert_eq!(reader.receive_until(&mut buf, SOON), Ok(Received { len: 3, priority: 0 }));
+    assert_eq!(writer.send_timeout(b"c", 0, SOON), Err(Again));
+    assert_eq!(both.send_timeout(b"c", 0, SOON), Err(TimedOut));
+    assert_eq!(reader.receive(&mut buf), Ok(Received::new(0, 32767)));
+    assert_eq!(reader.receive_timeout(&mut buf, SOON), Ok(Received::new(3, 0)));
     assert_eq!(&buf, b"low\xee\xee\xee");
 }
 
 #[test]
 fn a_deadline_may_be_later_than_any_time() {
     let queue = with_queue(NEW);
-    queue.send_until(b"a", 1, Duration::MAX).unwrap();
+    queue.send_timeout(b"a", 1, Duration::MAX).unwrap();
     let mut buf = [0; 4];
-    assert_eq!(queue.receive_until(&mut buf, Duration::MAX), Ok(Received { len: 1, priority: 1 }));
+    assert_eq!(queue.receive_timeout(&mut buf, Duration::MAX), Ok(Received::new(1, 1)));
 }
 
 #[test]
@@ -171,7 +188,7 @@ fn a_received_vector_has_the_message_alone() {
         queue.send(message, 3).unwrap();
         assert_eq!(queue.try_receive_vec().as_deref(), Ok(message));
         queue.send(message, 3).unwrap();
-        assert_eq!(queue.receive_vec_until(SOON).as_deref(), Ok(message));
+        assert_eq!(queue.receive_vec_timeout(SOON).as_deref(), Ok(message));
     }
 }
 
@@ -216,11 +233,12 @@ fn a_notice_comes_once_and_to_the_process_that_registered() {
     let (_, [first, second]) = System::builder().build_array().unwrap();
     let queue = first.open("/q", NEW).unwrap();
     let same = second.open("/q", BOTH).unwrap();
-    assert_eq!(queue.unnotify(), Err(Invalid));
+    let not_registered = Error::Invalid(Invalid::NotRegistered);
+    assert_eq!(queue.unnotify(), Err(not_registered.clone()));
     assert_eq!(queue.notify(u64::MAX), Ok(()));
     assert_eq!(queue.notify(1), Err(Busy));
     assert_eq!(same.notify(2), Err(Busy));
-    assert_eq!(same.unnotify(), Err(Invalid));
+    assert_eq!(same.unnotify(), Err(not_registered));
     assert_eq!(first.next_notice(), Ok(None));
     same.send(b"a", 0).unwrap();
     same.send(b"b", 0).unwrap();
@@ -249,10 +267,10 @@ fn a_full_journal_refuses_each_call_and_changes_nothing() {
         ("open", process.open("/r", NEW).map(drop)),
         ("unlink", process.unlink("/q")),
         ("send", queue.send(b"a", 0)),
-        ("send_until", queue.send_until(b"a", 0, SOON)),
+        ("send_timeout", queue.send_timeout(b"a", 0, SOON)),
         ("try_send", queue.try_send(b"a", 0)),
         ("receive", queue.receive(&mut buf).map(drop)),
-        ("receive_until", queue.receive_until(&mut buf, SOON).map(drop)),
+        ("receive_timeout", queue.receive_timeout(&mut buf, SOON).map(drop)),
         ("try_receive", queue.try_receive(&mut buf).map(drop)),
         ("receive_vec", queue.receive_vec().map(drop)),
         ("attr", queue.attr().map(drop)),
@@ -290,5 +308,5 @@ fn what_reads_a_journal_that_is_not_stored_fails() {
     assert_eq!(process.entry(u64::MAX), Err(Unstored));
     assert_eq!(process.journal(), Err(Unstored));
     assert!(!process.nobody_can_call());
-    assert_eq!(queue.receive(&mut [0; 4]), Ok(Received { len: 1, priority: 0 }));
+    assert_eq!(queue.receive(&mut [0; 4]), Ok(Received::new(1, 0)));
 }

@@ -57,7 +57,7 @@ fn what_need_not_wait_is_ready_at_once() {
     let mut buf = [0; 8];
     assert_eq!(
         pin!(there.receive_async(&mut buf)).poll(&mut context),
-        Poll::Ready(Ok(Received { len: 3, priority: 3 }))
+        Poll::Ready(Ok(Received::new(3, 3)))
     );
     assert_eq!(
         pin!(here.send_async(b"longer than it may be", 0)).poll(&mut context),
@@ -79,10 +79,7 @@ fn the_call_that_answers_wakes_a_receive_and_a_send() {
         assert_eq!(woken.count(), 0);
         there.send(b"now", 1).unwrap();
         assert_eq!(woken.count(), 1);
-        assert_eq!(
-            receive.as_mut().poll(&mut context),
-            Poll::Ready(Ok(Received { len: 3, priority: 1 }))
-        );
+        assert_eq!(receive.as_mut().poll(&mut context), Poll::Ready(Ok(Received::new(3, 1))));
     }
     there.send(b"full", 0).unwrap();
     let mut send = pin!(here.send_async(b"more", 2));
@@ -99,7 +96,7 @@ fn every_call_that_answers_wakes() {
     let sends: [Send; 5] = [
         |queue| queue.send(b"a", 0),
         |queue| queue.try_send(b"a", 0),
-        |queue| queue.send_until(b"a", 0, Duration::from_secs(60)),
+        |queue| queue.send_timeout(b"a", 0, Duration::from_secs(60)),
         |queue| match queue.start_send(b"a", 0) {
             Poll::Ready(result) => result,
             Poll::Pending => panic!("it need not wait"),
@@ -250,4 +247,21 @@ fn a_future_is_answered_by_a_thread_that_blocks() {
         assert_eq!(*message, number.to_le_bytes());
     }
     thread.join().unwrap();
+}
+
+#[test]
+fn the_drop_of_the_last_sender_wakes_a_receive() {
+    let (_, [one, two]) = System::builder().build_array().unwrap();
+    let options = OpenOptions::read().create().disconnecting();
+    let mut here = Queue::open(one, "/q", options).unwrap();
+    let there = two.open("/q", OpenOptions::write()).unwrap();
+    let (woken, waker) = Woken::new();
+    let mut context = Context::from_waker(&waker);
+    let mut future = Box::pin(here.receive_vec_async());
+    assert!(future.as_mut().poll(&mut context).is_pending());
+    drop(there);
+    assert_eq!(woken.count(), 1);
+    assert_eq!(future.as_mut().poll(&mut context), Poll::Ready(Err(Error::Disconnected)));
+    drop(future);
+    assert!(!here.process().is_waiting());
 }

@@ -86,11 +86,11 @@ fn hammer(process: Process) -> Process {
     let queue = Queue::open(process, "/q", OPTIONS).unwrap();
     for i in 0..100_u8 {
         let timeout = Duration::from_micros(u64::from(i) % 5 * 100);
-        let _ = queue.send_until(&[i; 9], u32::from(i % 3), timeout);
+        let _ = queue.send_timeout(&[i; 9], u32::from(i % 3), timeout);
         let _ = queue.notify(u64::from(i));
-        let _ = queue.receive_until(&mut [0; 300], timeout);
+        let _ = queue.receive_timeout(&mut [0; 300], timeout);
         if queue.start_receive(&mut [0; 300]).is_pending() && i % 2 == 0 {
-            queue.wait(timeout);
+            queue.wait_timeout(timeout);
         }
         queue.cancel();
         queue.process().next_notice().unwrap();

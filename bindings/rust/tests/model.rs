@@ -90,7 +90,7 @@ fn asks_twice(looks: bool) {
     let mut buf = [0; 8];
     for question in [10, 20] {
         put(&asks, question);
-        while replies.receive_until(&mut buf, Duration::from_secs(1)).is_ok() {
+        while replies.receive_timeout(&mut buf, Duration::from_secs(1)).is_ok() {
             if !looks {
                 assert_eq!(buf[0], question + 1, "the reply to another question");
             }
@@ -245,7 +245,7 @@ fn a_late_registration_does_not_look() {
 }
 
 /// What another process finds under a name that one queue loses and a new one gets.
-fn finds_by_a_name(wanted: [Result<usize, Error>; 2]) {
+fn finds_by_a_name(wanted: &[Result<usize, Error>; 2]) {
     let [one, two] = processes();
     drop(one.open("/q", OPTIONS).unwrap());
     let other = thread::spawn(move || {
@@ -262,13 +262,13 @@ fn finds_by_a_name(wanted: [Result<usize, Error>; 2]) {
 #[test]
 #[should_panic(expected = "found Err(NoEntry)")]
 fn a_name_may_be_taken_off() {
-    model(|| finds_by_a_name([Ok(1), Ok(0)]));
+    model(|| finds_by_a_name(&[Ok(1), Ok(0)]));
 }
 
 #[test]
 #[should_panic(expected = "found Ok(1)")]
 fn a_name_may_be_that_of_the_new_queue() {
-    model(|| finds_by_a_name([Ok(0), Err(Error::NoEntry)]));
+    model(|| finds_by_a_name(&[Ok(0), Err(Error::NoEntry)]));
 }
 
 #[test]

@@ -3,7 +3,7 @@
 use std::mem::forget;
 use std::rc::Rc;
 use std::thread;
-use yakyrombe::{Error, OpenOptions, Process, Queue, System};
+use yakyrombe::{Error, Invalid, OpenOptions, Process, Queue, System};
 
 const NEW: OpenOptions = OpenOptions::read_write().create().limits(2, 4);
 
@@ -50,11 +50,13 @@ fn a_closed_queue_is_closed_once_and_gives_its_process_back() {
 fn an_open_that_fails_gives_the_process_back() {
     let [process, _observer] = two();
     let refused = Queue::open(process, "/missing", OpenOptions::read()).unwrap_err();
-    assert_eq!((refused.error(), refused.to_string().as_str()), (Error::NoEntry, "ENOENT"));
-    assert_eq!(std::error::Error::source(&refused).unwrap().to_string(), "ENOENT");
+    assert_eq!(refused.error(), &Error::NoEntry);
+    assert_eq!(refused.to_string(), "no queue has this name");
+    assert_eq!(std::error::Error::source(&refused).unwrap().to_string(), refused.to_string());
     let process = refused.into_holder();
     assert_eq!(process.open("/q", NEW).unwrap().descriptor(), 0);
-    assert_eq!(Error::from(Queue::open(process, "q", NEW).unwrap_err()), Error::Invalid);
+    let malformed = Error::from(Queue::open(process, "q", NEW).unwrap_err());
+    assert_eq!(malformed, Error::Invalid(Invalid::Name((*b"q").into())));
 }
 
 #[test]
@@ -131,7 +133,7 @@ fn a_queue_whose_close_is_refused_stays_open_until_the_process_exits() {
     let (_, [process]) = System::builder().bounded(1, 9).build_array().unwrap();
     let queue = process.open("/q", NEW).unwrap();
     let refused = queue.close().unwrap_err();
-    assert_eq!(refused.error(), Error::JournalFull);
+    assert_eq!(refused.error(), &Error::JournalFull);
     assert_eq!(process.journal().unwrap().lines().count(), 1);
 }
 

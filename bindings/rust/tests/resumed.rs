@@ -5,7 +5,8 @@ use std::task::Poll;
 use std::thread;
 use std::time::Duration;
 use yakyrombe::{
-    Clock, Error, Journal, OpenOptions, Process, Queue, Received, ResumeError, System, VirtualClock,
+    Clock, Error, Invalid, Journal, OpenOptions, Process, Queue, Received, ResumeError, System,
+    VirtualClock,
 };
 
 const OPTIONS: OpenOptions = OpenOptions::read_write().create().limits(2, 8);
@@ -29,7 +30,7 @@ fn saved() -> Journal {
     let here = two.open("/q", OPTIONS).unwrap();
     assert!(here.start_receive(&mut [0; 8]).is_pending());
     let there = three.open("/q", OPTIONS).unwrap();
-    assert!(there.start_receive_until(&mut [0; 8], 5 * SECOND).is_pending());
+    assert!(there.start_receive_timeout(&mut [0; 8], 5 * SECOND).is_pending());
     one.journal().unwrap()
 }
 
@@ -45,7 +46,7 @@ fn goes_on(journal: &Journal) {
     let clock = VirtualClock::new();
     let [one, two, three] = of(journal, &clock);
     let gone = one.resumed(1).unwrap();
-    assert_eq!(gone.try_receive(&mut [0; 8]), Ok(Received { len: 4, priority: 3 }));
+    assert_eq!(gone.try_receive(&mut [0; 8]), Ok(Received::new(4, 3)));
     assert_eq!(one.open("/gone", OpenOptions::read()).unwrap_err(), Error::NoEntry);
     assert_eq!((one.next_notice(), one.next_notice()), (Ok(Some(7)), Ok(None)));
     let queue = one.open("/q", OPTIONS).unwrap();
@@ -61,7 +62,7 @@ fn goes_on(journal: &Journal) {
     assert_eq!(here.send(b"", 0), Err(Error::Waiting));
     queue.send(b"second", 1).unwrap();
     let mut buf = [0; 8];
-    assert_eq!(here.collect_receive(&mut buf), Poll::Ready(Ok(Received { len: 6, priority: 1 })));
+    assert_eq!(here.collect_receive(&mut buf), Poll::Ready(Ok(Received::new(6, 1))));
 
     let there = three.resumed(0).unwrap();
     assert_eq!(there.collect_receive(&mut buf), Poll::Pending);
@@ -102,7 +103,7 @@ fn an_answered_wait_stays_until_it_is_collected() {
     let here = processes[0].resumed(0).unwrap();
     assert!(here.is_answered());
     let mut buf = [0; 8];
-    assert_eq!(here.collect_receive(&mut buf), Poll::Ready(Ok(Received { len: 3, priority: 1 })));
+    assert_eq!(here.collect_receive(&mut buf), Poll::Ready(Ok(Received::new(3, 1))));
     let journal = processes[0].journal().unwrap();
     assert_eq!(journal.lines().count(), 5);
     assert_eq!(journal.compacted().unwrap().lines().count(), 4);
@@ -113,7 +114,7 @@ fn a_wait_goes_on_in_a_thread() {
     let (_, mut processes) = System::resume(&saved()).unwrap();
     let waits = Queue::resumed(processes.remove(1), 1).unwrap();
     let queue = processes[0].open("/q", OPTIONS).unwrap();
-    let waiter = thread::spawn(move || waits.wait(Duration::from_secs(60)));
+    let waiter = thread::spawn(move || waits.wait_timeout(Duration::from_secs(60)));
     queue.send(b"woken", 0).unwrap();
     assert!(waiter.join().unwrap());
 }
@@ -127,15 +128,18 @@ fn what_is_refused_names_its_line() {
     assert_eq!(refused("0 1 notice -> notice none\n1 1 not"), ResumeError::BadLine(2));
     assert_eq!(refused(journal.as_str().trim_end()), ResumeError::BadLine(lines));
     assert_eq!(refused("0 1 close 0 -> ok\n"), ResumeError::Illegal(1));
-    assert_eq!(refused("0 33 notice -> notice none\n"), ResumeError::Illegal(1));
+    assert_eq!(refused("0 33 notice -> notice none\n"), ResumeError::BadLine(1));
+    assert_eq!(refused("0 1.65 notice -> notice none\n"), ResumeError::Illegal(1));
+    assert_eq!(refused("0 1.2 notice -> notice none\n"), ResumeError::Foreign(1));
     assert_eq!(Journal::from("0 1 close 0 -> ok\n").compacted(), Err(ResumeError::Illegal(1)));
     let few = System::builder().processes(2).resume(&journal).unwrap_err();
     assert!(matches!(few, ResumeError::Foreign(line) if line < lines));
     for count in [0, 33] {
         let refused = System::builder().processes(count).resume(&journal).unwrap_err();
-        assert_eq!(refused, ResumeError::Refused(Error::Invalid));
+        assert_eq!(refused, ResumeError::Refused(Invalid::Processes(count).into()));
     }
-    assert_eq!(Error::from(few), Error::Invalid);
+    let ResumeError::Foreign(line) = few else { unreachable!("it is") };
+    assert_eq!(Error::from(few), Error::Invalid(Invalid::Line(line)));
 }
 
 /// A wait without a deadline in the journal, as C and `mqlog` write it, can't be cancelled. Its
@@ -149,7 +153,7 @@ fn a_wait_without_a_deadline_stays() {
         assert!(!queue.cancel() && processes[0].is_waiting());
         processes[1].open("/q", OPTIONS).unwrap().send(b"late", 0).unwrap();
         assert!(queue.is_answered() && !queue.cancel());
-        assert_eq!(queue.receive(&mut [0; 8]), Ok(Received { len: 4, priority: 0 }));
+        assert_eq!(queue.receive(&mut [0; 8]), Ok(Received::new(4, 0)));
     }
     let (_, processes) = System::resume(&Journal::from(text)).unwrap();
     drop(processes);

@@ -27,7 +27,7 @@ fn receive_all(process: Process, rounds: u32) -> (Process, u64) {
     let mut sum = 0;
     for _ in 0..rounds {
         let mut message = [0; 8];
-        assert_eq!(queue.receive(&mut message), Ok(Received { len: 8, priority: 3 }));
+        assert_eq!(queue.receive(&mut message), Ok(Received::new(8, 3)));
         let sender = u32::from_le_bytes(message[..4].try_into().unwrap()) as usize;
         let number = u32::from_le_bytes(message[4..].try_into().unwrap());
         assert!(number >= next[sender]);
@@ -104,7 +104,7 @@ fn a_receive_that_waits_is_answered_by_another_thread() {
     thread::sleep(Duration::from_millis(50));
     here.unlink("/late").unwrap();
     queue.send(b"late", 9).unwrap();
-    assert_eq!(waiter.join().unwrap(), (Ok(Received { len: 4, priority: 9 }), *b"late\0\0\0\0"));
+    assert_eq!(waiter.join().unwrap(), (Ok(Received::new(4, 9)), *b"late\0\0\0\0"));
     assert!(here.journal().unwrap().lines().any(|line| line.contains("-> handed")));
 }
 
@@ -132,12 +132,12 @@ fn a_deadline_ends_a_wait_and_leaves_the_process_free() {
     let mut buf = [0; 8];
     let timeout = Duration::from_millis(30);
     let start = Instant::now();
-    assert_eq!(queue.receive_until(&mut buf, timeout), Err(Error::TimedOut));
+    assert_eq!(queue.receive_timeout(&mut buf, timeout), Err(Error::TimedOut));
     assert!(start.elapsed() >= timeout);
     queue.send(b"a", 0).unwrap();
-    assert_eq!(queue.send_until(b"b", 0, timeout), Err(Error::TimedOut));
+    assert_eq!(queue.send_timeout(b"b", 0, timeout), Err(Error::TimedOut));
     assert!(start.elapsed() >= 2 * timeout);
-    assert_eq!(queue.receive(&mut buf), Ok(Received { len: 1, priority: 0 }));
+    assert_eq!(queue.receive(&mut buf), Ok(Received::new(1, 0)));
     assert_eq!(queue.try_receive(&mut buf), Err(Error::Again));
 }
 
@@ -146,11 +146,11 @@ fn a_wait_with_a_deadline_is_answered_before_that() {
     let [here, there] = two();
     let queue = here.open("/q", OPTIONS).unwrap();
     let waiter = thread::spawn(move || {
-        there.open("/q", OPTIONS).unwrap().receive_until(&mut [0; 8], Duration::from_secs(60))
+        there.open("/q", OPTIONS).unwrap().receive_timeout(&mut [0; 8], Duration::from_secs(60))
     });
     thread::sleep(Duration::from_millis(30));
     queue.send(b"in time", 1).unwrap();
-    assert_eq!(waiter.join().unwrap(), Ok(Received { len: 7, priority: 1 }));
+    assert_eq!(waiter.join().unwrap(), Ok(Received::new(7, 1)));
 }
 
 #[test]
@@ -166,5 +166,57 @@ fn a_process_goes_from_thread_to_thread_with_what_it_has_open() {
         thread::spawn(move || give.send(Queue::open(there, "/q", OPTIONS).unwrap()).unwrap());
     first.join().unwrap();
     assert_eq!(last.join().unwrap(), Ok(()));
-    assert_eq!(queue.receive(&mut [0; 8]), Ok(Received { len: 5, priority: 0 }));
+    assert_eq!(queue.receive(&mut [0; 8]), Ok(Received::new(5, 0)));
+}
+
+/// How often a thread of this process has gone to sleep.
+#[cfg(target_os = "linux")]
+fn sleeps_of(thread: &std::path::Path) -> u64 {
+    let status = std::fs::read_to_string(thread.join("status")).unwrap();
+    let line = status.lines().find(|line| line.starts_with("voluntary_ctxt_switches:")).unwrap();
+    line.rsplit('\t').next().unwrap().trim().parse().unwrap()
+}
+
+// Eight threads that wait for a message, one of them until a deadline that is far away, make no
+// context switch in five seconds.
+#[cfg(target_os = "linux")]
+#[test]
+fn who_waits_for_a_message_sleeps_until_it_comes() {
+    let (_, [last, waiting @ ..]): (_, [Process; 9]) =
+        System::builder().processes(9).build_array().unwrap();
+    let (tell, told) = mpsc::channel();
+    let waiters = waiting.map(|process| {
+        let tell = tell.clone();
+        thread::spawn(move || {
+            let name = format!("/{}", process.number());
+            let queue = Queue::open(process, &name, OPTIONS).unwrap();
+            let own = std::fs::read_link("/proc/thread-self").unwrap();
+            tell.send(std::path::Path::new("/proc").join(own)).unwrap();
+            match name.as_str() {
+                "/2" => queue.receive_timeout(&mut [0; 8], Duration::from_secs(3600)),
+                _ => queue.receive(&mut [0; 8]),
+            }
+        })
+    });
+    let threads: Vec<_> = told.iter().take(8).collect();
+    let sleeps = || threads.iter().map(|thread| sleeps_of(thread)).sum::<u64>();
+    // Until each has gone to sleep, at most for ten seconds.
+    let mut before = sleeps();
+    for _ in 0..20 {
+        thread::sleep(Duration::from_millis(500));
+        let now = sleeps();
+        if now == before {
+            break;
+        }
+        before = now;
+    }
+    thread::sleep(Duration::from_secs(5));
+    let now = sleeps();
+    for number in 2..10 {
+        last.open(format!("/{number}"), OPTIONS).unwrap().send(b"x", 0).unwrap();
+    }
+    for waiter in waiters {
+        assert_eq!(waiter.join().unwrap(), Ok(Received::new(1, 0)));
+    }
+    assert_eq!(now, before);
 }

@@ -28,6 +28,8 @@ fn last_call(queue: &Queue<Process>) -> String {
     journal.lines().last().unwrap().splitn(3, ' ').last().unwrap().to_string()
 }
 
+type Receive = fn(&System, &Queue<&Process>, &mut [u8]) -> Result<Received, Error>;
+
 #[test]
 fn real_time_is_the_default() {
     let (system, [process]) = System::builder().build_array().unwrap();
@@ -35,25 +37,27 @@ fn real_time_is_the_default() {
     let before = Monotonic.now();
     assert!(system.now() >= before);
     let mut buf = [0; 8];
-    let deadlines: [fn(&System) -> Deadline; 3] = [
-        |_| Deadline::from(20 * MILLI),
-        |_| Deadline::from(Instant::now() + 20 * MILLI),
-        |system| Deadline::Moment(system.now() + 20 * MILLI),
+    let receives: [Receive; 3] = [
+        |_, queue, buf| queue.receive_timeout(buf, 20 * MILLI),
+        |_, queue, buf| queue.receive_deadline(buf, Instant::now() + 20 * MILLI),
+        |system, queue, buf| {
+            queue.receive_deadline(buf, Deadline::Moment(system.now() + 20 * MILLI))
+        },
     ];
-    for deadline in deadlines {
+    for receive in receives {
         let start = Instant::now();
-        assert_eq!(queue.receive_until(&mut buf, deadline(&system)), Err(Error::TimedOut));
+        assert_eq!(receive(&system, &queue, &mut buf), Err(Error::TimedOut));
         assert!((20 * MILLI..10_000 * MILLI).contains(&start.elapsed()), "{:?}", start.elapsed());
     }
     let past = Instant::now();
-    assert_eq!(queue.receive_until(&mut buf, past), Err(Error::TimedOut));
+    assert_eq!(queue.receive_deadline(&mut buf, past), Err(Error::TimedOut));
     assert_eq!(
-        queue.receive_until(&mut buf, Deadline::Moment(Duration::ZERO)),
+        queue.receive_deadline(&mut buf, Deadline::Moment(Duration::ZERO)),
         Err(Error::TimedOut)
     );
     queue.send(b"full", 0).unwrap();
-    assert_eq!(queue.send_until(b"more", 0, past), Err(Error::TimedOut));
-    assert_eq!(queue.receive_until(&mut buf, past), Ok(Received { len: 4, priority: 0 }));
+    assert_eq!(queue.send_deadline(b"more", 0, past), Err(Error::TimedOut));
+    assert_eq!(queue.receive_deadline(&mut buf, past), Ok(Received::new(4, 0)));
 }
 
 #[test]
@@ -62,18 +66,21 @@ fn in_virtual_time_a_wait_takes_no_time() {
     let (system, queue) = by_clock(clock.clone());
     let start = Instant::now();
     for round in 1..=1000 {
-        assert_eq!(queue.receive_until(&mut [0; 8], HOUR), Err(Error::TimedOut));
+        assert_eq!(queue.receive_timeout(&mut [0; 8], HOUR), Err(Error::TimedOut));
         assert_eq!((clock.now(), system.now()), (round * HOUR, round * HOUR));
     }
     queue.send(b"full", 0).unwrap();
-    assert_eq!(queue.send_until(b"more", 0, Deadline::Moment(2000 * HOUR)), Err(Error::TimedOut));
+    assert_eq!(
+        queue.send_deadline(b"more", 0, Deadline::Moment(2000 * HOUR)),
+        Err(Error::TimedOut)
+    );
     assert_eq!(clock.now(), 2000 * HOUR);
-    assert_eq!(queue.send_until(b"more", 0, Deadline::Moment(HOUR)), Err(Error::TimedOut));
+    assert_eq!(queue.send_deadline(b"more", 0, Deadline::Moment(HOUR)), Err(Error::TimedOut));
     assert_eq!(clock.now(), 2000 * HOUR, "it does not go back");
-    assert_eq!(queue.receive_until(&mut [0; 8], HOUR).map(|received| received.len), Ok(4));
+    assert_eq!(queue.receive_timeout(&mut [0; 8], HOUR).map(|received| received.len), Ok(4));
     assert_eq!(clock.now(), 2000 * HOUR, "it did not wait");
     assert!(start.elapsed() < HOUR);
-    assert_eq!(queue.receive_until(&mut [0; 8], Duration::MAX), Err(Error::TimedOut));
+    assert_eq!(queue.receive_timeout(&mut [0; 8], Duration::MAX), Err(Error::TimedOut));
 }
 
 #[test]
@@ -81,12 +88,12 @@ fn the_journal_has_virtual_time() {
     let clock = VirtualClock::new();
     let (_, queue) = by_clock(clock.clone());
     clock.advance(1500 * MILLI);
-    queue.send_until(b"a", 3, MILLI).unwrap();
+    queue.send_timeout(b"a", 3, MILLI).unwrap();
     let sent = "tsend 0 3 1 until 1 501000000 at 1 500000000 \"a\" -> queued";
     assert_eq!(last_call(&queue), sent);
     queue.try_receive(&mut [0; 8]).unwrap();
     assert_eq!(last_call(&queue), "trecv 0 8 until 1 500000000 at 1 500000000 -> got 1");
-    assert_eq!(queue.receive_until(&mut [0; 8], MILLI), Err(Error::TimedOut));
+    assert_eq!(queue.receive_timeout(&mut [0; 8], MILLI), Err(Error::TimedOut));
     assert_eq!(last_call(&queue), "withdraw at 1 501000000 -> withdrawn 3");
 }
 
@@ -108,11 +115,11 @@ fn an_instant_is_real_also_beside_virtual_time() {
     let clock = VirtualClock::new();
     let (_, queue) = by_clock(clock.clone());
     let start = Instant::now();
-    assert_eq!(queue.receive_until(&mut [0; 8], start + 20 * MILLI), Err(Error::TimedOut));
+    assert_eq!(queue.receive_deadline(&mut [0; 8], start + 20 * MILLI), Err(Error::TimedOut));
     assert!(start.elapsed() >= 20 * MILLI);
     assert_eq!(clock.now(), Duration::ZERO);
     let mut buf = [0; 8];
-    assert!(queue.start_receive_until(&mut buf, Instant::now() + 20 * MILLI).is_pending());
+    assert!(queue.start_receive_deadline(&mut buf, Instant::now() + 20 * MILLI).is_pending());
     clock.advance(HOUR);
     assert_eq!(queue.collect_receive(&mut buf), Poll::Pending);
     thread::sleep(25 * MILLI);
@@ -124,19 +131,16 @@ fn a_started_wait_ends_in_virtual_time() {
     let clock = VirtualClock::new();
     let (_, queue) = by_clock(clock.clone());
     let mut buf = [0; 8];
-    assert!(queue.start_receive_until(&mut buf, HOUR).is_pending());
+    assert!(queue.start_receive_timeout(&mut buf, HOUR).is_pending());
     clock.advance(3599 * SECOND);
     assert_eq!(queue.collect_receive(&mut buf), Poll::Pending);
     clock.advance(SECOND);
     assert_eq!(queue.collect_receive(&mut buf), Poll::Ready(Err(Error::TimedOut)));
     queue.send(b"full", 0).unwrap();
-    assert!(queue.start_send_until(b"more", 0, HOUR).is_pending());
+    assert!(queue.start_send_timeout(b"more", 0, HOUR).is_pending());
     clock.advance(HOUR);
     assert_eq!(queue.collect_send(), Poll::Ready(Err(Error::TimedOut)));
-    assert_eq!(
-        queue.start_receive_until(&mut buf, HOUR),
-        Poll::Ready(Ok(Received { len: 4, priority: 0 }))
-    );
+    assert_eq!(queue.start_receive_timeout(&mut buf, HOUR), Poll::Ready(Ok(Received::new(4, 0))));
 }
 
 /// Milliseconds that another thread counts.
@@ -153,7 +157,7 @@ impl Clock for Counted {
 fn a_clock_of_the_program_is_moved_by_another_thread() {
     let clock = Arc::new(Counted::default());
     let (_, queue) = by_clock(Arc::clone(&clock));
-    let waiter = thread::spawn(move || queue.receive_until(&mut [0; 8], 50 * MILLI));
+    let waiter = thread::spawn(move || queue.receive_timeout(&mut [0; 8], 50 * MILLI));
     for _ in 0..49 {
         thread::sleep(MILLI);
         clock.0.fetch_add(1, SeqCst);
@@ -173,8 +177,8 @@ fn a_wait_by_a_clock_that_stands_is_answered() {
     let queue = here.open("/q", QUEUE).unwrap();
     let waiter = thread::spawn(move || {
         let queue = there.open("/q", QUEUE).unwrap();
-        let first = queue.receive_until(&mut [0; 8], MILLI).map(|received| received.len);
-        (first, queue.send_until(b"full", 0, MILLI), queue.send_until(b"more", 0, MILLI))
+        let first = queue.receive_timeout(&mut [0; 8], MILLI).map(|received| received.len);
+        (first, queue.send_timeout(b"full", 0, MILLI), queue.send_timeout(b"more", 0, MILLI))
     });
     thread::sleep(30 * MILLI);
     queue.send(b"in time", 0).unwrap();
@@ -216,7 +220,7 @@ fn a_clock_does_not_end_the_wait_that_asks_it() {
     queue.send(b"full", 0).unwrap();
     let queue = Rc::new(queue);
     MEDDLED.with(|it| *it.borrow_mut() = Some(Rc::clone(&queue)));
-    assert_eq!(queue.send_until(b"more", 0, MILLI), Err(Error::TimedOut));
+    assert_eq!(queue.send_timeout(b"more", 0, MILLI), Err(Error::TimedOut));
     assert!(!queue.process().is_waiting());
     assert_eq!(queue.receive_vec().as_deref(), Ok(b"full".as_slice()));
 }
@@ -237,11 +241,11 @@ fn a_clock_that_panics_leaves_no_open_wait() {
     let clock = Arc::new(Fragile::default());
     let (_, queue) = by_clock(Arc::clone(&clock));
     // The first read computes the limit, the second starts the receive.
-    assert!(catch_unwind(AssertUnwindSafe(|| queue.receive_until(&mut [0; 8], HOUR))).is_err());
+    assert!(catch_unwind(AssertUnwindSafe(|| queue.receive_timeout(&mut [0; 8], HOUR))).is_err());
     assert!(!queue.process().is_waiting());
     clock.0.store(0, SeqCst);
     clock.1.store(true, SeqCst);
-    assert!(queue.start_receive_until(&mut [0; 8], HOUR).is_pending());
+    assert!(queue.start_receive_timeout(&mut [0; 8], HOUR).is_pending());
     clock.0.store(1, SeqCst);
     clock.1.store(false, SeqCst);
     assert!(catch_unwind(AssertUnwindSafe(|| queue.collect_receive(&mut [0; 8]))).is_err());
@@ -250,7 +254,41 @@ fn a_clock_that_panics_leaves_no_open_wait() {
     assert!(queue.cancel());
     // The third read is that of the wait itself.
     clock.0.store(u64::MAX, SeqCst);
-    assert!(catch_unwind(AssertUnwindSafe(|| queue.receive_until(&mut [0; 8], HOUR))).is_err());
+    assert!(catch_unwind(AssertUnwindSafe(|| queue.receive_timeout(&mut [0; 8], HOUR))).is_err());
     assert!(!queue.process().is_waiting());
     assert_eq!(queue.send(b"free", 0), Ok(()));
+}
+
+/// A clock that the test moves.
+#[derive(Clone, Default)]
+struct ByHand(Arc<AtomicU64>);
+
+impl Clock for ByHand {
+    fn now(&self) -> Duration {
+        Duration::from_secs(self.0.load(SeqCst))
+    }
+}
+
+/// How long after the clock has moved a wait ends that had slept for long.
+fn ends_after(pause: Duration) -> Duration {
+    let clock = ByHand::default();
+    let (_, [one, two]) = System::builder().clock(clock.clone()).build_array().unwrap();
+    let waiter = thread::spawn(move || {
+        let queue = one.open("/q", QUEUE).unwrap();
+        assert_eq!(queue.receive_timeout(&mut [0; 8], HOUR), Err(Error::TimedOut));
+        Instant::now()
+    });
+    thread::sleep(pause);
+    clock.0.store(3600, SeqCst);
+    let moved = Instant::now();
+    two.time_has_moved();
+    waiter.join().unwrap().saturating_duration_since(moved)
+}
+
+#[test]
+fn a_wait_ends_once_it_is_told_that_its_clock_has_moved() {
+    // Without being told, such a wait looks every 80 milliseconds.
+    let mut took: Vec<_> = (0..9).map(|k| ends_after((200 + 9 * k) * MILLI)).collect();
+    took.sort();
+    assert!(took[4] < 30 * MILLI, "{took:?}");
 }

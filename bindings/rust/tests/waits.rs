@@ -18,7 +18,7 @@ fn two() -> [Queue<Process>; 2] {
 }
 
 fn got(len: usize, priority: u32) -> Poll<Result<Received, Error>> {
-    Poll::Ready(Ok(Received { len, priority }))
+    Poll::Ready(Ok(Received::new(len, priority)))
 }
 
 #[test]
@@ -28,8 +28,8 @@ fn what_need_not_wait_is_done_at_once() {
     assert_eq!(here.start_send(b"one", 3), Poll::Ready(Ok(())));
     assert_eq!(there.start_receive(&mut buf), got(3, 3));
     assert_eq!(&buf, b"one\0\0\0\0\0");
-    assert_eq!(here.start_send_until(b"two", 4, SOON), Poll::Ready(Ok(())));
-    assert_eq!(there.start_receive_until(&mut buf, SOON), got(3, 4));
+    assert_eq!(here.start_send_timeout(b"two", 4, SOON), Poll::Ready(Ok(())));
+    assert_eq!(there.start_receive_timeout(&mut buf, SOON), got(3, 4));
     assert!(!here.process().is_waiting());
     assert_eq!(here.start_send(b"longer than it may be", 0), Poll::Ready(Err(MessageSize)));
     assert_eq!(here.start_receive(&mut [0; 7]), Poll::Ready(Err(MessageSize)));
@@ -81,10 +81,10 @@ fn every_other_call_fails_while_a_wait_is_open() {
         ("unlink", process.unlink("/q")),
         ("next_notice", process.next_notice().map(drop)),
         ("send", other.send(b"a", 0)),
-        ("send_until", other.send_until(b"a", 0, SOON)),
+        ("send_timeout", other.send_timeout(b"a", 0, SOON)),
         ("try_send", other.try_send(b"a", 0)),
         ("receive", here.receive(&mut buf).map(drop)),
-        ("receive_until", other.receive_until(&mut buf, SOON).map(drop)),
+        ("receive_timeout", other.receive_timeout(&mut buf, SOON).map(drop)),
         ("try_receive", here.try_receive(&mut buf).map(drop)),
         ("receive_vec", here.receive_vec().map(drop)),
         ("attr", other.attr().map(drop)),
@@ -105,7 +105,7 @@ fn every_other_call_fails_while_a_wait_is_open() {
         "that of another queue"
     );
     assert_eq!(here.collect_send(), Poll::Ready(Err(NotWaiting)), "that of a receive");
-    assert!(!other.cancel() && !other.is_answered() && !other.wait(SOON));
+    assert!(!other.cancel() && !other.is_answered() && !other.wait_timeout(SOON));
     // Calls that read the journal are not calls on queues.
     assert_eq!(process.check(), Ok(()));
     assert!(process.journal().is_ok() && process.entry(0).is_ok());
@@ -119,11 +119,11 @@ fn a_deadline_ends_a_wait_when_it_is_collected() {
     let [here, _there] = two();
     let mut buf = [0; 8];
     let start = Instant::now();
-    assert_eq!(here.start_receive_until(&mut buf, SOON), Poll::Pending);
-    assert!(!here.wait(2 * SOON));
+    assert_eq!(here.start_receive_timeout(&mut buf, SOON), Poll::Pending);
+    assert!(!here.wait_timeout(2 * SOON));
     assert!(start.elapsed() >= 2 * SOON);
     assert_eq!(here.collect_receive(&mut buf), Poll::Ready(Err(TimedOut)));
-    assert_eq!(here.start_receive_until(&mut buf, Instant::now()), Poll::Ready(Err(TimedOut)));
+    assert_eq!(here.start_receive_deadline(&mut buf, Instant::now()), Poll::Ready(Err(TimedOut)));
 }
 
 #[test]
@@ -131,12 +131,12 @@ fn a_wait_sleeps_until_it_is_answered() {
     let [here, there] = two();
     let mut buf = [0; 8];
     assert_eq!(here.start_receive(&mut buf), Poll::Pending);
-    assert!(!here.wait(Duration::ZERO));
+    assert!(!here.wait_timeout(Duration::ZERO));
     let sender = thread::spawn(move || {
         thread::sleep(3 * SOON);
         there.send(b"late", 0)
     });
-    assert!(here.wait(Duration::MAX));
+    assert!(here.wait_timeout(Duration::MAX));
     assert_eq!(here.collect_receive(&mut buf), got(4, 0));
     sender.join().unwrap().unwrap();
 }
@@ -194,7 +194,7 @@ type Receive = fn(&Queue<Process>, &mut [u8]) -> Result<Received, Error>;
 fn a_cancelled_receive_that_was_answered_keeps_the_message_for_the_next() {
     let receives: [Receive; 5] = [
         |queue, buf| queue.receive(buf),
-        |queue, buf| queue.receive_until(buf, SOON),
+        |queue, buf| queue.receive_timeout(buf, SOON),
         |queue, buf| queue.try_receive(buf),
         |queue, buf| match queue.start_receive(buf) {
             Poll::Ready(result) => result,
@@ -203,7 +203,7 @@ fn a_cancelled_receive_that_was_answered_keeps_the_message_for_the_next() {
         |queue, buf| {
             let message = queue.receive_vec()?;
             buf[..message.len()].copy_from_slice(&message);
-            Ok(Received { len: message.len(), priority: message.priority })
+            Ok(Received::new(message.len(), message.priority))
         },
     ];
     for receive in receives {
@@ -214,9 +214,9 @@ fn a_cancelled_receive_that_was_answered_keeps_the_message_for_the_next() {
         assert!(!here.cancel());
         let mut buf = [0; 8];
         assert_eq!(here.receive(&mut buf[..3]), Err(MessageSize));
-        assert_eq!(receive(&here, &mut buf), Ok(Received { len: 4, priority: 5 }));
+        assert_eq!(receive(&here, &mut buf), Ok(Received::new(4, 5)));
         assert_eq!(&buf, b"kept\0\0\0\0");
-        assert_eq!(receive(&here, &mut buf), Ok(Received { len: 5, priority: 9 }));
+        assert_eq!(receive(&here, &mut buf), Ok(Received::new(5, 9)));
         assert_eq!(here.process().check(), Ok(()));
     }
 }
