@@ -117,6 +117,11 @@ class Browser:
         for kind in ["mousePressed", "mouseReleased"]:
             self.ask("Input.dispatchMouseEvent", type=kind, x=x, y=y, button="left", clickCount=1)
 
+    def scroll(self, x, y, by):
+        """Turns the wheel over a point, downwards if `by` is positive."""
+        wheel = {"type": "mouseWheel", "x": x, "y": y, "deltaX": 0, "deltaY": by}
+        self.ask("Input.dispatchMouseEvent", **wheel)
+
     def picture(self, path):
         """Writes a screenshot (PNG)."""
         data = self.ask("Page.captureScreenshot", format="png")["data"]

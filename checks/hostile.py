@@ -1,6 +1,7 @@
 """Cases with long, damaged and generated inputs, and inputs without an end."""
 import os
 import subprocess
+import tempfile
 from dataclasses import replace
 
 from cases import Case
@@ -54,6 +55,16 @@ def scripts():
     yield case("one call more", "mqlog run", calls + "1 getattr 0\n", status=2, err=many)
 
 
+# Lines of a million bytes: the begin, the byte after it, and what the error ends with.
+LONG_LINES = (
+    ("", "0", f"'{40 * '0'}..' where the sequence number 0 belongs"),
+    ("0 1 close ", "9", ": close D"),
+    ("0 ", " ", "a thread T from 2"),
+    ('0 1 collect "', "%", "is left out if it is empty"),
+)
+CUT_OFF = "the last line has no line feed: it may be cut off"
+
+
 def journals():
     """Damaged journals, and long ones."""
     with open(f"{TOP}/docs/picture.journal", "rb") as it:
@@ -63,7 +74,7 @@ def journals():
         front, line = text[:end], text[:end].count(b"\n")
         wanted = {"out": (f"legal: {line} {'entry' if line == 1 else 'entries'}, ...",)}
         if front and not front.endswith(b"\n"):
-            wanted = {"status": 2, "err": f"line {line + 1}: no entry\n".encode()}
+            wanted = {"status": 2, "err": f"line {line + 1}: no entry: {CUT_OFF}\n".encode()}
         yield case(f"the first {end} bytes of a journal", "mqlog check", front, **wanted)
     for place in range(count):
         for reply in ("fd 15", "handed 0", "attr 1 2 3 4", "notice 99", "collected 1", "ENOSPC"):
@@ -72,15 +83,21 @@ def journals():
             wanted = {"status": 1, "out": (f"entry {place}: ...",)}
             given = "\n".join(turned) + "\n"
             yield case(f"entry {place} with the reply {reply}", "mqlog check", given, **wanted)
-    bad = {"status": 2, "err": b"line 1: no entry\n"}
-    for front, byte in (("", "0"), ("0 1 close ", "9"), ("0 ", " "), ('0 1 collect "', "%")):
+    for front, byte, reason in LONG_LINES:
         given = f"{front}{1_000_000 * byte}\n"
+        bad = {"status": 2, "err": b"line 1: no entry: ", "reason": f"{reason}\n".encode()}
         yield case(f"a line of a million bytes after {front!r}", "mqlog check", given, **bad)
 
 
-def refused(count, process):
-    """A journal of calls that fail, of the processes that a function gives them."""
-    return "".join(f"{place} {process(place)} close 0 -> EBADF\n" for place in range(count))
+def written(caller):
+    """The word of a caller: its process, and behind a dot its thread, unless that is the first."""
+    thread, process = divmod(caller - 1, 32)
+    return f"{process + 1}.{thread + 1}" if thread > 0 else f"{caller}"
+
+
+def refused(count, caller):
+    """A journal of calls that fail, of the callers that a function gives them."""
+    return "".join(f"{place} {written(caller(place))} close 0 -> EBADF\n" for place in range(count))
 
 
 def has(*found):
@@ -88,24 +105,24 @@ def has(*found):
     return {"parts": tuple(("+", it) for it in found)}
 
 
-# Parts of a journal of twenty entries, and how many each shows.
+# Parts of a journal of twenty entries, and how many each shows: none if it begins behind them.
 MOST = 2**64 - 1
 WINDOWS = (
     ("--from 3 --to 5", 3),
     ("--from 19 --to 19", 1),
-    ("--from 20 --to 30", 0),
+    ("--from 20 --to 30", None),
     ("--from 5 --to 4", 0),
     (f"--from 15 --to {MOST}", 5),
-    (f"--from {MOST} --to {MOST}", 0),
+    (f"--from {MOST} --to {MOST}", None),
 )
 
 
 def pictures():
     """Pictures of long journals and of many processes."""
     lane = '<text class="lane" x="{}" y="{}">{}</text>'
-    mark = '<g class="refused"><circle cx="2460" cy="60" r="4"/>'
-    mark += '<text x="2520" y="64">0 100 close 0 -&gt; EBADF</text></g>'
-    found = has(lane.format(2460, 48, "others"), lane.format(60, 48, 56), mark)
+    mark = '<g class="refused"><circle cx="2460" cy="124" r="4"/>'
+    mark += '<text x="2520" y="128">4 32.3 close 0 -&gt; EBADF</text></g>'
+    found = has(lane.format(2460, 48, "others"), lane.format(60, 48, "1.3"), mark)
     many = refused(45, lambda place: 100 - place)
     yield case("the last of 41 lanes is that of all others", "mqlog draw", many, **found)
     found = has(*(lane.format(60, y, 1) for y in (48, 864, 1680)))
@@ -115,7 +132,12 @@ def pictures():
     yield case("at most 2,000 entries", "mqlog draw", longest, parts=((2_000, "<g "),))
     for window, count in WINDOWS:
         twenty = refused(20, lambda place: place % 3)
-        yield case(f"a part {window}", f"mqlog draw {window}", twenty, parts=((count, "<g "),))
+        found = {"parts": ((count, "<g "),)}
+        if count is None:
+            start = window.split()[1]
+            err = f"--from {start}: the journal has 20 entries\n".encode()
+            found = {"status": 2, "err": err}
+        yield case(f"a part {window}", f"mqlog draw {window}", twenty, **found)
 
 
 # Messages for two processes that each receive some times, and the outcomes and deadlocks. If there
@@ -155,10 +177,28 @@ def hostile_cases():
 # Inputs of which a program reads no more than it has to: the begin, what follows without an end,
 # the most bytes that it may take, and the error.
 ENDLESS = (
-    ("mqlog check", b"y\n", b"", 2, "line 1: no entry"),
-    ("mqlog judge", b"33 0 10 close 0 -> EBADF\n", b"", 25, "line 1: no entry"),
-    ("mqlog check", b"", b"0", MOST_LINE + READ, "line 1: no entry"),
-    ("mqlog check", b"", b"\0", READ, "line 1: no entry"),
+    ("mqlog check", b"y\n", b"", 2, "line 1: no entry: 'y' where the sequence number 0 belongs"),
+    (
+        "mqlog judge",
+        b"33 0 10 close 0 -> EBADF\n",
+        b"",
+        25,
+        "line 1: no entry: '33' where PROCESS belongs, a number from 1 to 32: PROCESS BEGIN END",
+    ),
+    (
+        "mqlog check",
+        b"",
+        b"0",
+        MOST_LINE + READ,
+        f"line 1: no entry: a line has at most {MOST_LINE} bytes",
+    ),
+    (
+        "mqlog check",
+        b"",
+        b"\0",
+        READ,
+        "line 1: no entry: the byte 00 in column 1 is not printable ASCII; a payload has it as %00",
+    ),
     ("mqrun", b"processes 1\n", b"#", MOST_BYTES + 1, "line 2: bad call"),
 )
 
@@ -216,10 +256,30 @@ def wrong_failure(words, file, fails):
     return None if found == wanted else f"{found}, not {wanted}"
 
 
+# A script of one process that sends and receives 240 messages of 4,000 bytes, and the most memory
+# that trying its only interleaving takes, in KiB. With a key of each state it took 1,753 MB.
+LONG_MESSAGES = "processes 1\n1 open /q bcn 2 65536\n"
+LONG_MESSAGES += 240 * f"1 send 0 1 {4_000 * 'x'}\n1 recv 0 65536\n"
+MOST_MEMORY = 100 * 1024
+
+
+def wrong_memory():
+    """What is wrong with the memory that the interleavings of long messages take, or None."""
+    with tempfile.TemporaryFile() as given, open(os.devnull, "wb") as output:
+        given.write(LONG_MESSAGES.encode())
+        given.seek(0)
+        with subprocess.Popen([PROGRAMS["mqlog"], "orders"], stdin=given, stdout=output) as ran:
+            _, status, used = os.wait4(ran.pid, 0)
+            ran.returncode = os.waitstatus_to_exitcode(status)
+    well = ran.returncode == 0 and used.ru_maxrss <= MOST_MEMORY
+    return None if well else f"status {ran.returncode}, and {used.ru_maxrss} KiB"
+
+
 def hostile_streams():
     """Names of further runs, each with what is wrong with it."""
     for it in ENDLESS:
         yield f"streams: {it[0]} of an input without an end, {it[1] + it[2]}", wrong_endless(*it)
+    yield "streams: mqlog orders of long messages", wrong_memory()
     for words, file in TASKS:
         for fails in ("input", "output"):
             yield f"streams: {words} with an {fails} that fails", wrong_failure(words, file, fails)

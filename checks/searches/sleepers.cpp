@@ -11,6 +11,7 @@
 //   noown        as library, but who is about to sleep does not wake those at its own flag
 //   handles      that of c/wait.c, without time-outs
 //   unchained    as handles, but who announced at a flag and goes on wakes nobody there
+//   anywhere     as handles, but a try of a call may end at each point, and the process sleeps there
 // In each of them a thread may also wake for no reason, but for handles.
 #include <array>
 #include <cstdint>
@@ -75,14 +76,14 @@ struct World {
 };
 
 struct Protocol {
-    bool in_c, polls_first, restores, chains, wakes_own, goes_on;
+    bool in_c, polls_first, restores, chains, wakes_own, goes_on, stops_anywhere;
 };
 
 Protocol protocol_of(const std::string &name)
 {
-    const bool in_c = name == "handles" || name == "unchained";
+    const bool in_c = name == "handles" || name == "unchained" || name == "anywhere";
     return {in_c, name == "early", name != "nostore", name != "nochain", name != "noown",
-        name == "handles"};
+        in_c && name != "unchained", name == "anywhere"};
 }
 
 class Machine {
@@ -205,6 +206,11 @@ void Machine::awake(World w, int i, std::vector<World> &out) const
             p.phase = how.in_c ? CheckY : ReadCount;
         if (before == Leaving && !how.goes_on)
             p.announced = 0;
+        if (how.stops_anywhere && p.point != Inside && before != Inside && before != Leaving) {
+            out.push_back(w);
+            p.word = word_at(p.point);
+            p.phase = CheckOwn;
+        }
     } else if (how.goes_on && p.announced > 1 && p.announced - 1 != word_at(before)) {
         p.word = p.announced - 1;
         p.announced = 0;
