@@ -12,7 +12,17 @@ use Rattle.c_handles.specs.contracts.parts.Parts as Parts
 use Rattle.c_handles.specs.contracts.seal.Seal as Sealed
 
 abbrev pub E : Bx
-E = record { row = Deck.the_row; laws = deck.the_row_laws; al = record { row = Heap.the_row; laws = heap.the_row_laws; g = ghosts; d = dict; drops = impl [] tnil dnil } }
+E = record {
+  row = Deck.the_row;
+  laws = deck.the_row_laws;
+  al = record {
+    row = Heap.the_row;
+    laws = heap.the_row_laws;
+    g = ghosts;
+    d = dict;
+    drops = impl [] tnil dnil;
+  };
+}
 
 abbrev pub FromParts : Slot 0
 FromParts = plain (λ _. Parts.the_row Deck.the_row Heap.the_row ghosts)

@@ -23,12 +23,15 @@ unmapped f (Some x) e = absurd (cc)
 
 -- nor if no buffer is needed
 pub no_room : (past : Past) (p : ℕ) → waiting_room past p ≡ None → wait_deadline past p ≡ None
-no_room past p e = deadline-none past p (unmapped (λ w. room_of (waiting_call past p)) (open_wait past p) e)
+no_room past p e = deadline-none past p (unmapped (λ w. room_of (waiting_call past p))
+    (open_wait past p) e)
 
 -- that before all records
-pub deadline_whole : (past : Past) (k p : ℕ) → k ≡ length past → wait_deadline (first k past) p ≡ wait_deadline past p
+pub deadline_whole : (past : Past) (k p : ℕ) → k ≡ length past → wait_deadline (first k past) p ≡
+    wait_deadline past p
 deadline_whole past k p e = ap (λ it. wait_deadline it p) (first-all past k e)
 
 -- what leaves no record of the process leaves its deadline
-pub same_deadline : (old new t : Ticket Record) (until : Option Deadline) → Calls old new [] → old ≡ t → until ≡ wait_deadline t.left t.number → until ≡ wait_deadline new.left new.number
+pub same_deadline : (old new t : Ticket Record) (until : Option Deadline) → Calls old new [] →
+    old ≡ t → until ≡ wait_deadline t.left t.number → until ≡ wait_deadline new.left new.number
 same_deadline old new t until s same is = grind (arith, deadline-grown)

@@ -74,7 +74,12 @@ message_got before (Ok None) = before
 message_got before (Err fault) = before
 
 abbrev pub attributes_of : Status → Attributes
-attributes_of s = record { maxmsg = s.maxmsg; msgsize = s.msgsize; curmsgs = s.curmsgs; nonblock = s.nonblock }
+attributes_of s = record {
+  maxmsg = s.maxmsg;
+  msgsize = s.msgsize;
+  curmsgs = s.curmsgs;
+  nonblock = s.nonblock;
+}
 
 abbrev pub attributes_got : Attributes → Result Status Fault → Attributes
 attributes_got before (Ok status) = attributes_of status

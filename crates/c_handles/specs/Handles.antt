@@ -12,4 +12,5 @@ process_in h = option_map (λ (m : Member). ticket_of m.standing) h.seal.member
 
 -- whether it has an acquisition in progress
 abbrev pub under_way_in : Handle → Bool
-under_way_in h = unwrap_or (option_map (λ (m : Member). is_under_way m.standing) h.seal.member) false
+under_way_in h = unwrap_or (option_map (λ (m : Member). is_under_way m.standing) h.seal.member)
+    false

@@ -24,7 +24,8 @@ Reads old new = Calls old new [] × KeepsAnswered old new
 -- call. It is 27 if the journal is not stored.
 abbrev pub Checks : Option (Ticket Record) → Option (Ticket Record) → ℕ → Type 0
 Checks None None code = code ≡ 18
-Checks (Some old) (Some new) code = ((code ≡ 0) × Reads old new × IsStored old) ⊎ ((code ≡ 16) × (new ≡ old) × IsStored old) ⊎ ((code ≡ 27) × (new ≡ old) × IsUnstored old)
+Checks (Some old) (Some new) code = ((code ≡ 0) × Reads old new × IsStored old) ⊎
+    ((code ≡ 16) × (new ≡ old) × IsStored old) ⊎ ((code ≡ 27) × (new ≡ old) × IsUnstored old)
 Checks None (Some new) code = ⊥
 Checks (Some old) None code = ⊥
 
@@ -59,7 +60,9 @@ WritesRecord place (Some r) w = WritesLine (line_text place r) w
 abbrev pub ReadsAt : ℕ → Option (Ticket Record) → Option (Ticket Record) → Wrote → Type 0
 ReadsAt place None None w = IsUntouched w 18
 ReadsAt place (Some old) (Some new) w =
-    (Reads old new × WritesRecord place (record_at new.left place) w × IsStored old) ⊎ (Reads old new × IsUntouched w 11 × IsStored old) ⊎ ((new ≡ old) × IsUntouched w 16 × IsStored old)
+    (Reads old new × WritesRecord place (record_at new.left place) w × IsStored old) ⊎
+    (Reads old new × IsUntouched w 11 × IsStored old) ⊎ ((new ≡ old) × IsUntouched w 16 ×
+    IsStored old)
     ⊎ ((new ≡ old) × IsUntouched w 27 × IsUnstored old)
 ReadsAt place None (Some new) w = ⊥
 ReadsAt place (Some old) None w = ⊥
@@ -73,7 +76,8 @@ room_shown (Some b) = record { entries = b.entries; bytes = b.bytes }
 abbrev pub GivesRoom : Option (Ticket Record) → Option (Ticket Record) → Room → Room → ℕ → Type 0
 GivesRoom None None before after code = (code ≡ 18) × (after ≡ before)
 GivesRoom (Some old) (Some new) before after code =
-    ((code ≡ 0) × Reads old new × (after ≡ room_shown (room_left (bounds_of old) new.left))) ⊎ ((code ≡ 16) × (new ≡ old) × (after ≡ before))
+    ((code ≡ 0) × Reads old new × (after ≡ room_shown (room_left (bounds_of old) new.left))) ⊎
+    ((code ≡ 16) × (new ≡ old) × (after ≡ before))
 GivesRoom None (Some new) before after code = ⊥
 GivesRoom (Some old) None before after code = ⊥
 
@@ -82,6 +86,8 @@ GivesRoom (Some old) None before after code = ⊥
 abbrev pub GivesNobody : Option (Ticket Record) → Option (Ticket Record) → ℕ → Type 0
 GivesNobody None None code = code ≡ 18
 GivesNobody (Some old) (Some new) code =
-    ((code ≡ 0) × Reads old new × NobodyCanCall (bounds_of old) new.left old.lock.count) ⊎ ((code ≡ 26) × Reads old new × (NobodyCanCall (bounds_of old) new.left old.lock.count → ⊥)) ⊎ ((code ≡ 16) × (new ≡ old))
+    ((code ≡ 0) × Reads old new × NobodyCanCall (bounds_of old) new.left old.lock.count) ⊎
+    ((code ≡ 26) × Reads old new × (NobodyCanCall (bounds_of old) new.left old.lock.count → ⊥))
+    ⊎ ((code ≡ 16) × (new ≡ old))
 GivesNobody None (Some new) code = ⊥
 GivesNobody (Some old) None code = ⊥

@@ -31,7 +31,8 @@ pub record IsForeignAt (n : ℕ) (past : Past) (line : ℕ) : Type 0 where
 -- No system of n processes can continue from this journal: an entry is not legal, 30, or is of a
 -- process above n, 31.
 abbrev pub IsNoStart : ℕ → Past → ℕ → ℕ → Type 0
-IsNoStart n past line code = ((code ≡ 30) × IsIllegalAt past line) ⊎ ((code ≡ 31) × IsForeignAt n past line)
+IsNoStart n past line code = ((code ≡ 30) × IsIllegalAt past line) ⊎
+    ((code ≡ 31) × IsForeignAt n past line)
 
 -- the same for the journal of a text
 pub record TextIsNoStart (n : ℕ) (text : List ℕ) (line code : ℕ) : Type 0 where
@@ -51,12 +52,14 @@ pub record TextIsTooLong (bounds : Option Bounds) (text : List ℕ) : Type 0 whe
 abbrev pub IsRefused : Option Bounds → List ℕ → List Handle → ℕ → ℕ → ℕ → Type 0
 IsRefused bounds text handles line after code =
     (HasNoPlace handles code × (after ≡ line)) ⊎ ((code ≡ 11) × (after ≡ line))
-    ⊎ ((code ≡ 13) × (after ≡ line) × TextIsTooLong bounds text) ⊎ ((code ≡ 29) × StopsAt after text)
+    ⊎ ((code ≡ 13) × (after ≡ line) × TextIsTooLong bounds text) ⊎
+    ((code ≡ 29) × StopsAt after text)
     ⊎ TextIsNoStart (length handles) text after code
 
 -- A system with these bounds was made that starts with a journal. `begins` relates that journal to
 -- the one whose text was given, which is not too long for the bounds.
-pub record GoesOn (begins : Past → Past → Type 0) (bounds : Option Bounds) (text : List ℕ) (old new : List Handle) (code : ℕ) : Type 0 where
+pub record GoesOn (begins : Past → Past → Type 0) (bounds : Option Bounds) (text : List ℕ)
+    (old new : List Handle) (code : ℕ) : Type 0 where
   pub written : Past
   pub of_text : IsTextOf written text
   pub within : is_too_long bounds written ≡ false
@@ -65,6 +68,8 @@ pub record GoesOn (begins : Past → Past → Type 0) (bounds : Option Bounds) (
   pub fills : Fills bounds true past old new code
 
 -- making a system in this way, with the line number before and after
-abbrev pub Resumes : (Past → Past → Type 0) → Option Bounds → List ℕ → List Handle → List Handle → ℕ → ℕ → ℕ → Type 0
+abbrev pub Resumes : (Past → Past → Type 0) → Option Bounds → List ℕ → List Handle → List Handle →
+    ℕ → ℕ → ℕ → Type 0
 Resumes begins bounds text old new line after code =
-    (GoesOn begins bounds text old new code × (after ≡ line)) ⊎ (IsRefused bounds text old line after code × (new ≡ old))
+    (GoesOn begins bounds text old new code × (after ≡ line)) ⊎
+    (IsRefused bounds text old line after code × (new ≡ old))

@@ -23,27 +23,33 @@ pub record IsDeadlineOf (deadlines : List (Option Deadline)) (t : Ticket Record)
 -- handles are unchanged.
 abbrev pub HandsOut : List (Ticket Record) → List Handle → List Handle → ℕ → Type 0
 HandsOut processes old new code =
-    ((code ≡ 0) × (map process_in new ≡ map (λ (t : Ticket Record). Some t) processes)) ⊎ ((code ≡ 11) × (new ≡ old))
+    ((code ≡ 0) × (map process_in new ≡ map (λ (t : Ticket Record). Some t) processes)) ⊎
+    ((code ≡ 11) × (new ≡ old))
 
 -- A system with these bounds, whose journal is stored or not, and whose processes are those of
 -- these handles, in order. Each of them has left this journal.
-pub record Made (bounds : Option Bounds) (stored : Bool) (past : Past) (handles : List Handle) : Type 0 where
+pub record Made (bounds : Option Bounds) (stored : Bool) (past : Past)
+    (handles : List Handle) : Type 0 where
   pub lock : LockId
   pub count : lock.count ≡ length handles
   pub bounds_are : bounds_in lock.fixed ≡ bounds
   pub stored_is : stored_in lock.fixed ≡ stored
-  pub processes : map process_in handles ≡ map (λ (t : Ticket Record). Some t) (tickets_with lock past 1 (length handles))
+  pub processes : map process_in handles ≡ map (λ (t : Ticket Record). Some t)
+      (tickets_with lock past 1 (length handles))
 
 -- The code is 0 and the system was made, for handles that were all empty; or memory was refused,
 -- 11, and the handles are unchanged.
 abbrev pub Fills : Option Bounds → Bool → Past → List Handle → List Handle → ℕ → Type 0
 Fills bounds stored past old new code =
-    ((code ≡ 0) × Made bounds stored past new × (length new ≡ length old) × (list_all is_empty old ≡ true)) ⊎ ((code ≡ 11) × (new ≡ old))
+    ((code ≡ 0) × Made bounds stored past new × (length new ≡ length old) ×
+    (list_all is_empty old ≡ true)) ⊎ ((code ≡ 11) × (new ≡ old))
 
 -- The handles cannot take a system: 24 if one is not empty, or 5 if there are not 1 to 32.
 abbrev pub HasNoPlace : List Handle → ℕ → Type 0
-HasNoPlace handles code = ((code ≡ 24) × (list_all is_empty handles ≡ false)) ⊎ ((code ≡ 5) × ((length handles ≡ 0) ⊎ (32 < length handles)))
+HasNoPlace handles code = ((code ≡ 24) × (list_all is_empty handles ≡ false)) ⊎
+    ((code ≡ 5) × ((length handles ≡ 0) ⊎ (32 < length handles)))
 
 -- making a new system
 abbrev pub Makes : Option Bounds → Bool → List Handle → List Handle → ℕ → Type 0
-Makes bounds stored old new code = Fills bounds stored [] old new code ⊎ (HasNoPlace old code × (new ≡ old))
+Makes bounds stored old new code = Fills bounds stored [] old new code ⊎
+    (HasNoPlace old code × (new ≡ old))

@@ -53,7 +53,14 @@ module _ {I : Type 0} where
   no_plan = plan_of [] [] false
 
   abbrev pub seat_view : At → List I → Fixed → List (Claim I) → Plan I → ℕ → View I
-  seat_view at found fixed claims plan accesses = record { at = at; found = found; fixed = fixed; claims = claims; plan = plan; accesses = accesses }
+  seat_view at found fixed claims plan accesses = record {
+    at = at;
+    found = found;
+    fixed = fixed;
+    claims = claims;
+    plan = plan;
+    accesses = accesses;
+  }
 
   -- One access takes the seat to a point.
   abbrev pub view_at : At → View I → View I
@@ -61,15 +68,18 @@ module _ {I : Type 0} where
 
   -- One access takes the seat into the critical section, with this list found.
   abbrev pub view_inside : At → List I → View I → View I
-  view_inside p found v = seat_view p found v.fixed v.claims (plan_of found [] v.plan.told) (v.accesses + 1)
+  view_inside p found v = seat_view p found v.fixed v.claims (plan_of found [] v.plan.told)
+      (v.accesses + 1)
 
   -- One access, a poll, tells the seat what the word shows.
   abbrev pub view_told : Bool → View I → View I
-  view_told shown v = seat_view v.at v.found v.fixed v.claims (plan_of v.plan.next v.plan.stored (v.plan.told || shown)) (v.accesses + 1)
+  view_told shown v = seat_view v.at v.found v.fixed v.claims (plan_of v.plan.next v.plan.stored
+      (v.plan.told || shown)) (v.accesses + 1)
 
   -- By one access the seat stored the word s of process p, from the list `given`.
   abbrev pub view_marked : ℕ → List I → View I → View I
-  view_marked p given v = seat_view v.at v.found v.fixed v.claims (plan_of given (p ∷ v.plan.stored) v.plan.told) (v.accesses + 1)
+  view_marked p given v = seat_view v.at v.found v.fixed v.claims
+      (plan_of given (p ∷ v.plan.stored) v.plan.told) (v.accesses + 1)
 
   -- the seat with another plan and this number of accesses
   abbrev pub view_planned : Plan I → ℕ → View I → View I
@@ -95,7 +105,8 @@ module _ {I : Type 0} where
   number_in (c ∷ cs) = c.0
 
 -- the rule
-module _ {S I : Type 0} (shows : S → List I) (fixes : S → List ℕ) (author : I → ℕ) (answered : ℕ → List I → Bool) (about : About S) where
+module _ {S I : Type 0} (shows : S → List I) (fixes : S → List ℕ) (author : I → ℕ) (answered : ℕ →
+    List I → Bool) (about : About S) where
   -- The process of the seat is at its point, and the processes joined to it are at Rest.
   abbrev pub Stands : (ℕ → At) → At → List (Claim I) → Type 0
   Stands at p [] = p ≡ Rest
@@ -108,14 +119,17 @@ module _ {S I : Type 0} (shows : S → List I) (fixes : S → List ℕ) (author 
   pub record Fits (at : ℕ → At) (course : Course I) (v : View I) : Type 0 where
     pub stands : Stands at v.at v.claims
     pub found : is_inside v.at ≡ true → v.found ≡ course.now
-    pub planned : is_inside v.at ≡ true → (v.plan.next ≡ course.next) × (v.plan.stored ≡ course.done)
-    pub told : is_inside v.at ≡ false → v.plan.told ≡ true → mark_in course.marks (number_in v.claims) ≡ 1
+    pub planned : is_inside v.at ≡ true → (v.plan.next ≡ course.next) ×
+        (v.plan.stored ≡ course.done)
+    pub told : is_inside v.at ≡ false → v.plan.told ≡ true →
+        mark_in course.marks (number_in v.claims) ≡ 1
     pub good : Each (IsGood fixes author about v.fixed course.now) v.claims
 
   -- The list to come is the current one, or extends it by items of the process in its critical
   -- section.
   abbrev pub Comes : (ℕ → At) → Course I → Type 0
-  Comes at c = (c.next ≡ c.now) ⊎ ((k : ℕ) × (is_inside (at k) ≡ true) × GrowsBy author k c.now c.next)
+  Comes at c = (c.next ≡ c.now) ⊎ ((k : ℕ) × (is_inside (at k) ≡ true) ×
+      GrowsBy author k c.now c.next)
 
   -- `at` has the points of the processes, and `course` the current list, the list to come and the
   -- words s.
@@ -123,8 +137,10 @@ module _ {S I : Type 0} (shows : S → List I) (fixes : S → List ℕ) (author 
     pub at : ℕ → At
     pub course : Course I
     pub world : IsSafeWorld about.count s.words course.marks at
-    pub home : ((i : ℕ) → is_inside (at i) ≡ false) → (st : S) × (s.homes ≡ some (Some st) ∷ []) × (shows st ≡ course.now) × (fixes st ≡ fixes about.state.value)
-    pub away : (i : ℕ) → is_inside (at i) ≡ true → (s.homes ≡ none ∷ []) × (id : ℕ) × (v : View I) × (get_elem? s.views id ≡ some v) × (is_inside v.at ≡ true)
+    pub home : ((i : ℕ) → is_inside (at i) ≡ false) → (st : S) × (s.homes ≡ some (Some st) ∷ []) ×
+        (shows st ≡ course.now) × (fixes st ≡ fixes about.state.value)
+    pub away : (i : ℕ) → is_inside (at i) ≡ true → (s.homes ≡ none ∷ []) × (id : ℕ) × (v : View I) ×
+        (get_elem? s.views id ≡ some v) × (is_inside v.at ≡ true)
     pub comes : Comes at course
     pub idle : ((i : ℕ) → is_inside (at i) ≡ false) → course.done ≡ []
     pub marked : Marked answered about.count course
@@ -213,14 +229,17 @@ module _ {S I : Type 0} where
   -- A line that stores, except the store of 0 to y. A store reports the value stored as the one
   -- found. No other kind of access does: it reports the word that it found, and no seat could show
   -- that this is the value.
-  pub record IsStore (t : Step (Opt S)) (me : Me (Opt S) (View I)) (found : ℕ) (me' : Me (Opt S) (View I)) : Type 0 where
+  pub record IsStore (t : Step (Opt S)) (me : Me (Opt S) (View I)) (found : ℕ)
+      (me' : Me (Opt S) (View I)) : Type 0 where
     pub line : stores_line me.0.at ≡ true
-    pub on : IsOn t (word_stored (number_in me.0.claims) me.0.at) (value_stored (number_in me.0.claims) me.0.at)
+    pub on : IsOn t (word_stored (number_in me.0.claims) me.0.at)
+        (value_stored (number_in me.0.claims) me.0.at)
     pub stores : found ≡ value_stored (number_in me.0.claims) me.0.at
     pub goes : me' ≡ (view_at (after_store me.0.at) me.0, me.1)
 
   -- a line that loads and cannot acquire the lock
-  pub record IsLoad (t : Step (Opt S)) (me : Me (Opt S) (View I)) (found : ℕ) (me' : Me (Opt S) (View I)) : Type 0 where
+  pub record IsLoad (t : Step (Opt S)) (me : Me (Opt S) (View I)) (found : ℕ)
+      (me' : Me (Opt S) (View I)) : Type 0 where
     pub line : loads_line me.0.at ≡ true
     pub on : IsOn t (word_loaded me.0.at) 0
     pub goes : me' ≡ (view_at (after_load me.0.fixed.0 me.0.at found) me.0, me.1)
@@ -229,23 +248,29 @@ module _ {S I : Type 0} (answered : ℕ → List I → Bool) where
   -- The load of the process's own word s, outside the critical section. It tells the seat whether
   -- the word is 1. It finds 1 if an earlier poll did, or if the list that the process left answers
   -- its wait.
-  pub record IsLook (t : Step (Opt S)) (me : Me (Opt S) (View I)) (found : ℕ) (me' : Me (Opt S) (View I)) : Type 0 where
+  pub record IsLook (t : Step (Opt S)) (me : Me (Opt S) (View I)) (found : ℕ)
+      (me' : Me (Opt S) (View I)) : Type 0 where
     pub rests : me.0.at ≡ Rest
     pub on : IsOn t (me.0.fixed.0 + 1 + number_in me.0.claims) 0
     pub goes : me' ≡ (view_told (found == 1) me.0, me.1)
     pub again : me.0.plan.told ≡ true → found ≡ 1
     pub left : answered (number_in me.0.claims) (last_left me.0.claims) ≡ true → found ≡ 1
 
-module _ {S I : Type 0} (shows : S → List I) (fixes : S → List ℕ) (author : I → ℕ) (answered : ℕ → List I → Bool) where
+module _ {S I : Type 0} (shows : S → List I) (fixes : S → List ℕ) (author : I → ℕ) (answered : ℕ →
+    List I → Bool) where
   -- A line that loads, and acquires the lock if and only if it finds the number of the process.
   -- Then the seat has the state, whose list extends the one that the process left by items of
   -- others. If a poll of the process was true, the list answers its wait.
-  pub record IsTest (t : Step (Opt S)) (me : Me (Opt S) (View I)) (found : ℕ) (me' : Me (Opt S) (View I)) : Type 0 where
+  pub record IsTest (t : Step (Opt S)) (me : Me (Opt S) (View I)) (found : ℕ)
+      (me' : Me (Opt S) (View I)) : Type 0 where
     pub line : tests_line me.0.at ≡ true
     pub on : IsOn t (word_loaded me.0.at) 0
     pub refused : found ≢ number_in me.0.claims → me' ≡ (view_at (point_refused me.0.at) me.0, me.1)
-    pub admitted : found ≡ number_in me.0.claims → (st : S) × (me' ≡ (view_inside (point_admitted me.0.at) (shows st) me.0, (0, Some st) ∷ [])) × (fixes st ≡ me.0.fixed.1)
-        × Grows author (number_in me.0.claims) (last_left me.0.claims) (shows st) [] × (me.0.plan.told ≡ true → answered (number_in me.0.claims) (shows st) ≡ true)
+    pub admitted : found ≡ number_in me.0.claims →
+        (st : S) × (me' ≡ (view_inside (point_admitted me.0.at) (shows st) me.0, (0, Some st) ∷ []))
+        × (fixes st ≡ me.0.fixed.1)
+        × Grows author (number_in me.0.claims) (last_left me.0.claims) (shows st) [] ×
+        (me.0.plan.told ≡ true → answered (number_in me.0.claims) (shows st) ≡ true)
 
 module _ {S I : Type 0} (shows : S → List I) where
   -- the list of the state that a seat has in its slot
@@ -255,7 +280,8 @@ module _ {S I : Type 0} (shows : S → List I) where
   list_in ((i, Some st) ∷ slots) = shows st
 
   -- the store of a word s, in the critical section, with the state in the slot of the seat
-  pub record IsMark (answered : ℕ → List I → Bool) (t : Step (Opt S)) (me : Me (Opt S) (View I)) (found : ℕ) (me' : Me (Opt S) (View I)) : Type 0 where
+  pub record IsMark (answered : ℕ → List I → Bool) (t : Step (Opt S)) (me : Me (Opt S) (View I))
+      (found : ℕ) (me' : Me (Opt S) (View I)) : Type 0 where
     pub inside : is_inside me.0.at ≡ true
     pub process : ℕ
     pub on : IsOn t (me.0.fixed.0 + 1 + process) (flag (answered process (list_in me.1)))
@@ -266,10 +292,12 @@ module _ {S I : Type 0} (shows : S → List I) where
   abbrev pub view_left : Me (Opt S) (View I) → List (ℕ × Opt S) → View I
   view_left me [] = me.0
   view_left me ((i, None) ∷ slots) = me.0
-  view_left me ((i, Some st) ∷ slots) = seat_view Leaving (shows st) me.0.fixed (claims_after (shows st) me.0.claims) no_plan (me.0.accesses + 1)
+  view_left me ((i, Some st) ∷ slots) = seat_view Leaving (shows st) me.0.fixed
+      (claims_after (shows st) me.0.claims) no_plan (me.0.accesses + 1)
 
   -- the store of 0 to y
-  pub record IsLeave (t : Step (Opt S)) (me : Me (Opt S) (View I)) (found : ℕ) (me' : Me (Opt S) (View I)) : Type 0 where
+  pub record IsLeave (t : Step (Opt S)) (me : Me (Opt S) (View I)) (found : ℕ)
+      (me' : Me (Opt S) (View I)) : Type 0 where
     pub inside : is_inside me.0.at ≡ true
     pub on : IsOn t 1 0
     pub stores : found ≡ 0
@@ -284,9 +312,11 @@ module _ {I : Type 0} (answered : ℕ → List I → Bool) where
   -- The words s of n processes match the list that is given back, those that this process did not
   -- store too.
   abbrev pub Shows : ℕ → List I → Plan I → List I → Type 0
-  Shows n found plan given = MayCome plan given × ((q : ℕ) → 1 ≤ q → q ≤ n → has q plan.stored ≡ false → answered q found ≡ answered q given)
+  Shows n found plan given = MayCome plan given × ((q : ℕ) → 1 ≤ q → q ≤ n → has q plan.stored ≡
+      false → answered q found ≡ answered q given)
 
-module _ {S I : Type 0} (shows : S → List I) (fixes : S → List ℕ) (author : I → ℕ) (answered : ℕ → List I → Bool) where
+module _ {S I : Type 0} (shows : S → List I) (fixes : S → List ℕ) (author : I → ℕ) (answered : ℕ →
+    List I → Bool) where
   -- The seat of one process is in its critical section. Its slot has the state to give back, whose
   -- list has grown only by items of the process.
   pub record IsReady (me : Me (Opt S) (View I)) : Type 0 where
@@ -299,10 +329,20 @@ module _ {S I : Type 0} (shows : S → List I) (fixes : S → List ℕ) (author 
 module _ {S I : Type 0} where
   -- what the seat of process k knows, outside and inside its critical section
   abbrev pub ticket_of : ℕ → Seat (Opt S) (View I) → Ticket I
-  ticket_of k s = record { lock = lock_id s.table_id s.me.0.fixed; number = k; left = last_left s.me.0.claims; told = s.me.0.plan.told }
+  ticket_of k s = record {
+    lock = lock_id s.table_id s.me.0.fixed;
+    number = k;
+    left = last_left s.me.0.claims;
+    told = s.me.0.plan.told;
+  }
 
   abbrev pub stay_of : ℕ → Seat (Opt S) (View I) → Ticket I
-  stay_of k s = record { lock = lock_id s.table_id s.me.0.fixed; number = k; left = s.me.0.found; told = s.me.0.plan.told }
+  stay_of k s = record {
+    lock = lock_id s.table_id s.me.0.fixed;
+    number = k;
+    left = s.me.0.found;
+    told = s.me.0.plan.told;
+  }
 
   -- The number of accesses that the seat has made to words of the lock. Each load and each store
   -- counts as one.

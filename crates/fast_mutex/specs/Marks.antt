@@ -39,4 +39,5 @@ module _ {I : Type 0} (answered : ℕ → List I → Bool) where
   -- The word of p is 1 if and only if p is answered: by the list to come if the word was stored in
   -- this critical section, else by the current list.
   abbrev pub Marked : ℕ → Course I → Type 0
-  Marked n c = (length c.marks ≡ n) × ((p : ℕ) → 1 ≤ p → p ≤ n → mark_in c.marks p ≡ flag (answered p (cond (has p c.done) c.next c.now)))
+  Marked n c = (length c.marks ≡ n) × ((p : ℕ) → 1 ≤ p → p ≤ n → mark_in c.marks p ≡
+      flag (answered p (cond (has p c.done) c.next c.now)))

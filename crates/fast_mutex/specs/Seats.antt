@@ -62,7 +62,8 @@ module _ {S I : Type 0} (fixes : S → List ℕ) (author : I → ℕ) (about : A
   -- A claim's number is that of a process, and the current list extends the claim's by items of
   -- others only.
   abbrev pub IsGood : Fixed → List I → Claim I → Type 0
-  IsGood fixed now c = (fixed ≡ made_with fixes about) × (1 ≤ c.0) × (c.0 ≤ about.count) × Grows author c.0 c.1 now []
+  IsGood fixed now c = (fixed ≡ made_with fixes about) × (1 ≤ c.0) × (c.0 ≤ about.count) ×
+      Grows author c.0 c.1 now []
 
 -- How a view of a lock stands for a seat at rest, outside the critical section. `rest` changes the
 -- fixed part and the claims, and nothing else that the seat knows.
@@ -75,7 +76,8 @@ pub record Resting (V I : Type 0) : Type 0 where
   pub blank : V
   pub rest_fixed : (v : V) (f : Fixed) (cs : List (Claim I)) → fixed (rest v f cs) ≡ f
   pub rest_claims : (v : V) (f : Fixed) (cs : List (Claim I)) → claims (rest v f cs) ≡ cs
-  pub rest_again : (v : V) (f g : Fixed) (cs ds : List (Claim I)) → rest (rest v f cs) g ds ≡ rest v g ds
+  pub rest_again : (v : V) (f g : Fixed) (cs ds : List (Claim I)) → rest (rest v f cs) g ds ≡
+      rest v g ds
   pub fresh_told : (f : Fixed) (cs : List (Claim I)) → told (rest blank f cs) ≡ false
 
 module _ {V I : Type 0} (r : Resting V I) where
@@ -105,18 +107,29 @@ module _ {S V I : Type 0} (r : Resting V I) where
 
   -- what the seat of process k knows
   abbrev pub ticket_of : ℕ → Seat (Opt S) V → Ticket I
-  ticket_of k s = record { lock = lock_id s.table_id (r.fixed s.me.0); number = k; left = last_left (r.claims s.me.0); told = r.told s.me.0 }
+  ticket_of k s = record {
+    lock = lock_id s.table_id (r.fixed s.me.0);
+    number = k;
+    left = last_left (r.claims s.me.0);
+    told = r.told s.me.0;
+  }
 
 -- The first seat has the claims of all processes. Each has left the list of the state that the lock
 -- was made with.
 module _ {S V I : Type 0} (r : Resting V I) (shows : S → List I) (fixes : S → List ℕ) where
   abbrev pub first_view : About S → V
-  first_view about = fresh r (made_with fixes about) (new_claims (shows about.state.value) 1 about.count)
+  first_view about = fresh r (made_with fixes about)
+      (new_claims (shows about.state.value) 1 about.count)
 
 -- What the rule of a lock has to keep: seats at rest split and join, and a seat with all claims
 -- finds the state in its slot.
-pub record Deals {S V I : Type 0} (r : Resting V I) (shows : S → List I) (fixes : S → List ℕ) (author : I → ℕ) (about : About S) (holds : State (Opt S) V → Type 0) : Type 0 where
-  pub splits : (id : ℕ) (v : V) (f : Fixed) (c : Claim I) (cs : List (Claim I)) → v ≡ fresh r f (c ∷ cs) → Splits holds id v (view_of_others r v) (view_of_first r v)
-  pub joins : (id : ℕ) (v : V) (other : ℕ) (w : V) (f : Fixed) (cs ds : List (Claim I)) → v ≡ r.rest v f cs → w ≡ r.rest w f ds → Joins holds id v other w (joint_view r v w) r.blank
-  pub ends : (id : ℕ) (v : V) (f : Fixed) (cs : List (Claim I)) (ws : List ℕ) (xs : List (Opt S)) → v ≡ r.rest v f cs → about.count ≤ length cs → Final (Seen holds id v) ws xs
-      → (st : S) × (get_elem? xs 0 ≡ some (Some st)) × (fixes st ≡ fixes about.state.value) × Each (λ (c : Claim I). Grows author c.0 c.1 (shows st) []) cs
+pub record Deals {S V I : Type 0} (r : Resting V I) (shows : S → List I) (fixes : S → List ℕ)
+    (author : I → ℕ) (about : About S) (holds : State (Opt S) V → Type 0) : Type 0 where
+  pub splits : (id : ℕ) (v : V) (f : Fixed) (c : Claim I) (cs : List (Claim I)) →
+      v ≡ fresh r f (c ∷ cs) → Splits holds id v (view_of_others r v) (view_of_first r v)
+  pub joins : (id : ℕ) (v : V) (other : ℕ) (w : V) (f : Fixed) (cs ds : List (Claim I)) →
+      v ≡ r.rest v f cs → w ≡ r.rest w f ds → Joins holds id v other w (joint_view r v w) r.blank
+  pub ends : (id : ℕ) (v : V) (f : Fixed) (cs : List (Claim I)) (ws : List ℕ) (xs : List (Opt S)) →
+      v ≡ r.rest v f cs → about.count ≤ length cs → Final (Seen holds id v) ws xs
+      → (st : S) × (get_elem? xs 0 ≡ some (Some st)) × (fixes st ≡ fixes about.state.value) ×
+      Each (λ (c : Claim I). Grows author c.0 c.1 (shows st) []) cs

@@ -9,9 +9,11 @@ use Rattle.histories.specs.Linearizations.{ComesFrom, IsLinearization}
 use Rattle.histories.specs.Excess.{returns_after}
 
 -- the operation of each record began by this time
-abbrev pub AreBegun : (time : ℕ) (histories : Histories) (past : Past) → IsLinearization histories past → Type 0
+abbrev pub AreBegun : (time : ℕ) (histories : Histories) (past : Past) →
+    IsLinearization histories past → Type 0
 AreBegun time histories [] linear = Unit {0}
-AreBegun time histories (r ∷ past) linear = AreBegun time histories past linear.0 × (linear.2.operation.begin ≤ time)
+AreBegun time histories (r ∷ past) linear = AreBegun time histories past linear.0 ×
+    (linear.2.operation.begin ≤ time)
 
 -- these are the first records of a longer journal, or all of them
 abbrev pub Ends : Past → Past → Type 0
@@ -33,7 +35,8 @@ ends-trans a b (r ∷ c) first second = elim second [
 pub ends-older : (r : Record) (part past : Past) → Ends (r ∷ part) past → Ends part past
 ends-older r part [] ends = absurd (let bad : r ∷ part ≡ [] = ends in cc)
 ends-older r part (s ∷ past) ends = elim ends [
-  | inl same ↦ let tails : part ≡ past = cc in inr (subst (λ (x : Past). Ends x past) (sym tails) (ends-self past))
+  | inl same ↦ let tails : part ≡ past = cc in inr (subst (λ (x : Past). Ends x past) (sym tails)
+      (ends-self past))
   | inr older ↦ inr (ends-older r part past older)
 ]
 
@@ -55,15 +58,20 @@ pub record IsCut (time : ℕ) (histories : Histories) (past : Past) : Type 0 whe
   pub ends : Ends part past
   pub linear : IsLinearization histories part
   pub begun : AreBegun time histories part linear
-  pub through : (i : ℕ) → i < length histories → is_through_by time (current_of histories part i) ≡ true
+  pub through : (i : ℕ) → i < length histories → is_through_by time (current_of histories part i) ≡
+      true
 
-not-before : (o : Option Operation) (begin time : ℕ) → not (ended_before begin o) ≡ true → time < begin → is_through_by time o ≡ true
+not-before : (o : Option Operation) (begin time : ℕ) → not (ended_before begin o) ≡ true →
+    time < begin → is_through_by time o ≡ true
 not-before o begin time late less = grind (arith, ltb-false, lt-ltb)
 
-pub none-left : (histories : Histories) (past : Past) (begin time n i : ℕ) → none_ended histories past begin n ≡ true → time < begin → i < n → is_through_by time (current_of histories past i) ≡ true
+pub none-left : (histories : Histories) (past : Past) (begin time n i : ℕ) →
+    none_ended histories past begin n ≡ true → time < begin → i < n →
+    is_through_by time (current_of histories past i) ≡ true
 none-left histories past begin time zero i none less below = absurd (omega (arith, below))
 none-left histories past begin time (suc n) i none less below =
-    let parts = and_parts (none_ended histories past begin n) (not (ended_before begin (current_of histories past n))) none in
+    let parts = and_parts (none_ended histories past begin n)
+    (not (ended_before begin (current_of histories past n))) none in
     elim (cases_lt i n) [
       | inl inside ↦ none-left histories past begin time n i parts.0 less inside
       | inr last ↦
@@ -72,10 +80,18 @@ none-left histories past begin time (suc n) i none less below =
           subst (λ k. is_through_by time (current_of histories past k) ≡ true) e here
     ]
 
-begun-or-cut : (time : ℕ) (histories : Histories) (past : Past) (linear : IsLinearization histories past) → AreBegun time histories past linear ⊎ IsCut time histories past
+begun-or-cut : (time : ℕ) (histories : Histories) (past : Past)
+    (linear : IsLinearization histories past) → AreBegun time histories past linear ⊎
+    IsCut time histories past
 begun-or-cut time histories [] linear = inl tt
 begun-or-cut time histories (r ∷ past) linear = elim (begun-or-cut time histories past linear.0) [
-  | inr c ↦ inr (record { part = c.part; ends = inr c.ends; linear = c.linear; begun = c.begun; through = c.through })
+  | inr c ↦ inr (record {
+    part = c.part;
+    ends = inr c.ends;
+    linear = c.linear;
+    begun = c.begun;
+    through = c.through;
+  })
   | inl begun ↦
       let from : ComesFrom histories past r = linear.2 in
       elim (cases_lt time from.operation.begin) [
@@ -84,10 +100,12 @@ begun-or-cut time histories (r ∷ past) linear = elim (begun-or-cut time histor
       ]
 ]
 
-pub through-each : (histories : Histories) (past : Past) (n i : ℕ) → are_through histories past n ≡ true → i < n → is_through (current_of histories past i) ≡ true
+pub through-each : (histories : Histories) (past : Past) (n i : ℕ) → are_through histories past n ≡
+    true → i < n → is_through (current_of histories past i) ≡ true
 through-each histories past zero i through below = absurd (omega (arith, below))
 through-each histories past (suc n) i through below =
-    let parts = and_parts (are_through histories past n) (is_through (current_of histories past n)) through in
+    let parts = and_parts (are_through histories past n) (is_through (current_of histories past n))
+    through in
     elim (cases_lt i n) [
       | inl less ↦ through-each histories past n i parts.0 less
       | inr last ↦
@@ -99,7 +117,8 @@ through-by : (o : Option Operation) (time : ℕ) → is_through o ≡ true → i
 through-by o time e = grind arith
 
 -- each complete linearization has such a part
-pub cut : (time : ℕ) (histories : Histories) (past : Past) → IsLinearization histories past → is_complete histories past ≡ true → IsCut time histories past
+pub cut : (time : ℕ) (histories : Histories) (past : Past) → IsLinearization histories past →
+    is_complete histories past ≡ true → IsCut time histories past
 cut time histories past linear complete = elim (begun-or-cut time histories past linear) [
   | inr part ↦ part
   | inl begun ↦ grind (arith, nat_tests, ends-self, through-by, through-each)

@@ -26,7 +26,7 @@ use Rattle.histories.specs.declared.operation.Outcome.{Outcome}
 use Rattle.histories.specs.declared.operation.Outcome.TheVariants as outcomes
 use Rattle.histories.specs.Outcomes.{completes, fits, hands, is_notice, opens, refuses, shows}
 
--- a reply that is no collect's --------------------------------------------------------------------------------------------
+-- a reply that is no collect's --------------------------------------------------------------------
 
 abbrev is_message_of : Option Message → ℕ → List ℕ → Bool
 is_message_of None prio message = false
@@ -59,20 +59,32 @@ notice-shape r value = grind arith
 refuses-shape : (r : Reply) (fault : Fault) → refuses r fault ≡ refuses (shape r) fault
 refuses-shape r fault = grind arith
 
-fits-shape : (past : Past) (r : Reply) (outcome : Outcome) → is_collected r ≡ false → fits past r outcome ≡ fits_of (shape r) (message_given past r) outcome
+fits-shape : (past : Past) (r : Reply) (outcome : Outcome) → is_collected r ≡ false →
+    fits past r outcome ≡ fits_of (shape r) (message_given past r) outcome
 fits-shape past r outcome not = grind (arith, opens-shape, shows-shape, notice-shape, refuses-shape)
 
-pub shape-same : (to : ℕ → ℕ) (x y : Past) (p : Process) (call : Call) (given : List ℕ) → StepsEquivalent to x y p call given → shape (reply_to y p call given) ≡ shape (reply_to x p call given)
-shape-same to x y p call given steps = sym (shape-outline (reply_to y p call given)) ∙ ap shape steps.reply ∙ shape-outline (reply_to x p call given)
+pub shape-same : (to : ℕ → ℕ) (x y : Past) (p : Process) (call : Call) (given : List ℕ) →
+    StepsEquivalent to x y p call given → shape (reply_to y p call given) ≡
+    shape (reply_to x p call given)
+shape-same to x y p call given steps = sym (shape-outline (reply_to y p call given)) ∙
+    ap shape steps.reply ∙ shape-outline (reply_to x p call given)
 
-other-fits : (to : ℕ → ℕ) (x y : Past) (p : Process) (call : Call) (given : List ℕ) (outcome : Outcome) → is_other call ≡ true → StepsEquivalent to x y p call given →
+other-fits : (to : ℕ → ℕ) (x y : Past) (p : Process) (call : Call) (given : List ℕ)
+    (outcome : Outcome) → is_other call ≡ true → StepsEquivalent to x y p call given →
     fits y (reply_to y p call given) outcome ≡ fits x (reply_to x p call given) outcome
-other-fits to x y p call given outcome other steps = grind (arith, message-older, fits-shape, never-collected, shape-same)
+other-fits to x y p call given outcome other steps = grind (
+  arith,
+  message-older,
+  fits-shape,
+  never-collected,
+  shape-same,
+)
 
--- a collect ---------------------------------------------------------------------------------------------------------------
+-- a collect ---------------------------------------------------------------------------------------
 
 -- a send that names a wait hands its message over, and a receive that names one hands nothing over
-hands-send : (past : Past) (p : Process) (call : Call) (reply : Reply) → Says past p call reply → is_some (named_wait reply) ≡ true → hands reply ≡ is_send call
+hands-send : (past : Past) (p : Process) (call : Call) (reply : Reply) → Says past p call reply →
+    is_some (named_wait reply) ≡ true → hands reply ≡ is_send call
 hands-send past p call reply says names = grind (arith, Says)
 
 -- the record of the entry that answered a wait
@@ -90,13 +102,16 @@ answer-of (r ∷ past) p by legal e = split (r.entry.process == p)
     let here : Some (length past) ≡ Some by = rw (other, t) at e in
     let place : length past ≡ by = cc in
     let says : Says past r.entry.process r.entry.call r.entry.reply =
-    subst (λ (y : Reply). Says past r.entry.process r.entry.call y) (sym legal.1.reply) (reply_says past r.entry.process r.entry.call r.payload)
+    subst (λ (y : Reply). Says past r.entry.process r.entry.call y) (sym legal.1.reply)
+    (reply_says past r.entry.process r.entry.call r.payload)
     in
     let P : ℕ → Type 0 = λ k. Answers (r ∷ past) k in
     subst P place (record {
       answering = r;
-      is = ap (λ (b : Bool). if b then Some r else record_at past (length past)) (eq-eqb (length past) (length past) refl);
-      hands_send = hands-send past r.entry.process r.entry.call r.entry.reply says (names-some r.entry.reply (open_wait past p) t);
+      is = ap (λ (b : Bool). if b then Some r else record_at past (length past))
+          (eq-eqb (length past) (length past) refl);
+      hands_send = hands-send past r.entry.process r.entry.call r.entry.reply says
+          (names-some r.entry.reply (open_wait past p) t);
     }))
     (λ f.
     let old : answered_by past p ≡ Some by = rw (other, f) at e in
@@ -111,36 +126,54 @@ answer-of (r ∷ past) p by legal e = split (r.entry.process == p)
     place-some None w t = cc
     place-some (Some k) w t = refl
 
-    names-some : (reply : Reply) (o : Option ℕ) → names_wait reply o ≡ true → is_some (named_wait reply) ≡ true
+    names-some : (reply : Reply) (o : Option ℕ) → names_wait reply o ≡ true →
+        is_some (named_wait reply) ≡ true
     names-some reply None t = cc
     names-some reply (Some w) t = place-some (named_wait reply) w t
 
--- whether a wait that was answered so returns what was seen: by a send of this message, or by a receive
+-- whether a wait that was answered so returns what was seen: by a send of this message, or by a
+-- receive
 abbrev fits_answer : Option Message → Outcome → Bool
 fits_answer m outcomes.Pending = true
 fits_answer m outcomes.Done = not (is_some m)
 fits_answer m (outcomes.Got prio message) = is_message_of m prio message.items
 fits_answer m _ = false
 
-answer-fits : (past : Past) (by : Place) (r : Record) (outcome : Outcome) → record_at past by ≡ Some r → hands r.entry.reply ≡ is_send r.entry.call → fits past (replies.Collected by) outcome ≡ fits_answer (told r) outcome
+answer-fits : (past : Past) (by : Place) (r : Record) (outcome : Outcome) → record_at past by ≡
+    Some r → hands r.entry.reply ≡ is_send r.entry.call → fits past (replies.Collected by) outcome ≡
+    fits_answer (told r) outcome
 answer-fits past by r outcome is handed = grind arith
 
 -- the answers to the wait of a process, by their places
-collect-fits : (to : ℕ → ℕ) (x y : Past) (p : Process) (outcome : Outcome) → EquivalentUnder to x y → (o q : Option Place) → answered_by x p ≡ o → answered_by y p ≡ q → is_some o ≡ true → is_some q ≡ true →
-    fits y (replies.Collected (unwrap_or q 0)) outcome ≡ fits x (replies.Collected (unwrap_or o 0)) outcome
+collect-fits : (to : ℕ → ℕ) (x y : Past) (p : Process) (outcome : Outcome) →
+    EquivalentUnder to x y → (o q : Option Place) → answered_by x p ≡ o → answered_by y p ≡ q →
+    is_some o ≡ true → is_some q ≡ true →
+    fits y (replies.Collected (unwrap_or q 0)) outcome ≡
+    fits x (replies.Collected (unwrap_or o 0)) outcome
 collect-fits to x y p outcome alike (Some a) (Some b) at_x at_y some_x some_y =
     let of_x = answer-of x p a alike.legal.0 at_x in
     let of_y = answer-of y p b alike.legal.1 at_y in
-    let shown_x : answer x p ≡ Some (Some (told of_x.answering)) = ap (λ (o : Option Place). option_map (at told x) o) at_x ∙ ap (λ (o : Option Record). Some (option_map told o)) of_x.is in
-    let shown_y : answer y p ≡ Some (Some (told of_y.answering)) = ap (λ (o : Option Place). option_map (at told y) o) at_y ∙ ap (λ (o : Option Record). Some (option_map told o)) of_y.is in
-    let both : Some (Some (told of_y.answering)) ≡ Some (Some (told of_x.answering)) = sym shown_y ∙ alike.answered p ∙ shown_x in
+    let shown_x : answer x p ≡ Some (Some (told of_x.answering)) =
+    ap (λ (o : Option Place). option_map (at told x) o) at_x ∙
+    ap (λ (o : Option Record). Some (option_map told o)) of_x.is in
+    let shown_y : answer y p ≡ Some (Some (told of_y.answering)) =
+    ap (λ (o : Option Place). option_map (at told y) o) at_y ∙
+    ap (λ (o : Option Record). Some (option_map told o)) of_y.is in
+    let both : Some (Some (told of_y.answering)) ≡ Some (Some (told of_x.answering)) = sym shown_y ∙
+    alike.answered p ∙ shown_x in
     let same : told of_y.answering ≡ told of_x.answering = cc in
-    answer-fits y b of_y.answering outcome of_y.is of_y.hands_send ∙ ap (λ (m : Option Message). fits_answer m outcome) same ∙ sym (answer-fits x a of_x.answering outcome of_x.is of_x.hands_send)
+    answer-fits y b of_y.answering outcome of_y.is of_y.hands_send ∙
+    ap (λ (m : Option Message). fits_answer m outcome) same ∙
+    sym (answer-fits x a of_x.answering outcome of_x.is of_x.hands_send)
 collect-fits to x y p outcome alike _ _ at_x at_y some_x some_y = absurd (cc)
 
--- a call -----------------------------------------------------------------------------------------------------------------
+-- a call ------------------------------------------------------------------------------------------
 
-pub fits-alike : (to : ℕ → ℕ) (x y : Past) (p : Process) (call : Call) (given : List ℕ) (outcome : Outcome) → EquivalentUnder to x y → may_call x p call ≡ true → may_call y p call ≡ true → StepsEquivalent to x y p call given →
+pub fits-alike : (to : ℕ → ℕ) (x y : Past) (p : Process) (call : Call) (given : List ℕ)
+    (outcome : Outcome) → EquivalentUnder to x y → may_call x p call ≡ true → may_call y p call ≡
+    true → StepsEquivalent to x y p call given →
     fits y (reply_to y p call given) outcome ≡ fits x (reply_to x p call given) outcome
-fits-alike to x y p Collect given outcome alike can_x can_y steps = collect-fits to x y p outcome alike (answered_by x p) (answered_by y p) refl refl can_x can_y
-fits-alike to x y p call given outcome alike can_x can_y steps = other-fits to x y p call given outcome refl steps
+fits-alike to x y p Collect given outcome alike can_x can_y steps =
+    collect-fits to x y p outcome alike (answered_by x p) (answered_by y p) refl refl can_x can_y
+fits-alike to x y p call given outcome alike can_x can_y steps =
+    other-fits to x y p call given outcome refl steps

@@ -9,11 +9,13 @@ use Rattle.mq_model.proofs.Frames.{answered_by-none}
 use Rattle.histories.specs.OwnCalls.{ends_wait}
 
 -- a call of its own may be made if the process does not wait
-pub turn-of-own : (past : Past) (p : Process) (call : Call) → ends_wait call ≡ false → may_call past p call ≡ is_none (open_wait past p)
+pub turn-of-own : (past : Past) (p : Process) (call : Call) → ends_wait call ≡ false →
+    may_call past p call ≡ is_none (open_wait past p)
 turn-of-own past p call own = grind arith
 
 -- a process that collects waits
-pub waits-of-collect : (past : Past) (p : Process) → may_call past p Collect ≡ true → is_some (open_wait past p) ≡ true
+pub waits-of-collect : (past : Past) (p : Process) → may_call past p Collect ≡ true →
+    is_some (open_wait past p) ≡ true
 waits-of-collect past p turn = grind (arith, answered_by-none)
 
 pub some-of-none : {A : Type 0} (o : Option A) → is_none o ≡ true → is_some o ≡ false

@@ -21,12 +21,15 @@ total-le f g (suc n) each =
     omega (arith, before, here)
 
 -- one number grows by w at most, and no other does
-pub total-more : (f g : ℕ → ℕ) (n k w : ℕ) → ((i : ℕ) → i ≢ k → g i ≤ f i) → g k ≤ f k + w → total g n ≤ total f n + w
+pub total-more : (f g : ℕ → ℕ) (n k w : ℕ) → ((i : ℕ) → i ≢ k → g i ≤ f i) → g k ≤ f k + w →
+    total g n ≤ total f n + w
 total-more f g zero k w others here = omega arith
-total-more f g (suc n) k w others here = grind (arith, cases_lt, total-le, total-more f g n k w others here)
+total-more f g (suc n) k w others here =
+    grind (arith, cases_lt, total-le, total-more f g n k w others here)
 
 -- one number grows by w at least, and no other falls
-pub total-grows : (f g : ℕ → ℕ) (n k w : ℕ) → k < n → ((i : ℕ) → i ≢ k → f i ≤ g i) → f k + w ≤ g k → total f n + w ≤ total g n
+pub total-grows : (f g : ℕ → ℕ) (n k w : ℕ) → k < n → ((i : ℕ) → i ≢ k → f i ≤ g i) →
+    f k + w ≤ g k → total f n + w ≤ total g n
 total-grows f g zero k w within others here = let k : ⊥ = omega arith in absurd k
 total-grows f g (suc n) k w within others here = elim (cases_lt k n) [
   | inl inside ↦
@@ -45,7 +48,8 @@ abbrev pub of_process : (Vec Operation Global → ℕ) → Option (Vec Operation
 of_process g None = 0
 of_process g (Some v) = g v
 
-pub read : {A : Type 0} (xs : List A) (k : ℕ) (x : A) → slice_get xs k ≡ Some x → (k < length xs) × (get_or xs k x ≡ x)
+pub read : {A : Type 0} (xs : List A) (k : ℕ) (x : A) → slice_get xs k ≡ Some x →
+    (k < length xs) × (get_or xs k x ≡ x)
 read xs k x is = grind (arith, slice_get_within, slice_get-get_or)
 
 pub no-more : {A : Type 0} (xs : List A) (k : ℕ) → slice_get xs k ≡ None → length xs ≤ k
@@ -66,32 +70,42 @@ total-list g histories (suc n) within =
     let before = total-list g histories n (omega (arith, within)) in
     by (slice_get histories n) refl before
   where
-    by : (o : Option (Vec Operation Global)) → slice_get histories n ≡ o → total (λ i. of_process g (slice_get histories i)) n ≡ sum_by g (take n histories) →
-        total (λ i. of_process g (slice_get histories i)) n + of_process g o ≡ sum_by g (take (suc n) histories)
+    by : (o : Option (Vec Operation Global)) → slice_get histories n ≡ o →
+        total (λ i. of_process g (slice_get histories i)) n ≡ sum_by g (take n histories) →
+        total (λ i. of_process g (slice_get histories i)) n + of_process g o ≡
+        sum_by g (take (suc n) histories)
     by None none before = let le = no-more histories n none in absurd (omega (arith, le, within))
     by (Some v) is before =
         let r = read histories n v is in
-        let step : sum_by g (take (n + 1) histories) ≡ sum_by g (take n histories) + g v = sum_by_more g histories n v r.0 ∙ ap (λ (x : Vec Operation Global). sum_by g (take n histories) + g x) r.1 in
+        let step : sum_by g (take (n + 1) histories) ≡ sum_by g (take n histories) + g v =
+        sum_by_more g histories n v r.0 ∙ ap (λ (x : Vec Operation Global). sum_by g
+        (take n histories) + g x) r.1 in
         rw (before, ← add-one, step) refl
 
 -- the sum of a number of each process
-pub total-sum : (g : Vec Operation Global → ℕ) (histories : Histories) → total (λ i. of_process g (slice_get histories i)) (length histories) ≡ sum_by g histories
-total-sum g histories = total-list g histories (length histories) (omega arith) ∙ ap (sum_by g) (take_all (length histories) histories (omega arith))
+pub total-sum : (g : Vec Operation Global → ℕ) (histories : Histories) →
+    total (λ i. of_process g (slice_get histories i)) (length histories) ≡ sum_by g histories
+total-sum g histories = total-list g histories (length histories) (omega arith) ∙ ap (sum_by g)
+    (take_all (length histories) histories (omega arith))
 
--- counts of first operations ---------------------------------------------------------------------------------------------
+-- counts of first operations ----------------------------------------------------------------------
 
-pub count-le : (test : Operation → Bool) (xs : List Operation) (n : ℕ) → count_by test (take n xs) ≤ count_by test xs
+pub count-le : (test : Operation → Bool) (xs : List Operation) (n : ℕ) →
+    count_by test (take n xs) ≤ count_by test xs
 count-le test xs n = sum_by-take-le (λ x. if test x then 1 else 0) xs n
 
-pub count-more : (test : Operation → Bool) (xs : List Operation) (n : ℕ) (o : Operation) → slice_get xs n ≡ Some o →
+pub count-more : (test : Operation → Bool) (xs : List Operation) (n : ℕ) (o : Operation) →
+    slice_get xs n ≡ Some o →
     count_by test (take (n + 1) xs) ≡ count_by test (take n xs) + (if test o then 1 else 0)
 count-more test xs n o is =
     let r = read xs n o is in
     split (test o)
     (λ yes. rw yes (count_by_more_yes test xs n o r.0 (ap test r.1 ∙ yes)))
-    (λ no. let same = count_by_more_no test xs n o r.0 (ap test r.1 ∙ no) in rw no (omega (arith, same)))
+    (λ no. let same = count_by_more_no test xs n o r.0 (ap test r.1 ∙ no) in
+    rw no (omega (arith, same)))
 
-pub count-fewer : (test : Operation → Bool) (xs : List Operation) (m n : ℕ) → m ≤ n → count_by test (take m xs) ≤ count_by test (take n xs)
+pub count-fewer : (test : Operation → Bool) (xs : List Operation) (m n : ℕ) → m ≤ n →
+    count_by test (take m xs) ≤ count_by test (take n xs)
 count-fewer test xs m n le =
     let le' = count-le test (take n xs) m in
     subst (λ ys. count_by test ys ≤ count_by test (take n xs)) (take-take m n xs le) le'

@@ -16,20 +16,25 @@ use Rattle.histories.specs.RealTime.{operation_at}
 use Rattle.histories.proofs.Completing.{completed-free, completed-other, free, made-other, made-own, made-same}
 use Rattle.histories.proofs.Cutting.{AreBegun, Ends}
 
-pub legal-linear : (histories : Histories) (past : Past) → IsLinearization histories past → Legal past
+pub legal-linear : (histories : Histories) (past : Past) → IsLinearization histories past →
+    Legal past
 legal-linear histories [] linear = tt
 legal-linear histories (r ∷ past) linear = (legal-linear histories past linear.0, linear.1)
 
 -- a record that ends no wait is that of its operation
-pub own-call : (histories : Histories) (past : Past) (r : Record) (from : ComesFrom histories past r) → ends_wait r.entry.call ≡ false → IsCallOf r from.operation
+pub own-call : (histories : Histories) (past : Past) (r : Record)
+    (from : ComesFrom histories past r) → ends_wait r.entry.call ≡ false → IsCallOf r from.operation
 own-call histories past r from own = grind arith
 
 -- the current operation of another process stays
-pub current-other : (histories : Histories) (past : Past) (r : Record) (i : ℕ) → (r.entry.process == i + 1) ≡ false → current_of histories (r ∷ past) i ≡ current_of histories past i
+pub current-other : (histories : Histories) (past : Past) (r : Record) (i : ℕ) →
+    (r.entry.process == i + 1) ≡ false → current_of histories (r ∷ past) i ≡
+    current_of histories past i
 current-other histories past r i other = ap (λ (n : ℕ). operation_at histories i n) (rw other refl)
 
 -- the record at this place is of the call of the k-th operation of a process
-pub record IsCallAt (time : ℕ) (histories : Histories) (past : Past) (index k place : ℕ) : Type 0 where
+pub record IsCallAt (time : ℕ) (histories : Histories) (past : Past)
+    (index k place : ℕ) : Type 0 where
   pub before : Past
   pub r : Record
   pub linear : IsLinearization histories (r ∷ before)
@@ -40,8 +45,21 @@ pub record IsCallAt (time : ℕ) (histories : Histories) (past : Past) (index k 
   pub number : completed before (index + 1) ≡ k
   pub own : ends_wait r.entry.call ≡ false
 
-abbrev pub call-older : (time : ℕ) (histories : Histories) (past : Past) (r : Record) (index k place : ℕ) → IsCallAt time histories past index k place → IsCallAt time histories (r ∷ past) index k place
-call-older time histories past r index k place x = record { before = x.before; r = x.r; linear = x.linear; begun = x.begun; ends = inr x.ends; at = x.at; of = x.of; number = x.number; own = x.own }
+abbrev pub call-older : (time : ℕ) (histories : Histories) (past : Past) (r : Record)
+    (index k place : ℕ) → IsCallAt time histories past index k place →
+    IsCallAt time histories (r ∷ past) index k place
+call-older time histories past r index k place x = record {
+  before = x.before;
+  r = x.r;
+  linear = x.linear;
+  begun = x.begun;
+  ends = inr x.ends;
+  at = x.at;
+  of = x.of;
+  number =
+      x.number;
+  own = x.own;
+}
 
 -- the operation in which a process waits, and the record of its call
 pub record IsWaiting (time : ℕ) (histories : Histories) (past : Past) (p w : ℕ) : Type 0 where
@@ -56,15 +74,19 @@ pub record IsWaiting (time : ℕ) (histories : Histories) (past : Past) (p w : �
   pub waits : is_wait r.entry.reply ≡ true
   pub placed : IsCallAt time histories past index (completed past (index + 1)) w
 
-pub ending-waits-not : (past : Past) (r : Record) → IsLegalNext past r → is_wait r.entry.reply ≡ true → ends_wait r.entry.call ≡ false
+pub ending-waits-not : (past : Past) (r : Record) → IsLegalNext past r → is_wait r.entry.reply ≡
+    true → ends_wait r.entry.call ≡ false
 ending-waits-not past r legal waits = grind arith
 
-pub waits-for : (time : ℕ) (histories : Histories) (past : Past) (linear : IsLinearization histories past) → AreBegun time histories past linear → (p w : ℕ) → open_wait past p ≡ Some w → IsWaiting time histories past p w
+pub waits-for : (time : ℕ) (histories : Histories) (past : Past)
+    (linear : IsLinearization histories past) → AreBegun time histories past linear → (p w : ℕ) →
+    open_wait past p ≡ Some w → IsWaiting time histories past p w
 waits-for time histories [] linear begun p w is = absurd (let bad : None ≡ Some w = is in cc)
 waits-for time histories (r ∷ past) linear begun p w is = split (r.entry.process == p)
     (λ own.
     let mine : r.entry.process ≡ p = eqb-true _ _ own in
-    let last : (if is_wait r.entry.reply then Some (length past) else None) ≡ Some w = rw own at is in
+    let last : (if is_wait r.entry.reply then Some (length past) else None) ≡ Some w =
+    rw own at is in
     split (is_wait r.entry.reply)
     (λ waits.
     let here : Some (length past) ≡ Some w = rw waits at last in
@@ -73,8 +95,10 @@ waits-for time histories (r ∷ past) linear begun p w is = split (r.entry.proce
     let mine_too : r.entry.process ≡ from.index + 1 = from.process in
     let quiet = ending-waits-not past r linear.1 waits in
     let none = free past r (from.index + 1) from.process linear.1 quiet in
-    let number : completed past (from.index + 1) ≡ made past (from.index + 1) = completed-free past (from.index + 1) none in
-    let more : made (r ∷ past) (from.index + 1) ≡ made past (from.index + 1) + 1 = made-own past r (from.index + 1) from.process quiet in
+    let number : completed past (from.index + 1) ≡ made past (from.index + 1) =
+    completed-free past (from.index + 1) none in
+    let more : made (r ∷ past) (from.index + 1) ≡ made past (from.index + 1) + 1 =
+    made-own past r (from.index + 1) from.process quiet in
     let still : completed (r ∷ past) (from.index + 1) ≡ completed past (from.index + 1) =
     rw (number, more, eq-eqb r.entry.process (from.index + 1) from.process, waits) (omega arith) in
     record {
@@ -103,7 +127,8 @@ waits-for time histories (r ∷ past) linear begun p w is = split (r.entry.proce
     (λ other.
     let old : open_wait past p ≡ Some w = rw other at is in
     let x = waits-for time histories past linear.0 begun.0 p w old in
-    let apart : (r.entry.process == x.index + 1) ≡ false = subst (λ (k : ℕ). (r.entry.process == k) ≡ false) x.process other in
+    let apart : (r.entry.process == x.index + 1) ≡ false =
+    subst (λ (k : ℕ). (r.entry.process == k) ≡ false) x.process other in
     record {
       index = x.index;
       process = x.process;
@@ -128,7 +153,8 @@ waits-for time histories (r ∷ past) linear begun p w is = split (r.entry.proce
     })
 
 -- the record of the call of an operation, with those before it
-pub record IsMade (time : ℕ) (histories : Histories) (part : Past) (index k : ℕ) (operation : Operation) : Type 0 where
+pub record IsMade (time : ℕ) (histories : Histories) (part : Past) (index k : ℕ)
+    (operation : Operation) : Type 0 where
   pub place : ℕ
   pub placed : IsCallAt time histories part index k place
   pub call : IsCallOf placed.r operation
@@ -136,38 +162,69 @@ pub record IsMade (time : ℕ) (histories : Histories) (part : Past) (index k : 
   pub in_time : none_ended histories placed.before operation.begin (length histories) ≡ true
 
 -- each operation that a process has begun has such a record
-pub made-record : (time : ℕ) (histories : Histories) (past : Past) (linear : IsLinearization histories past) → AreBegun time histories past linear → (index k : ℕ) (operation : Operation) →
-    operation_at histories index k ≡ Some operation → k < made past (index + 1) → IsMade time histories past index k operation
-made-record time histories [] linear begun index k operation is below = absurd (omega (arith, below))
-made-record time histories (r ∷ past) linear begun index k operation is below = elim (cases_lt k (made past (index + 1))) [
-  | inl before ↦
-      let x = made-record time histories past linear.0 begun.0 index k operation is before in
-      record { place = x.place; placed = call-older time histories past r index k x.place x.placed; call = x.call; fits = x.fits; in_time = x.in_time }
-  | inr after ↦ split (r.entry.process == index + 1)
-      (λ own.
-      let mine : r.entry.process ≡ index + 1 = eqb-true _ _ own in
-      split (ends_wait r.entry.call)
-      (λ ends. let same = made-same past r (index + 1) ends in absurd (omega (arith, same, below, after)))
-      (λ quiet.
-      let more = made-own past r (index + 1) mine quiet in
-      let number : k ≡ made past (index + 1) = omega (arith, more, below, after) in
-      let none = free past r (index + 1) mine linear.1 quiet in
-      let done : completed past (index + 1) ≡ k = completed-free past (index + 1) none ∙ sym number in
-      let from : ComesFrom histories past r = linear.2 in
-      let at : from.index ≡ index = let p = from.process in omega (arith, p, mine) in
-      let here : current_of histories past index ≡ Some operation = ap (λ (n : ℕ). operation_at histories index n) done ∙ is in
-      let there : current_of histories past index ≡ Some from.operation = subst (λ (n : ℕ). current_of histories past n ≡ Some from.operation) at from.is in
-      let both : Some from.operation ≡ Some operation = sym there ∙ here in
-      let same : from.operation ≡ operation = cc in
-      record {
-        place = length past;
-        placed = record { before = past; r = r; linear = linear; begun = begun; ends = inl refl; at = refl; of = at; number = done; own = quiet };
-        call = subst (λ (o : Operation). IsCallOf r o) same (own-call histories past r from quiet);
-        fits = subst (λ (o : Operation). fits past r.entry.reply o.outcome ≡ true) same from.fits;
-        in_time = subst (λ (o : Operation). none_ended histories past o.begin (length histories) ≡ true) same from.in_time;
-      }))
-      (λ other. let same = made-other past r (index + 1) (λ e. let k : (r.entry.process == index + 1) ≡ true = eq-eqb _ _ e in let bad : true ≡ false = sym k ∙ other in cc) in absurd (omega (arith, same, below, after)))
-]
+pub made-record : (time : ℕ) (histories : Histories) (past : Past)
+    (linear : IsLinearization histories past) → AreBegun time histories past linear →
+    (index k : ℕ) (operation : Operation) →
+    operation_at histories index k ≡ Some operation → k < made past (index + 1) →
+    IsMade time histories past index k operation
+made-record time histories [] linear begun index k operation is below =
+    absurd (omega (arith, below))
+made-record time histories (r ∷ past) linear begun index k operation is below =
+    elim (cases_lt k (made past (index + 1))) [
+      | inl before ↦
+          let x = made-record time histories past linear.0 begun.0 index k operation is before in
+          record {
+            place = x.place;
+            placed = call-older time histories past r index k x.place x.placed;
+            call = x.call;
+            fits = x.fits;
+            in_time = x.in_time;
+          }
+      | inr after ↦ split (r.entry.process == index + 1)
+          (λ own.
+          let mine : r.entry.process ≡ index + 1 = eqb-true _ _ own in
+          split (ends_wait r.entry.call)
+          (λ ends. let same = made-same past r (index + 1) ends in
+          absurd (omega (arith, same, below, after)))
+          (λ quiet.
+          let more = made-own past r (index + 1) mine quiet in
+          let number : k ≡ made past (index + 1) = omega (arith, more, below, after) in
+          let none = free past r (index + 1) mine linear.1 quiet in
+          let done : completed past (index + 1) ≡ k = completed-free past (index + 1) none ∙
+          sym number in
+          let from : ComesFrom histories past r = linear.2 in
+          let at : from.index ≡ index = let p = from.process in omega (arith, p, mine) in
+          let here : current_of histories past index ≡ Some operation =
+          ap (λ (n : ℕ). operation_at histories index n) done ∙ is in
+          let there : current_of histories past index ≡ Some from.operation =
+          subst (λ (n : ℕ). current_of histories past n ≡ Some from.operation) at from.is in
+          let both : Some from.operation ≡ Some operation = sym there ∙ here in
+          let same : from.operation ≡ operation = cc in
+          record {
+            place = length past;
+            placed = record {
+              before = past;
+              r = r;
+              linear = linear;
+              begun = begun;
+              ends = inl refl;
+              at = refl;
+              of = at;
+              number = done;
+              own = quiet;
+            };
+            call = subst (λ (o : Operation). IsCallOf r o) same
+                (own-call histories past r from quiet);
+            fits = subst (λ (o : Operation). fits past r.entry.reply o.outcome ≡
+                true) same from.fits;
+            in_time = subst (λ (o : Operation). none_ended histories past o.begin
+                (length histories) ≡
+                true) same from.in_time;
+          }))
+          (λ other. let same = made-other past r (index + 1)
+          (λ e. let k : (r.entry.process == index + 1) ≡ true = eq-eqb _ _ e in let bad : true ≡
+          false = sym k ∙ other in cc) in absurd (omega (arith, same, below, after)))
+    ]
 
 -- a record with those before it
 pub record IsAt (time : ℕ) (histories : Histories) (past : Past) (b : ℕ) (r : Record) : Type 0 where
@@ -177,15 +234,29 @@ pub record IsAt (time : ℕ) (histories : Histories) (past : Past) (b : ℕ) (r 
   pub ends : Ends (r ∷ before) past
   pub place : length before ≡ b
 
-pub record-with : (time : ℕ) (histories : Histories) (past : Past) (linear : IsLinearization histories past) → AreBegun time histories past linear → (b : ℕ) (r : Record) → record_at past b ≡ Some r → IsAt time histories past b r
+pub record-with : (time : ℕ) (histories : Histories) (past : Past)
+    (linear : IsLinearization histories past) → AreBegun time histories past linear →
+    (b : ℕ) (r : Record) → record_at past b ≡ Some r → IsAt time histories past b r
 record-with time histories [] linear begun b r at = absurd (let bad : None ≡ Some r = at in cc)
 record-with time histories (s ∷ past) linear begun b r at = split (b == length past)
     (λ t.
     let both : Some s ≡ Some r = rw t at at in
     let same : s ≡ r = cc in
     subst (λ (x : Record). IsAt time histories (s ∷ past) b x) same
-    (record { before = past; linear = linear; begun = begun; ends = inl refl; place = sym (eqb-true _ _ t) }))
+    (record {
+      before = past;
+      linear = linear;
+      begun = begun;
+      ends = inl refl;
+      place = sym (eqb-true _ _ t);
+    }))
     (λ f.
     let old : record_at past b ≡ Some r = rw f at at in
     let x = record-with time histories past linear.0 begun.0 b r old in
-    record { before = x.before; linear = x.linear; begun = x.begun; ends = inr x.ends; place = x.place })
+    record {
+      before = x.before;
+      linear = x.linear;
+      begun = x.begun;
+      ends = inr x.ends;
+      place = x.place;
+    })

@@ -52,7 +52,8 @@ times_sent time prio message histories =
 
 abbrev pub times_received : ℕ → ℕ → List ℕ → Histories → ℕ
 times_received time prio message histories =
-    sum_by (λ (v : Vec Operation Global). count_by (receives prio message) (returned_by time v.items)) histories
+    sum_by (λ (v : Vec Operation Global). count_by (receives prio message)
+    (returned_by time v.items)) histories
 
 -- The counts are right, and by a certain time more receives had returned the message than sends of
 -- it had begun.

@@ -41,7 +41,8 @@ is_marked marks (Some d) = nat_lt d 16 && slice_index_or marks d false
 abbrev pub calls_from : List ℕ → Marks → List Operation → List Operation
 calls_from name marks [] = []
 calls_from name marks (o ∷ operations) =
-    if is_marked marks (descriptor_of o.call) then o ∷ calls_from name (marks_after name marks o) operations
+    if is_marked marks (descriptor_of o.call) then o ∷ calls_from name
+    (marks_after name marks o) operations
     else calls_from name (marks_after name marks o) operations
 
 -- the operations of a process on the queue
@@ -60,7 +61,8 @@ has_any_on name test histories =
 -- one of those on the queue that had returned by this time does
 abbrev pub has_returned_on : ℕ → List ℕ → (Operation → Bool) → Histories → Bool
 has_returned_on time name test histories =
-    list_any (λ (v : Vec Operation Global). list_any test (calls_on name (returned_by time v.items))) histories
+    list_any (λ (v : Vec Operation Global). list_any test
+    (calls_on name (returned_by time v.items))) histories
 
 -- an unlink of the name that did not fail
 abbrev pub has_unlinked : List ℕ → Operation → Bool
@@ -72,7 +74,8 @@ abbrev pub unbinds : ℕ → List ℕ → Operation → Bool
 unbinds time name o =
     nat_le o.begin time && (has_unlinked name o || is_open o.call && is_pending o.outcome)
 
--- Nothing unbinds the name by this time, and no two of the processes are threads of one, which would
+-- Nothing unbinds the name by this time, and no two of the processes are threads of one, which
+-- would
 -- share their descriptors.
 pub record KeepsName (time : ℕ) (name : List ℕ) (histories : Histories) : Type 0 where
   pub few : length histories ≤ most_processes

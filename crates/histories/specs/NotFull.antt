@@ -57,7 +57,8 @@ takes_out o = is_got o.outcome
 -- how many messages may have entered the queue by this time, by all processes
 abbrev pub times_entered : ℕ → List ℕ → Histories → ℕ
 times_entered time name histories =
-    sum_by (λ (v : Vec Operation Global). count_by (enters_by time) (calls_on name v.items)) histories
+    sum_by (λ (v : Vec Operation Global). count_by (enters_by time) (calls_on name v.items))
+    histories
 
 -- how many messages receives from the queue had returned by this time
 abbrev pub times_taken : ℕ → List ℕ → Histories → ℕ
@@ -82,7 +83,8 @@ creates_less time name capacity o =
 -- the queue. Each open of the name that began by `to` gives a new queue that capacity at least.
 -- Nothing unbinds the name until then.
 pub record IsNotFull (histories : Histories) (e : NotFull) : Type 0 where
-  pub full : has_returned_on e.to e.name.items (finds_full e.from e.prio e.message.items) histories ≡ true
+  pub full : has_returned_on e.to e.name.items (finds_full e.from e.prio e.message.items)
+      histories ≡ true
   pub sent : e.sent ≡ times_entered e.to e.name.items histories
   pub received : e.received ≡ times_taken e.from e.name.items histories
   pub fewer : e.sent < e.capacity + e.received

@@ -9,7 +9,8 @@ use Rattle.histories.specs.Histories.{Histories, current_of}
 -- the k-th operation of a process, counted from 0
 abbrev pub operation_at : Histories → ℕ → ℕ → Option Operation
 operation_at histories index k =
-    option_and_then (λ (operations : Vec Operation Global). slice_get operations.items k) (slice_get histories index)
+    option_and_then (λ (operations : Vec Operation Global). slice_get operations.items k)
+    (slice_get histories index)
 
 -- the operations of each process end in order
 abbrev pub EndInOrder : Histories → Type 0
@@ -29,5 +30,6 @@ operation_of histories (r ∷ past) place =
 -- any two records, the operation of the first began no later than that of the second ended.
 abbrev pub AgreesWithRealTime : Histories → Past → Type 0
 AgreesWithRealTime histories past =
-    (i j : Place) (before behind : Operation) → i < j → operation_of histories past i ≡ Some before →
+    (i j : Place) (before behind : Operation) → i < j → operation_of histories past i ≡
+    Some before →
     operation_of histories past j ≡ Some behind → before.begin ≤ behind.end

@@ -17,68 +17,106 @@ use Rattle.history_judge.proofs.Forming.{front-until-formed}
 
 -- ---- calls that look the same
 
-at-alike : (xs ys : List Called) (n : ℕ) → AreSameCalls xs ys → option_map seen_call (slice_get xs n) ≡ option_map seen_call (slice_get ys n)
-at-alike xs ys n same = sym (slice_get-map seen_call xs n) ∙ ap (λ (zs : List SeenCall). slice_get zs n) same ∙ slice_get-map seen_call ys n
+at-alike : (xs ys : List Called) (n : ℕ) → AreSameCalls xs ys →
+    option_map seen_call (slice_get xs n) ≡ option_map seen_call (slice_get ys n)
+at-alike xs ys n same = sym (slice_get-map seen_call xs n) ∙
+    ap (λ (zs : List SeenCall). slice_get zs n) same ∙ slice_get-map seen_call ys n
 
 pending-alike : (o d : Outcome) → written_reply o ≡ written_reply d → is_pending o ≡ is_pending d
 pending-alike o d same = grind arith
 
-begin-alike : (p : ℕ) (a b : Option Called) → option_map seen_call a ≡ option_map seen_call b → moment_by (λ o. o.begin) p a ≡ moment_by (λ o. o.begin) p b
+begin-alike : (p : ℕ) (a b : Option Called) → option_map seen_call a ≡ option_map seen_call b →
+    moment_by (λ o. o.begin) p a ≡ moment_by (λ o. o.begin) p b
 begin-alike p a b same = grind arith
 
-end-alike : (p : ℕ) (a b : Option Called) → option_map seen_call a ≡ option_map seen_call b → moment_by (λ o. o.end) p a ≡ moment_by (λ o. o.end) p b
+end-alike : (p : ℕ) (a b : Option Called) → option_map seen_call a ≡ option_map seen_call b →
+    moment_by (λ o. o.end) p a ≡ moment_by (λ o. o.end) p b
 end-alike p a b same = grind arith
 
-pending-by-alike : (p : ℕ) (a b : Option Called) → option_map seen_call a ≡ option_map seen_call b → is_pending_by p a ≡ is_pending_by p b
+pending-by-alike : (p : ℕ) (a b : Option Called) → option_map seen_call a ≡ option_map seen_call b →
+    is_pending_by p a ≡ is_pending_by p b
 pending-by-alike p a b same = grind (arith, pending-alike)
 
-begins-alike : (xs ys : List Called) (p n : ℕ) → AreSameCalls xs ys → latest (λ o. o.begin) xs p n ≡ latest (λ o. o.begin) ys p n
+begins-alike : (xs ys : List Called) (p n : ℕ) → AreSameCalls xs ys → latest (λ o. o.begin) xs p n ≡
+    latest (λ o. o.begin) ys p n
 begins-alike xs ys p zero same = refl
-begins-alike xs ys p (suc n) same = rw (begins-alike xs ys p n same, begin-alike p (slice_get xs n) (slice_get ys n) (at-alike xs ys n same)) refl
+begins-alike xs ys p (suc n) same = rw (
+  begins-alike xs ys p n same,
+  begin-alike p (slice_get xs n)
+      (slice_get ys n) (at-alike xs ys n same),
+) refl
 
-ends-alike : (xs ys : List Called) (p n : ℕ) → AreSameCalls xs ys → latest (λ o. o.end) xs p n ≡ latest (λ o. o.end) ys p n
+ends-alike : (xs ys : List Called) (p n : ℕ) → AreSameCalls xs ys → latest (λ o. o.end) xs p n ≡
+    latest (λ o. o.end) ys p n
 ends-alike xs ys p zero same = refl
-ends-alike xs ys p (suc n) same = rw (ends-alike xs ys p n same, end-alike p (slice_get xs n) (slice_get ys n) (at-alike xs ys n same)) refl
+ends-alike xs ys p (suc n) same = rw (
+  ends-alike xs ys p n same,
+  end-alike p (slice_get xs n)
+      (slice_get ys n) (at-alike xs ys n same),
+) refl
 
-has-pending-alike : (xs ys : List Called) (p n : ℕ) → AreSameCalls xs ys → has_pending xs p n ≡ has_pending ys p n
+has-pending-alike : (xs ys : List Called) (p n : ℕ) → AreSameCalls xs ys → has_pending xs p n ≡
+    has_pending ys p n
 has-pending-alike xs ys p zero same = refl
-has-pending-alike xs ys p (suc n) same = rw (has-pending-alike xs ys p n same, pending-by-alike p (slice_get xs n) (slice_get ys n) (at-alike xs ys n same)) refl
+has-pending-alike xs ys p (suc n) same = rw (
+  has-pending-alike xs ys p n same,
+  pending-by-alike p
+      (slice_get xs n) (slice_get ys n) (at-alike xs ys n same),
+) refl
 
-fault-alike : (pending : Bool) (before : LatestMoments) (c d : Called) → seen_call c ≡ seen_call d → fault_behind pending before c ≡ fault_behind pending before d
-fault-alike pending before c d same = let one = pending-alike c.operation.outcome d.operation.outcome (ap (λ (s : SeenCall). s.operation.reply) same) in grind arith
+fault-alike : (pending : Bool) (before : LatestMoments) (c d : Called) → seen_call c ≡ seen_call d →
+    fault_behind pending before c ≡ fault_behind pending before d
+fault-alike pending before c d same = let one = pending-alike c.operation.outcome
+    d.operation.outcome (ap (λ (s : SeenCall). s.operation.reply) same) in grind arith
 
-fault-of-alike : (xs ys : List Called) (n : ℕ) (c d : Called) → AreSameCalls xs ys → seen_call c ≡ seen_call d → fault_of xs n c ≡ fault_of ys n d
+fault-of-alike : (xs ys : List Called) (n : ℕ) (c d : Called) → AreSameCalls xs ys →
+    seen_call c ≡ seen_call d → fault_of xs n c ≡ fault_of ys n d
 fault-of-alike xs ys n c d same one =
     let process : c.process ≡ d.process = ap (λ (s : SeenCall). s.process) one in
-    rw (has-pending-alike xs ys c.process n same, begins-alike xs ys c.process n same, ends-alike xs ys c.process n same, process)
-    (fault-alike (has_pending ys d.process n) (record { begin = latest (λ o. o.begin) ys d.process n; end = latest (λ o. o.end) ys d.process n }) c d one)
+    rw (
+      has-pending-alike xs ys c.process n same,
+      begins-alike xs ys c.process n same,
+      ends-alike xs ys c.process n same,
+      process,
+    )
+    (fault-alike (has_pending ys d.process n)
+    (record {
+      begin = latest (λ o. o.begin) ys d.process n;
+      end = latest (λ o. o.end) ys d.process n;
+    }) c d one)
 
-fault-at-alike : (xs ys : List Called) (n : ℕ) (a b : Option Called) → AreSameCalls xs ys → option_map seen_call a ≡ option_map seen_call b →
+fault-at-alike : (xs ys : List Called) (n : ℕ) (a b : Option Called) → AreSameCalls xs ys →
+    option_map seen_call a ≡ option_map seen_call b →
     option_and_then (fault_of xs n) a ≡ option_and_then (fault_of ys n) b
 fault-at-alike xs ys n None None same one = refl
 fault-at-alike xs ys n None (Some d) same one = absurd (let no : ⊥ = cc in no)
 fault-at-alike xs ys n (Some c) None same one = absurd (let no : ⊥ = cc in no)
-fault-at-alike xs ys n (Some c) (Some d) same one = fault-of-alike xs ys n c d same (let is : seen_call c ≡ seen_call d = cc in is)
+fault-at-alike xs ys n (Some c) (Some d) same one = fault-of-alike xs ys n c d same
+    (let is : seen_call c ≡ seen_call d = cc in is)
 
 formed-alike : (xs ys : List Called) → AreSameCalls xs ys → IsWellFormed ys → IsWellFormed xs
-formed-alike xs ys same formed n = fault-at-alike xs ys n (slice_get xs n) (slice_get ys n) same (at-alike xs ys n same) ∙ formed n
+formed-alike xs ys same formed n = fault-at-alike xs ys n (slice_get xs n) (slice_get ys n) same
+    (at-alike xs ys n same) ∙ formed n
 
 -- ---- their numbers fit
 
-outcome-fits-alike : (o d : Outcome) → written_reply o ≡ written_reply d → message_of o ≡ message_of d → OutcomeFits d → OutcomeFits o
+outcome-fits-alike : (o d : Outcome) → written_reply o ≡ written_reply d → message_of o ≡
+    message_of d → OutcomeFits d → OutcomeFits o
 outcome-fits-alike o d reply message fits = grind arith
 
 fits-alike : (c d : Called) → seen_call c ≡ seen_call d → Fits d → Fits c
 fits-alike c d same fits =
     let back : seen_call d ≡ seen_call c = sym same in
-    let pending = pending-alike c.operation.outcome d.operation.outcome (ap (λ (s : SeenCall). s.operation.reply) same) in
+    let pending = pending-alike c.operation.outcome d.operation.outcome
+    (ap (λ (s : SeenCall). s.operation.reply) same) in
     record {
       process = ap (λ (s : SeenCall). is_process s.process) same ∙ fits.process;
       begin = subst (λ (s : SeenCall). s.operation.begin < 2 ^ 64) back fits.begin;
       end = subst (λ (s : SeenCall). s.operation.end < 2 ^ 64) back fits.end;
       call = subst (λ (s : SeenCall). CallFits s.operation.call) back fits.call;
       given = subst (λ (s : SeenCall). All (λ b. b < 256) s.operation.given) back fits.given;
-      outcome = outcome-fits-alike c.operation.outcome d.operation.outcome (ap (λ (s : SeenCall). s.operation.reply) same)
+      outcome = outcome-fits-alike c.operation.outcome d.operation.outcome
+          (ap (λ (s : SeenCall). s.operation.reply) same)
           (ap (λ (s : SeenCall). s.operation.message) same) fits.outcome;
       pending = λ is. ap (λ (s : SeenCall). s.operation.end) same ∙ fits.pending (sym pending ∙ is);
     }
@@ -111,18 +149,29 @@ one-fits true begun c front fits rest = (fits, rest)
 one-fits false true c front fits rest = (under-way-fits c fits, rest)
 one-fits false false c front fits rest = rest
 
-front-fits : (moment : ℕ) (held : ℕ → Bool) (calls : List Called) → AllFit calls → AllFit (front_by moment held calls)
+front-fits : (moment : ℕ) (held : ℕ → Bool) (calls : List Called) → AllFit calls →
+    AllFit (front_by moment held calls)
 front-fits moment held [] fits = tt
 front-fits moment held (c ∷ calls) fits =
-    one-fits (had_returned moment (held c.process) c.operation) (nat_le c.operation.begin moment) c (front_by moment held calls) fits.0 (front-fits moment held calls fits.1)
+    one-fits (had_returned moment (held c.process) c.operation) (nat_le c.operation.begin moment) c
+    (front_by moment held calls) fits.0 (front-fits moment held calls fits.1)
 
-part-formed : (calls : List Called) (last : Option Return) → AllFit calls → IsWellFormed calls → AllFit (front_or calls last) × IsWellFormed (front_or calls last)
+part-formed : (calls : List Called) (last : Option Return) → AllFit calls → IsWellFormed calls →
+    AllFit (front_or calls last) × IsWellFormed (front_or calls last)
 part-formed calls None fits formed = (fits, formed)
-part-formed calls (Some last) fits formed = (front-fits last.0 (λ p. is_held last p calls) calls fits, front-until-formed last calls fits formed)
+part-formed calls (Some last) fits formed = (
+  front-fits last.0 (λ p. is_held last p calls) calls fits,
+  front-until-formed last
+      calls fits formed,
+)
 
 -- a prefix of a well-formed history is well-formed, and the numbers of its calls fit
-pub front-is-formed : (front calls : List Called) (returns : List Return) (number : ℕ) → AreSameCalls front (front_part calls returns number) →
+pub front-is-formed : (front calls : List Called) (returns : List Return) (number : ℕ) →
+    AreSameCalls front (front_part calls returns number) →
     AllFit calls → IsWellFormed calls → AllFit front × IsWellFormed front
 front-is-formed front calls returns number same fits formed =
-    let part = part-formed calls (slice_get returns number) fits formed in
-    (all-fit-alike front (front_part calls returns number) same part.0, formed-alike front (front_part calls returns number) same part.1)
+    let part = part-formed calls (slice_get returns number) fits formed in (
+      all-fit-alike front (front_part calls returns number) same part.0,
+      formed-alike front
+          (front_part calls returns number) same part.1,
+    )

@@ -12,25 +12,55 @@ use Rattle.history_judge.specs.Text.{called_words, end_of, line_text, message_of
 use Rattle.history_judge.specs.declared.line.Called.{Called}
 use Rattle.history_judge.proofs.Written.{end_fits, process_fits}
 
-result-size : (o : Outcome) → OutcomeFits o → size (result_words (written_reply o) (message_of o)) ≤ 3 * length (message_of o) + 200
+result-size : (o : Outcome) → OutcomeFits o → size (result_words (written_reply o) (message_of o)) ≤
+    3 * length (message_of o) + 200
 result-size Pending fits = omega arith
-result-size Done fits = omega (arith, size-append (reply_words reply.Done) [], reply-size reply.Done tt)
-result-size (Opened d) fits = omega (arith, size-append (reply_words (reply.Opened d false)) [], reply-size (reply.Opened d false) fits)
+result-size Done fits = omega (
+  arith,
+  size-append (reply_words reply.Done) [],
+  reply-size reply.Done tt,
+)
+result-size (Opened d) fits = omega (
+  arith,
+  size-append (reply_words (reply.Opened d false)) [],
+  reply-size (reply.Opened d false) fits,
+)
 result-size (Got prio message) fits =
     let small : prio < 2 ^ 64 = omega (arith, fits.0) in
-    omega (arith, size-append (reply_words (reply.Got prio None None)) (payload_words message.items), reply-size (reply.Got prio None None) (small, tt, tt), payload-size message.items)
-result-size (Attributes status) fits = omega (arith, size-append (reply_words (reply.Attrs status)) [], reply-size (reply.Attrs status) fits)
-result-size (Notice value) fits = omega (arith, size-append (reply_words (reply.Notice value)) [], reply-size (reply.Notice value) fits)
-result-size (Refused fault) fits = omega (arith, size-append (reply_words (reply.Refused fault)) [], reply-size (reply.Refused fault) tt)
+    omega (
+      arith,
+      size-append (reply_words (reply.Got prio None None))
+          (payload_words message.items),
+      reply-size (reply.Got prio None None) (small, tt, tt),
+      payload-size message.items,
+    )
+result-size (Attributes status) fits = omega (
+  arith,
+  size-append (reply_words (reply.Attrs status))
+      [],
+  reply-size (reply.Attrs status) fits,
+)
+result-size (Notice value) fits = omega (
+  arith,
+  size-append (reply_words (reply.Notice value)) [],
+  reply-size (reply.Notice value) fits,
+)
+result-size (Refused fault) fits = omega (
+  arith,
+  size-append (reply_words (reply.Refused fault)) [],
+  reply-size (reply.Refused fault) tt,
+)
 
-pub line-length : (c : Called) → Fits c → length (line_text c) ≤ 3 * length c.operation.given.items + 3 * length (message_of c.operation.outcome) + 700
+pub line-length : (c : Called) → Fits c → length (line_text c) ≤ 3 * length c.operation.given.items
+    + 3 * length (message_of c.operation.outcome) + 700
 unfolding line_text
 line-length c fits =
     let o = c.operation in
     let result = result_words (written_reply o.outcome) (message_of o.outcome) in
     let behind = payload_words o.given.items ++ codes "->" ∷ result in
     let small : c.process < 2 ^ 64 = omega (arith, process_fits c.process fits.process) in
-    let end : IfSome (end_of o) (λ n. n < 2 ^ 64) = end_fits (is_pending o.outcome) o.end fits.end in
+    let end : IfSome (end_of o) (λ n. n < 2 ^ 64) = end_fits (is_pending o.outcome)
+    o.end fits.end in
     omega (
       arith,
       length-append (join_with_byte 32 (called_words c)) (10 ∷ []),

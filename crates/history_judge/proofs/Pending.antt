@@ -20,43 +20,56 @@ abbrev all : List Seen → Bool
 all xs = list_all (λ s. is_none s.reply) xs
 
 -- those of a process
-one-of : (own : Bool) (o : Operation) (operations : List Operation) → is_none (written_reply o.outcome) ≡ true → all (map seen operations) ≡ true → all (map seen (if own then o ∷ operations else operations)) ≡ true
+one-of : (own : Bool) (o : Operation) (operations : List Operation) →
+    is_none (written_reply o.outcome) ≡ true → all (map seen operations) ≡ true →
+    all (map seen (if own then o ∷ operations else operations)) ≡ true
 one-of own o operations is rest = grind (arith, and_from)
 
-of-process : (p : ℕ) (calls : List Called) → are_pending calls ≡ true → all (map seen (operations_of p calls)) ≡ true
+of-process : (p : ℕ) (calls : List Called) → are_pending calls ≡ true →
+    all (map seen (operations_of p calls)) ≡ true
 of-process p [] pending = refl
 of-process p (c ∷ calls) pending =
-    let parts = and_parts (is_none (written_reply c.operation.outcome)) (are_pending calls) pending in
+    let parts = and_parts (is_none (written_reply c.operation.outcome))
+    (are_pending calls) pending in
     one-of (c.process == p) c.operation (operations_of p calls) parts.0 (of-process p calls parts.1)
 
 -- by own numbers
-own-pending : (numbers : Numbers) (outcome : Outcome) → is_none (written_reply (own_outcome numbers outcome)) ≡ is_none (written_reply outcome)
+own-pending : (numbers : Numbers) (outcome : Outcome) →
+    is_none (written_reply (own_outcome numbers outcome)) ≡ is_none (written_reply outcome)
 own-pending numbers outcome = grind arith
 
-of-renamed : (numbers : Numbers) (operations : List Operation) → all (map seen operations) ≡ true → all (map seen (renamed numbers operations)) ≡ true
+of-renamed : (numbers : Numbers) (operations : List Operation) → all (map seen operations) ≡ true →
+    all (map seen (renamed numbers operations)) ≡ true
 of-renamed numbers [] pending = refl
 of-renamed numbers (o ∷ operations) pending =
     let parts = and_parts (is_none (written_reply o.outcome)) (all (map seen operations)) pending in
     let after = numbers_after numbers (own_call numbers o.call) o.outcome in
-    and_from (is_none (written_reply (own_outcome numbers o.outcome))) (all (map seen (renamed after operations)))
+    and_from (is_none (written_reply (own_outcome numbers o.outcome)))
+    (all (map seen (renamed after operations)))
     (own-pending numbers o.outcome ∙ parts.0) (of-renamed after operations parts.1)
 
 -- none is left to be completed
-pending-of : (outcome : Outcome) → is_none (written_reply outcome) ≡ true → is_pending outcome ≡ true
+pending-of : (outcome : Outcome) → is_none (written_reply outcome) ≡ true → is_pending outcome ≡
+    true
 pending-of outcome e = grind arith
 
-through : (operations : List Operation) (k : ℕ) → all (map seen operations) ≡ true → is_through (slice_get operations k) ≡ true
+through : (operations : List Operation) (k : ℕ) → all (map seen operations) ≡ true →
+    is_through (slice_get operations k) ≡ true
 through [] k pending = refl
-through (o ∷ operations) zero pending = pending-of o.outcome (and_parts (is_none (written_reply o.outcome)) (all (map seen operations)) pending).0
-through (o ∷ operations) (suc k) pending = through operations k (and_parts (is_none (written_reply o.outcome)) (all (map seen operations)) pending).1
+through (o ∷ operations) zero pending = pending-of o.outcome
+    (and_parts (is_none (written_reply o.outcome)) (all (map seen operations)) pending).0
+through (o ∷ operations) (suc k) pending = through operations k
+    (and_parts (is_none (written_reply o.outcome)) (all (map seen operations)) pending).1
 
-through-at : (histories : Histories) → ((index : ℕ) (operations : Vec Operation Global) → slice_get histories index ≡ Some operations → all (map seen operations.items) ≡ true) →
+through-at : (histories : Histories) → ((index : ℕ) (operations : Vec Operation Global) →
+    slice_get histories index ≡ Some operations → all (map seen operations.items) ≡ true) →
     (n : ℕ) → are_through histories [] n ≡ true
 through-at histories each zero = refl
 through-at histories each (suc n) = grind (arith, through, and_from, through-at histories each n)
 
 -- if not everything is complete before the first record, a call has returned
-pub not-pending : (calls : List Called) (histories : Histories) → AreHistoriesOf calls histories → is_complete histories [] ≡ false → are_pending calls ≡ false
+pub not-pending : (calls : List Called) (histories : Histories) → AreHistoriesOf calls histories →
+    is_complete histories [] ≡ false → are_pending calls ≡ false
 not-pending calls histories are not_complete =
     let goes : (b : Bool) → are_pending calls ≡ b → b ≡ false =
     λ (b : Bool). elim b as (λ b. are_pending calls ≡ b → b ≡ false) [
@@ -64,7 +77,8 @@ not-pending calls histories are not_complete =
       | true ↦ (λ e.
           let complete : is_complete histories [] ≡ true =
           through-at histories
-          (λ index operations is. ap all (are.each index operations is) ∙ of-renamed no_numbers (operations_of (index + 1) calls) (of-process (index + 1) calls e))
+          (λ index operations is. ap all (are.each index operations is) ∙ of-renamed no_numbers
+          (operations_of (index + 1) calls) (of-process (index + 1) calls e))
           (length histories) in
           let k : ⊥ = cc in absurd k)
     ]
@@ -74,16 +88,19 @@ not-pending calls histories are not_complete =
 none-of : (outcome : Outcome) → is_pending outcome ≡ true → is_none (written_reply outcome) ≡ true
 none-of outcome e = grind arith
 
-return-from : (index : ℕ) (calls : List Called) → are_pending calls ≡ false → 0 < length (returns_from index calls)
+return-from : (index : ℕ) (calls : List Called) → are_pending calls ≡ false →
+    0 < length (returns_from index calls)
 return-from index [] is = absurd (cc)
 return-from index (c ∷ calls) is = grind (arith, pending-of, none-of, return-from (index + 1) calls)
 
 count-length : (xs : List Return) → sum_by (λ x. 1) xs ≡ length xs
 count-length [] = refl
-count-length (x ∷ xs) = let e = sum_by-cons (λ y. 1) x xs in let ih = count-length xs in omega (arith, e, ih)
+count-length (x ∷ xs) = let e = sum_by-cons (λ y. 1) x xs in let ih = count-length xs in
+    omega (arith, e, ih)
 
 -- if a call has returned, there is a return
-pub has-return : (calls : List Called) (returns : List Return) → AreReturnsOf calls returns → are_pending calls ≡ false → 0 < length returns
+pub has-return : (calls : List Called) (returns : List Return) → AreReturnsOf calls returns →
+    are_pending calls ≡ false → 0 < length returns
 has-return calls returns are is =
     let some = return-from 0 calls is in
     let e = sum_by-IsPermutation (λ x. 1) (returns_from 0 calls) returns are.each in

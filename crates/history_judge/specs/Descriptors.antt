@@ -31,8 +31,10 @@ abbrev pub own_call : Numbers → Call → Call
 own_call numbers (MqClose d) = MqClose (own_number numbers d)
 own_call numbers (MqSend d prio len) = MqSend (own_number numbers d) prio len
 own_call numbers (MqReceive d room) = MqReceive (own_number numbers d) room
-own_call numbers (MqTimedSend d prio len until now) = MqTimedSend (own_number numbers d) prio len until now
-own_call numbers (MqTimedReceive d room until now) = MqTimedReceive (own_number numbers d) room until now
+own_call numbers (MqTimedSend d prio len until now) = MqTimedSend (own_number numbers d)
+    prio len until now
+own_call numbers (MqTimedReceive d room until now) =
+    MqTimedReceive (own_number numbers d) room until now
 own_call numbers (MqGetattr d) = MqGetattr (own_number numbers d)
 own_call numbers (MqSetattr d nonblock) = MqSetattr (own_number numbers d) nonblock
 own_call numbers (MqNotify d value) = MqNotify (own_number numbers d) value
@@ -44,12 +46,16 @@ own_outcome numbers (Opened d) = Opened (lowest_free numbers)
 own_outcome numbers outcome = outcome
 
 abbrev pub own_operation : Numbers → Operation → Operation
-own_operation numbers o = record o { call = own_call numbers o.call; outcome = own_outcome numbers o.outcome }
+own_operation numbers o = record o {
+  call = own_call numbers o.call;
+  outcome = own_outcome numbers o.outcome;
+}
 
 -- What is held after a call with this library's number: the descriptor of an open that returned,
 -- under the lowest number that was free; and a close that succeeded frees its number.
 abbrev pub after_opened : Numbers → ℕ → ℕ → Numbers
-after_opened numbers number d = if nat_lt number 16 then slice_set numbers number (Some d) else numbers
+after_opened numbers number d = if nat_lt number 16 then slice_set numbers number
+    (Some d) else numbers
 
 abbrev pub after_closed : Numbers → Call → Numbers
 after_closed numbers (MqClose d) = if nat_lt d 16 then slice_set numbers d None else numbers
@@ -64,4 +70,5 @@ numbers_after numbers call _ = numbers
 abbrev pub renamed : Numbers → List Operation → List Operation
 renamed numbers [] = []
 renamed numbers (o ∷ operations) =
-    own_operation numbers o ∷ renamed (numbers_after numbers (own_call numbers o.call) o.outcome) operations
+    own_operation numbers o ∷ renamed (numbers_after numbers (own_call numbers o.call) o.outcome)
+    operations

@@ -17,13 +17,15 @@ AreOfProcesses calls = list_all (λ c. is_process c.process) calls ≡ true
 -- the greatest number of a process
 abbrev pub process_count : List Called → ℕ
 process_count [] = 0
-process_count (c ∷ calls) = max (if is_process c.process then c.process else 0) (process_count calls)
+process_count (c ∷ calls) = max (if is_process c.process then c.process else 0)
+    (process_count calls)
 
 -- the operations of a process, in the order of its calls
 abbrev pub operations_of : ℕ → List Called → List Operation
 operations_of process [] = []
 operations_of process (c ∷ calls) =
-    if c.process == process then c.operation ∷ operations_of process calls else operations_of process calls
+    if c.process == process then c.operation ∷ operations_of process calls else
+    operations_of process calls
 
 -- The operations of the first processes, each process's in the order of its calls. Those of process
 -- p are at p - 1.

@@ -24,7 +24,11 @@ shown outcome = (written_reply outcome, message_of outcome)
 -- a message and its priority; the message is in the third word, if there is one
 abbrev pub message_at : ℕ → List Word → Option Shown
 message_at prio words =
-    if nat_lt prio (2 ^ 32) then Some (Some (reply.Got prio None None), percent_decode (quoted_at (drop 1 (drop 1 words))).0) else None
+    if nat_lt prio (2 ^ 32) then Some (
+      Some (reply.Got prio None None),
+      percent_decode
+          (quoted_at (drop 1 (drop 1 words))).0,
+    ) else None
 
 -- what a reply with these words shows
 abbrev pub shown_by : Reply → List Word → Option Shown
@@ -74,7 +78,14 @@ parts_at words = do
   call ← call_at end.1
   let quoted = quoted_at call.1
   arrow ← word_at quoted.1
-  Some (record { process = process.0; begin = begin.0; end = end.0; call = call.0; quoted = quoted.0; result = arrow.1 })
+  Some (record {
+    process = process.0;
+    begin = begin.0;
+    end = end.0;
+    call = call.0;
+    quoted = quoted.0;
+    result = arrow.1;
+  })
 
 -- the call with these parts and this result
 abbrev pub called_of : PartsSeen → Shown → SeenCall

@@ -18,7 +18,8 @@ status_of OutOfBudget = 5
 
 abbrev pub possible_line : ℕ → ℕ → List ℕ
 possible_line calls processes =
-    codes "possible: " ++ (decimal calls ++ (codes " calls, " ++ (decimal processes ++ codes " processes\n")))
+    codes "possible: " ++
+    (decimal calls ++ (codes " calls, " ++ (decimal processes ++ codes " processes\n")))
 
 abbrev pub shortness : Bool → List ℕ
 shortness is_shortest = if is_shortest then [] else codes ", perhaps not the shortest"
@@ -34,14 +35,16 @@ count_text most capacity =
     decimal most ++ (codes " of " ++ (decimal capacity ++ codes " messages"))
 
 -- A message that was received more often than it was sent, or that lay in the queue while a
--- receive passed over it; or a send that found a queue full that was not. Messages are written as in
+-- receive passed over it; or a send that found a queue full that was not. Messages are written as
+-- in
 -- a line of a history.
 abbrev pub contradiction_text : Contradiction → List ℕ
 contradiction_text (Excess e) =
     codes "; " ++ (decimal e.received ++ (codes " receives, " ++ (decimal e.sent ++
     (codes " sends of " ++ (decimal e.prio ++ payload_text e.message.items)))))
 contradiction_text (Passed e) =
-    codes "; " ++ (decimal e.prio ++ (payload_text e.message.items ++ (codes " lay in the queue from " ++
+    codes "; " ++ (decimal e.prio ++ (payload_text e.message.items ++
+    (codes " lay in the queue from " ++
     (decimal e.from ++ (codes " to " ++ decimal e.to)))))
 contradiction_text (NotFull e) =
     codes "; a send of " ++ (send_text e.prio e.message.items e.from e.to ++
@@ -64,7 +67,8 @@ undecided_line budget =
 -- is not linearizable. The line of a call is counted from 1. `budget` is the one of the search.
 abbrev pub judgement_text : List Called → ℕ → Bool → Judgement → List ℕ
 judgement_text calls budget with_journal (Possible journal) =
-    possible_line (length calls) (process_count calls) ++ (if with_journal then journal.items else [])
+    possible_line (length calls) (process_count calls) ++
+    (if with_journal then journal.items else [])
 judgement_text calls budget with_journal (Impossible call front is_shortest found) =
     impossible_line (min (call + 1) (2 ^ 64 - 1)) (length front.items) is_shortest found ++
     history_text front.items

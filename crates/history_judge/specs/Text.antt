@@ -53,7 +53,8 @@ words_between process begin end call given result =
 abbrev pub called_words : Called → List Word
 called_words c =
     words_between c.process c.operation.begin (end_of c.operation) c.operation.call
-    c.operation.given.items (result_words (written_reply c.operation.outcome) (message_of c.operation.outcome))
+    c.operation.given.items (result_words (written_reply c.operation.outcome)
+    (message_of c.operation.outcome))
 
 -- the line of a call: its words, separated by spaces, and a line feed
 unfoldable pub line_text : Called → List ℕ

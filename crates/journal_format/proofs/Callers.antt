@@ -24,19 +24,28 @@ none_in : (w : List ℕ) → AllDigits 10 w → position_or_len (λ b. b == 46) 
 none_in [] all = refl
 none_in (c ∷ cs) all = grind (arith, nat_tests, digit_from_value, none_in cs all.1)
 
-none_before : (w rest : List ℕ) → AllDigits 10 w → position_or_len (λ b. b == 46) (w ++ 46 ∷ rest) ≡ length w
+none_before : (w rest : List ℕ) → AllDigits 10 w → position_or_len (λ b. b == 46) (w ++ 46 ∷ rest) ≡
+    length w
 none_before [] rest all = refl
-none_before (c ∷ cs) rest all = grind (arith, nat_tests, digit_from_value, none_before cs rest all.1)
+none_before (c ∷ cs) rest all = grind (
+  arith,
+  nat_tests,
+  digit_from_value,
+  none_before cs rest all.1,
+)
 
 no_dot : (w : List ℕ) → AllDigits 10 w → position (λ b. b == 46) w ≡ None
 no_dot w all = rw (none_in w all) (grind (arith, nat_tests))
 
-dot_at : (w rest : List ℕ) → AllDigits 10 w → position (λ b. b == 46) (w ++ 46 ∷ rest) ≡ Some (length w)
-dot_at w rest all = rw (none_before w rest all, length-append w (46 ∷ rest)) (grind (arith, nat_tests))
+dot_at : (w rest : List ℕ) → AllDigits 10 w → position (λ b. b == 46) (w ++ 46 ∷ rest) ≡
+    Some (length w)
+dot_at w rest all = rw (none_before w rest all, length-append w (46 ∷ rest))
+    (grind (arith, nat_tests))
 
 drop_dot : (w rest : List ℕ) → drop (length w + 1) (w ++ 46 ∷ rest) ≡ rest
 drop_dot [] rest = refl
-drop_dot (c ∷ cs) rest = let more : length (c ∷ cs) + 1 ≡ suc (length cs + 1) = omega arith in rw more (drop_dot cs rest)
+drop_dot (c ∷ cs) rest = let more : length (c ∷ cs) + 1 ≡ suc (length cs + 1) = omega arith in
+    rw more (drop_dot cs rest)
 
 -- ---- a process and a thread
 
@@ -73,10 +82,17 @@ pub small : (p : ℕ) → 32 < p → p < 2 ^ 32 → IsSmall p
 small p more fits =
     let few = owner_few p in
     let less = thread_small p more in
-    record { process = omega (arith, few); long_process = omega (arith, few); thread = omega (arith, less, fits); long_thread = omega (arith, less, fits) }
+    record {
+      process = omega (arith, few);
+      long_process = omega (arith, few);
+      thread = omega (arith, less, fits);
+      long_thread = omega (arith, less, fits);
+    }
 
 -- a word with a dot reads as what is around the dot
-around_again : (process thread : ℕ) → process < 2 ^ 32 → process < 2 ^ 64 → thread < 2 ^ 32 → thread < 2 ^ 64 → caller_written (decimal process ++ 46 ∷ decimal thread) ≡ caller_by process thread
+around_again : (process thread : ℕ) → process < 2 ^ 32 → process < 2 ^ 64 → thread < 2 ^ 32 →
+    thread < 2 ^ 64 → caller_written (decimal process ++ 46 ∷ decimal thread) ≡
+    caller_by process thread
 unfolding caller_written
 around_again process thread p_fits p_long t_fits t_long =
     rw (
@@ -98,28 +114,34 @@ caller_again p fits = split (nat_le p 32)
     (λ f.
     let more = above p f in
     let s = small p more fits in
-    rw f (around_again (owner_of p) (thread_of p) s.process s.long_process s.thread s.long_thread ∙ by_again p more fits))
+    rw f (around_again (owner_of p) (thread_of p) s.process s.long_process s.thread s.long_thread ∙
+    by_again p more fits))
 
-pub caller_at_again : (p : ℕ) (ws : List Word) → p < 2 ^ 32 → caller_at (caller_word p ∷ ws) ≡ Some (p, ws)
+pub caller_at_again : (p : ℕ) (ws : List Word) → p < 2 ^ 32 → caller_at (caller_word p ∷ ws) ≡
+    Some (p, ws)
 unfolding caller_at word_at
 caller_at_again p ws fits = rw (caller_again p fits) refl
 
-plain-append : (xs ys : List ℕ) → list_all is_plain xs ≡ true → list_all is_plain ys ≡ true → list_all is_plain (xs ++ 46 ∷ ys) ≡ true
+plain-append : (xs ys : List ℕ) → list_all is_plain xs ≡ true → list_all is_plain ys ≡ true →
+    list_all is_plain (xs ++ 46 ∷ ys) ≡ true
 plain-append [] ys first second = second
 plain-append (x ∷ xs) ys first second =
     let parts = and_parts (is_plain x) (list_all is_plain xs) first in
-    and_from (is_plain x) (list_all is_plain (xs ++ 46 ∷ ys)) parts.0 (plain-append xs ys parts.1 second)
+    and_from (is_plain x) (list_all is_plain (xs ++ 46 ∷ ys)) parts.0
+    (plain-append xs ys parts.1 second)
 
 joined : (v w : Word) → IsWord v → IsWord w → IsWord (v ++ 46 ∷ w)
 joined v w first second =
     let front = and_parts (ltb 0 (length v)) (list_all is_plain v) first in
     let back = and_parts (ltb 0 (length w)) (list_all is_plain w) second in
     let some : 0 < length (v ++ 46 ∷ w) = omega (arith, length-append v (46 ∷ w)) in
-    and_from (ltb 0 (length (v ++ 46 ∷ w))) (list_all is_plain (v ++ 46 ∷ w)) (lt-ltb 0 (length (v ++ 46 ∷ w)) some) (plain-append v w front.1 back.1)
+    and_from (ltb 0 (length (v ++ 46 ∷ w))) (list_all is_plain (v ++ 46 ∷ w))
+    (lt-ltb 0 (length (v ++ 46 ∷ w)) some) (plain-append v w front.1 back.1)
 
 pub word-caller : (p : ℕ) → p < 2 ^ 32 → IsWord (caller_word p)
 word-caller p fits = split (nat_le p 32)
     (λ t. rw t (word-decimal p (omega (arith, fits))))
     (λ f.
     let s = small p (above p f) fits in
-    rw f (joined (decimal (owner_of p)) (decimal (thread_of p)) (word-decimal (owner_of p) s.long_process) (word-decimal (thread_of p) s.long_thread)))
+    rw f (joined (decimal (owner_of p)) (decimal (thread_of p))
+    (word-decimal (owner_of p) s.long_process) (word-decimal (thread_of p) s.long_thread)))

@@ -32,7 +32,11 @@ size-append [] ws = omega arith
 size-append (v ∷ vs) ws = omega (arith, size-append vs ws)
 
 pub join-size : (ws : List Word) → length (join_with_byte 32 ws) ≤ size ws
-join-size (w ∷ v ∷ ws) = omega (arith, length-append w (32 ∷ join_with_byte 32 (v ∷ ws)), join-size (v ∷ ws))
+join-size (w ∷ v ∷ ws) = omega (
+  arith,
+  length-append w (32 ∷ join_with_byte 32 (v ∷ ws)),
+  join-size (v ∷ ws),
+)
 join-size _ = omega arith
 
 -- ---- numbers
@@ -50,12 +54,18 @@ caller-length p fits = split (nat_le p 32)
     let s = small p (above p f) fits in
     let front = decimal-length (owner_of p) s.long_process in
     let back = decimal-length (thread_of p) s.long_thread in
-    rw f (omega (arith, length-append (decimal (owner_of p)) (46 ∷ decimal (thread_of p)), front, back)))
+    rw f (omega (
+      arith,
+      length-append (decimal (owner_of p)) (46 ∷ decimal (thread_of p)),
+      front,
+      back,
+    )))
 
 signed-length : (z : ℤ) → IsLong z → length (signed_decimal z) ≤ 21
 signed-length z fits = grind (arith, decimal-length)
 
-pub number_or-length : (none : Word) (n : Option ℕ) → length none ≤ 20 → IfSome n (λ k. k < 2 ^ 64) → length (number_or none n) ≤ 20
+pub number_or-length : (none : Word) (n : Option ℕ) → length none ≤ 20 →
+    IfSome n (λ k. k < 2 ^ 64) → length (number_or none n) ≤ 20
 number_or-length none n short fits = grind (arith, decimal-length)
 
 -- ---- calls
@@ -66,14 +76,29 @@ access-length a = grind arith
 flags-length : (flags : OpenFlags) → length (flags_word flags) ≤ 4
 flags-length flags = grind (arith, length-append, access-length)
 
-moment-size : (label : Word) (moment : Deadline) → length label ≤ 5 → MomentFits moment → size (moment_words label moment) ≤ 60
-moment-size label moment short fits = omega (arith, short, signed-length moment.sec fits.0, signed-length moment.nsec fits.1)
+moment-size : (label : Word) (moment : Deadline) → length label ≤ 5 → MomentFits moment →
+    size (moment_words label moment) ≤ 60
+moment-size label moment short fits = omega (
+  arith,
+  short,
+  signed-length moment.sec fits.0,
+  signed-length moment.nsec fits.1,
+)
 
 flag-length : (is : Bool) → length (flag_word is) ≤ 1
 flag-length is = grind arith
 
 pub call-size : (c : Call) → CallFits c → size (call_words c) ≤ 300
-call-size c fits = grind (arith, flags-length, small-length, decimal-length, size-append, moment-size, flag-length, number_or-length)
+call-size c fits = grind (
+  arith,
+  flags-length,
+  small-length,
+  decimal-length,
+  size-append,
+  moment-size,
+  flag-length,
+  number_or-length,
+)
 
 -- ---- replies
 
@@ -81,11 +106,21 @@ fault-length : (f : Fault) → length (text_of f) ≤ 12
 fault-length f = grind arith
 
 pub reply-size : (r : Reply) → ReplyFits r → size (reply_words r) ≤ 100
-reply-size r fits = grind (arith, small-length, decimal-length, size-append, flag-length, signed-length, number_or-length, fault-length)
+reply-size r fits = grind (
+  arith,
+  small-length,
+  decimal-length,
+  size-append,
+  flag-length,
+  signed-length,
+  number_or-length,
+  fault-length,
+)
 
 -- ---- payloads
 
-byte-length : (set : AsciiSet) (b : ℕ) (is : Bool) → should_percent_encode set b ≡ is → length (encode_byte set b) ≤ 3
+byte-length : (set : AsciiSet) (b : ℕ) (is : Bool) → should_percent_encode set b ≡ is →
+    length (encode_byte set b) ≤ 3
 unfolding percent_encode_byte
 byte-length set b true is = rw is (omega arith)
 byte-length set b false is = rw is (omega arith)
@@ -94,14 +129,20 @@ escaped-length : (bytes : List ℕ) → length (escaped bytes) ≤ 3 * length by
 unfolding percent_encode
 escaped-length [] = omega arith
 escaped-length (b ∷ bytes) =
-    omega (arith, length-append (encode_byte ESCAPED b) (flat_map (encode_byte ESCAPED) bytes), byte-length ESCAPED b (should_percent_encode ESCAPED b) refl, escaped-length bytes)
+    omega (
+      arith,
+      length-append (encode_byte ESCAPED b) (flat_map (encode_byte ESCAPED) bytes),
+      byte-length ESCAPED b (should_percent_encode ESCAPED b) refl,
+      escaped-length bytes,
+    )
 
 pub payload-size : (bytes : List ℕ) → size (payload_words bytes) ≤ 3 * length bytes + 3
 payload-size bytes = grind (arith, length-append, escaped-length)
 
 -- ---- lines
 
-pub line-length : (place : ℕ) (r : Record) → place < 2 ^ 64 → Fits r → length (line_text place r) ≤ 3 * length r.payload + 500
+pub line-length : (place : ℕ) (r : Record) → place < 2 ^ 64 → Fits r →
+    length (line_text place r) ≤ 3 * length r.payload + 500
 unfolding line_text
 line-length place r small fits =
     let result = reply_words r.entry.reply in

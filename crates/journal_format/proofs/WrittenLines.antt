@@ -59,9 +59,12 @@ hex_plain b hex = grind (arith, nat_tests)
 
 all_from : (bs : List ℕ) → All (λ b. is_plain b ≡ true) bs → list_all is_plain bs ≡ true
 all_from [] all = refl
-all_from (b ∷ bs) all = and_from (is_plain b) (list_all is_plain bs) (All-head (λ b. is_plain b ≡ true) b bs all) (all_from bs (All-tail (λ b. is_plain b ≡ true) b bs all))
+all_from (b ∷ bs) all = and_from (is_plain b) (list_all is_plain bs)
+    (All-head (λ b. is_plain b ≡ true) b bs all)
+    (all_from bs (All-tail (λ b. is_plain b ≡ true) b bs all))
 
-list_all-append : (xs ys : List ℕ) → list_all is_plain xs ≡ true → list_all is_plain ys ≡ true → list_all is_plain (xs ++ ys) ≡ true
+list_all-append : (xs ys : List ℕ) → list_all is_plain xs ≡ true → list_all is_plain ys ≡ true →
+    list_all is_plain (xs ++ ys) ≡ true
 list_all-append [] ys first second = second
 list_all-append (x ∷ xs) ys first second =
     let here : is_plain x ≡ true = grind (arith, nat_tests) in
@@ -69,30 +72,49 @@ list_all-append (x ∷ xs) ys first second =
     and_from (is_plain x) (list_all is_plain (xs ++ ys)) here (list_all-append xs ys rest second)
 
 escaped_plain : (bytes : List ℕ) → list_all is_plain (escaped bytes) ≡ true
-escaped_plain bytes = all_from (escaped bytes) (All-percent_encode (λ b. is_plain b ≡ true) ESCAPED bytes kept_plain hex_plain)
+escaped_plain bytes = all_from (escaped bytes) (All-percent_encode (λ b. is_plain b ≡ true) ESCAPED
+    bytes kept_plain hex_plain)
 
 pub payload-words : (payload : List ℕ) → AreWords (payload_words payload)
 payload-words payload = grind (arith, list_all-append, escaped_plain, and_from, is_plain, lt-ltb)
 
 all_but_last : (xs : List ℕ) (x : ℕ) → take (length (xs ++ x ∷ []) - 1) (xs ++ x ∷ []) ≡ xs
-all_but_last xs x = let e : length (xs ++ x ∷ []) - 1 ≡ length xs = omega (arith, length-append xs (x ∷ [])) in rw e (take-append_seam xs (x ∷ []))
+all_but_last xs x = let e : length (xs ++ x ∷ []) - 1 ≡ length xs =
+    omega (arith, length-append xs (x ∷ [])) in rw e (take-append_seam xs (x ∷ []))
 
-pub quoted_again : (payload : List ℕ) (ws : List Word) → quoted_at (payload_words payload ++ codes "->" ∷ ws) ≡ (escaped payload, codes "->" ∷ ws)
+pub quoted_again : (payload : List ℕ) (ws : List Word) →
+    quoted_at (payload_words payload ++ codes "->" ∷ ws) ≡ (escaped payload, codes "->" ∷ ws)
 unfolding quoted_at
 quoted_again [] ws = rw percent_encode-nil refl
 quoted_again (b ∷ bytes) ws = rw (all_but_last (escaped (b ∷ bytes)) 34) refl
 
-pub no_limit : (payload : List ℕ) (ws : List Word) → limits_at (payload_words payload ++ codes "->" ∷ ws) ≡ Some (None, payload_words payload ++ codes "->" ∷ ws)
+pub no_limit : (payload : List ℕ) (ws : List Word) →
+    limits_at (payload_words payload ++ codes "->" ∷ ws) ≡ Some (
+      None,
+      payload_words payload ++
+          codes "->" ∷ ws,
+    )
 unfolding limits_at
 no_limit [] ws = refl
 no_limit (b ∷ bytes) ws = refl
 
 -- ---- a line
 
-pub record-words : (place : ℕ) (r : Record) → place < 2 ^ 64 → Fits r → AreWords (record_words place r)
-record-words place r small fits = grind (arith, AreWords, words-append, payload-words, reply-words, word-decimal, word-caller, call-words)
+pub record-words : (place : ℕ) (r : Record) → place < 2 ^ 64 → Fits r →
+    AreWords (record_words place r)
+record-words place r small fits = grind (
+  arith,
+  AreWords,
+  words-append,
+  payload-words,
+  reply-words,
+  word-decimal,
+  word-caller,
+  call-words,
+)
 
-entry_again : (place : ℕ) (r : Record) → Fits r → entry_at (record_words place r) ≡ Some (r.entry, escaped r.payload)
+entry_again : (place : ℕ) (r : Record) → Fits r → entry_at (record_words place r) ≡
+    Some (r.entry, escaped r.payload)
 unfolding entry_at word_at
 entry_again place r fits =
     let behind = payload_words r.payload ++ codes "->" ∷ reply_words r.entry.reply in
@@ -104,20 +126,33 @@ entry_again place r fits =
     )
     refl
 
-pub line_again : (place : ℕ) (r : Record) → place < 2 ^ 64 → Fits r → entry_at (words_of (line_text place r)) ≡ Some (r.entry, escaped r.payload)
+pub line_again : (place : ℕ) (r : Record) → place < 2 ^ 64 → Fits r →
+    entry_at (words_of (line_text place r)) ≡ Some (r.entry, escaped r.payload)
 unfolding line_text
-line_again place r small fits = rw (words_of-line (record_words place r) (record-words place r small fits)) (entry_again place r fits)
+line_again place r small fits =
+    rw (words_of-line (record_words place r) (record-words place r small fits))
+    (entry_again place r fits)
 
 pub payload_again : (r : Record) → Fits r → percent_decode (escaped r.payload) ≡ r.payload
 payload_again r fits = round_trip ESCAPED r.payload refl fits.payload
 
 -- ---- a line in parts
 
-pub join-more : (v : Word) (vs : List Word) (w : Word) (ws : List Word) → join_with_byte 32 (v ∷ vs ++ w ∷ ws) ≡ join_with_byte 32 (v ∷ vs) ++ 32 ∷ join_with_byte 32 (w ∷ ws)
+pub join-more : (v : Word) (vs : List Word) (w : Word) (ws : List Word) →
+    join_with_byte 32 (v ∷ vs ++ w ∷ ws) ≡ join_with_byte 32 (v ∷ vs) ++ 32 ∷
+    join_with_byte 32 (w ∷ ws)
 join-more v [] w ws = refl
 join-more v (u ∷ us) w ws = rw append_assoc (ap (λ t. v ++ 32 ∷ t) (join-more u us w ws))
 
-parts : (place process : Word) (cs : List Word) (payload : List ℕ) (rs : List Word) → 0 < length cs → 0 < length rs → join_with_byte 32 (place ∷ process ∷ cs ++ (payload_words payload ++ codes "->" ∷ rs)) ++ 10 ∷ [] ≡ place ++ (codes " " ++ (process ++ (codes " " ++ (join_with_byte 32 cs ++ (payload_text payload ++ (codes " -> " ++ (join_with_byte 32 rs ++ codes "\n")))))))
+parts : (place process : Word) (cs : List Word) (payload : List ℕ) (rs : List Word) →
+    0 < length cs → 0 < length rs →
+    join_with_byte 32 (place ∷ process ∷ cs ++ (payload_words payload ++ codes "->" ∷ rs)) ++ 10 ∷
+    [] ≡ place ++
+    (codes " " ++
+    (process ++
+    (codes " " ++
+    (join_with_byte 32 cs ++
+    (payload_text payload ++ (codes " -> " ++ (join_with_byte 32 rs ++ codes "\n")))))))
 parts place process cs payload rs some_call some_reply = grind (arith, common_steps, join-more)
 
 pub call_some : (c : Call) → 0 < length (call_words c)
@@ -127,6 +162,11 @@ pub reply_some : (r : Reply) → 0 < length (reply_words r)
 reply_some r = grind arith
 
 -- the line as the program puts it together
-pub line_text-parts : (place : ℕ) (e : Entry) (payload : List ℕ) → line_text place (record { entry = e; payload = payload }) ≡ decimal place ++ (codes " " ++ (caller_word e.process ++ (codes " " ++ (join_with_byte 32 (call_words e.call) ++ (payload_text payload ++ (codes " -> " ++ (join_with_byte 32 (reply_words e.reply) ++ codes "\n")))))))
+pub line_text-parts : (place : ℕ) (e : Entry) (payload : List ℕ) →
+    line_text place (record { entry = e; payload = payload }) ≡ decimal place ++
+    (codes " " ++ (caller_word e.process ++ (codes " " ++ (join_with_byte 32 (call_words e.call) ++
+    (payload_text payload ++ (codes " -> " ++ (join_with_byte 32 (reply_words e.reply) ++
+    codes "\n")))))))
 unfolding line_text
-line_text-parts place e payload = parts (decimal place) (caller_word e.process) (call_words e.call) payload (reply_words e.reply) (call_some e.call) (reply_some e.reply)
+line_text-parts place e payload = parts (decimal place) (caller_word e.process) (call_words e.call)
+    payload (reply_words e.reply) (call_some e.call) (reply_some e.reply)

@@ -33,8 +33,10 @@ CallFits (call.MqClose d) = d < 2 ^ 32
 CallFits call.MqUnlink = Unit {0}
 CallFits (call.MqSend d prio len) = (d < 2 ^ 32) × (prio < 2 ^ 32) × (len < 2 ^ 64)
 CallFits (call.MqReceive d room) = (d < 2 ^ 32) × (room < 2 ^ 64)
-CallFits (call.MqTimedSend d prio len until now) = (d < 2 ^ 32) × (prio < 2 ^ 32) × (len < 2 ^ 64) × MomentFits until × MomentFits now
-CallFits (call.MqTimedReceive d room until now) = (d < 2 ^ 32) × (room < 2 ^ 64) × MomentFits until × MomentFits now
+CallFits (call.MqTimedSend d prio len until now) = (d < 2 ^ 32) × (prio < 2 ^ 32) × (len < 2 ^ 64) ×
+    MomentFits until × MomentFits now
+CallFits (call.MqTimedReceive d room until now) = (d < 2 ^ 32) × (room < 2 ^ 64) ×
+    MomentFits until × MomentFits now
 CallFits (call.MqGetattr d) = d < 2 ^ 32
 CallFits (call.MqSetattr d nonblock) = d < 2 ^ 32
 CallFits (call.MqNotify d value) = (d < 2 ^ 32) × IfSome value (λ n. n < 2 ^ 64)
@@ -47,7 +49,8 @@ ReplyFits (reply.Opened d created) = d < 2 ^ 32
 ReplyFits (reply.Queued notified) = IfSome notified IsPlace
 ReplyFits (reply.Handed wait) = IsPlace wait
 ReplyFits reply.Waits = Unit {0}
-ReplyFits (reply.Got place admitted notified) = IsPlace place × IfSome admitted IsPlace × IfSome notified IsPlace
+ReplyFits (reply.Got place admitted notified) = IsPlace place × IfSome admitted IsPlace ×
+    IfSome notified IsPlace
 ReplyFits (reply.Collected by) = IsPlace by
 ReplyFits (reply.Withdrawn wait) = IsPlace wait
 ReplyFits (reply.Attrs status) = StatusFits status

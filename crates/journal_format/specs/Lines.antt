@@ -13,7 +13,8 @@ pub record HasRead (start now : Option (List ℕ)) (bytes : List ℕ) (left : �
 -- No more of a line is read: everything was read, or it is already too long, or has a byte that no
 -- line has.
 abbrev pub HasEnded : List ℕ → ℕ → Option (List ℕ) → Type 0
-HasEnded rest left now = (left ≡ 0) ⊎ (IsAtEnd now ⊎ ((MOST_LINE < length rest) ⊎ (can_go_on rest ≡ false)))
+HasEnded rest left now = (left ≡ 0) ⊎
+    (IsAtEnd now ⊎ ((MOST_LINE < length rest) ⊎ (can_go_on rest ≡ false)))
 
 -- the first line in these bytes is longer than a line can be
 abbrev pub IsTooLong : List ℕ → Type 0

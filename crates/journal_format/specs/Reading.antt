@@ -53,7 +53,8 @@ number_at k words = do
 
 -- the caller of a process and the number of one of its threads, if it has 32 bits
 abbrev pub caller_by : ℕ → ℕ → Option ℕ
-caller_by process thread = let caller = process + (thread - 1) * most_processes in if nat_lt caller (2 ^ 32) then Some caller else None
+caller_by process thread = let caller = process + (thread - 1) * most_processes in if nat_lt caller
+    (2 ^ 32) then Some caller else None
 
 -- the caller that a word means, which has its first dot at this index
 abbrev pub caller_around : Option ℕ → Word → Option ℕ
@@ -223,13 +224,16 @@ kind_text kind.Notice = codes "notice"
 kind_text kind.Done = codes "ok"
 
 abbrev pub kinds : List Kind
-kinds = kind.Opened ∷ kind.Queued ∷ kind.Handed ∷ kind.Waits ∷ kind.Got ∷ kind.Collected ∷ kind.Withdrawn ∷ kind.Attrs ∷ kind.Notice ∷ kind.Done ∷ []
+kinds = kind.Opened ∷ kind.Queued ∷ kind.Handed ∷ kind.Waits ∷ kind.Got ∷ kind.Collected ∷
+    kind.Withdrawn ∷ kind.Attrs ∷ kind.Notice ∷ kind.Done ∷ []
 
 unfoldable pub kind_written : Word → Option Kind
 kind_written word = find (λ kind. bytes_eq word (kind_text kind)) kinds
 
 abbrev pub faults : List Fault
-faults = fault.Again ∷ fault.BadDescriptor ∷ fault.Busy ∷ fault.Exists ∷ fault.Invalid ∷ fault.TooManyOpen ∷ fault.MessageSize ∷ fault.NameTooLong ∷ fault.NoEntry ∷ fault.NoSpace ∷ fault.NoMemory ∷ fault.TimedOut ∷ fault.JournalFull ∷ []
+faults = fault.Again ∷ fault.BadDescriptor ∷ fault.Busy ∷ fault.Exists ∷ fault.Invalid ∷
+    fault.TooManyOpen ∷ fault.MessageSize ∷ fault.NameTooLong ∷ fault.NoEntry ∷ fault.NoSpace ∷
+    fault.NoMemory ∷ fault.TimedOut ∷ fault.JournalFull ∷ []
 
 unfoldable pub fault_written : Word → Option Fault
 fault_written word = find (λ fault. bytes_eq word (text_of fault)) faults
@@ -277,7 +281,12 @@ attrs_at words = do
   maxmsg ← integer_at nonblock.1
   msgsize ← integer_at maxmsg.1
   curmsgs ← integer_at msgsize.1
-  Some (reply.Attrs (record { nonblock = nonblock.0; maxmsg = maxmsg.0; msgsize = msgsize.0; curmsgs = curmsgs.0 }))
+  Some (reply.Attrs (record {
+    nonblock = nonblock.0;
+    maxmsg = maxmsg.0;
+    msgsize = msgsize.0;
+    curmsgs = curmsgs.0;
+  }))
 
 unfoldable pub notice_at : List Word → Option Reply
 notice_at words = do
@@ -311,7 +320,8 @@ reply_at words = do
 -- what is between quotes, or nothing if the next word does not begin with a quote
 abbrev pub quoted_or : Word → List Word → Word × List Word
 quoted_or [] words = ([], [] ∷ words)
-quoted_or (b ∷ bytes) words = if b == 34 then (take (length bytes - 1) bytes, words) else ([], (b ∷ bytes) ∷ words)
+quoted_or (b ∷ bytes) words = if b == 34 then (take (length bytes - 1) bytes, words) else
+    ([], (b ∷ bytes) ∷ words)
 
 unfoldable pub quoted_at : List Word → Word × List Word
 quoted_at [] = ([], [])

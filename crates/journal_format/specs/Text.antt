@@ -33,12 +33,14 @@ letter_if false letter = []
 -- the flags of an open: the letter of its access mode, then c for create, x for exclusive, n for
 -- nonblocking
 abbrev pub flags_word : OpenFlags → Word
-flags_word flags = access_letter flags.access ++ (letter_if flags.create (codes "c") ++ (letter_if flags.excl (codes "x") ++ letter_if flags.nonblock (codes "n")))
+flags_word flags = access_letter flags.access ++ (letter_if flags.create (codes "c") ++
+    (letter_if flags.excl (codes "x") ++ letter_if flags.nonblock (codes "n")))
 
 -- the limits of a new queue, if they were given
 abbrev pub limits_words : Option Attr → List Word
 limits_words None = []
-limits_words (Some attr) = codes "limits" ∷ signed_decimal attr.maxmsg ∷ signed_decimal attr.msgsize ∷ []
+limits_words (Some attr) = codes "limits" ∷ signed_decimal attr.maxmsg ∷
+    signed_decimal attr.msgsize ∷ []
 
 -- 1 for nonblocking, else 0
 abbrev pub flag_word : Bool → Word
@@ -66,8 +68,10 @@ call_words (call.MqClose d) = codes "close" ∷ decimal d ∷ []
 call_words call.MqUnlink = codes "unlink" ∷ []
 call_words (call.MqSend d prio len) = codes "send" ∷ decimal d ∷ decimal prio ∷ decimal len ∷ []
 call_words (call.MqReceive d room) = codes "recv" ∷ decimal d ∷ decimal room ∷ []
-call_words (call.MqTimedSend d prio len until now) = codes "tsend" ∷ decimal d ∷ decimal prio ∷ decimal len ∷ moment_words (codes "until") until ++ moment_words (codes "at") now
-call_words (call.MqTimedReceive d room until now) = codes "trecv" ∷ decimal d ∷ decimal room ∷ moment_words (codes "until") until ++ moment_words (codes "at") now
+call_words (call.MqTimedSend d prio len until now) = codes "tsend" ∷ decimal d ∷ decimal prio ∷
+    decimal len ∷ moment_words (codes "until") until ++ moment_words (codes "at") now
+call_words (call.MqTimedReceive d room until now) = codes "trecv" ∷ decimal d ∷ decimal room ∷
+    moment_words (codes "until") until ++ moment_words (codes "at") now
 call_words (call.MqGetattr d) = codes "getattr" ∷ decimal d ∷ []
 call_words (call.MqSetattr d nonblock) = codes "setattr" ∷ decimal d ∷ flag_word nonblock ∷ []
 call_words (call.MqNotify d value) = codes "notify" ∷ decimal d ∷ number_or (codes "-") value ∷ []
@@ -82,10 +86,13 @@ reply_words (reply.Opened d false) = codes "fd" ∷ decimal d ∷ []
 reply_words (reply.Queued notified) = codes "queued" ∷ place_words (codes "notified") notified
 reply_words (reply.Handed wait) = codes "handed" ∷ decimal wait ∷ []
 reply_words reply.Waits = codes "waits" ∷ []
-reply_words (reply.Got place admitted notified) = codes "got" ∷ decimal place ∷ place_words (codes "admitted") admitted ++ place_words (codes "notified") notified
+reply_words (reply.Got place admitted notified) = codes "got" ∷ decimal place ∷ place_words
+    (codes "admitted") admitted ++ place_words (codes "notified") notified
 reply_words (reply.Collected by) = codes "collected" ∷ decimal by ∷ []
 reply_words (reply.Withdrawn wait) = codes "withdrawn" ∷ decimal wait ∷ []
-reply_words (reply.Attrs status) = codes "attr" ∷ flag_word status.nonblock ∷ signed_decimal status.maxmsg ∷ signed_decimal status.msgsize ∷ signed_decimal status.curmsgs ∷ []
+reply_words (reply.Attrs status) = codes "attr" ∷ flag_word status.nonblock ∷
+    signed_decimal status.maxmsg ∷ signed_decimal status.msgsize ∷ signed_decimal status.curmsgs ∷
+    []
 reply_words (reply.Notice value) = codes "notice" ∷ number_or (codes "none") value ∷ []
 reply_words reply.Done = codes "ok" ∷ []
 reply_words (reply.Refused fault) = text_of fault ∷ []
@@ -111,11 +118,14 @@ thread_of caller = (caller - 1) / most_processes + 1
 
 -- a caller: the number of its process, and behind a dot that of the thread, unless it is the first
 abbrev pub caller_word : ℕ → Word
-caller_word caller = if nat_le caller most_processes then decimal caller else decimal (owner_of caller) ++ 46 ∷ decimal (thread_of caller)
+caller_word caller = if nat_le caller most_processes then decimal caller else decimal
+    (owner_of caller) ++ 46 ∷ decimal (thread_of caller)
 
--- the words of a record: its place, its caller, the call with its name or message, an arrow, and the reply
+-- the words of a record: its place, its caller, the call with its name or message, an arrow, and
+-- the reply
 abbrev pub record_words : ℕ → Record → List Word
-record_words place r = decimal place ∷ caller_word r.entry.process ∷ call_words r.entry.call ++ (payload_words r.payload ++ codes "->" ∷ reply_words r.entry.reply)
+record_words place r = decimal place ∷ caller_word r.entry.process ∷ call_words r.entry.call ++
+    (payload_words r.payload ++ codes "->" ∷ reply_words r.entry.reply)
 
 -- the line of a record: its words, separated by spaces, and a line feed
 unfoldable pub line_text : ℕ → Record → List ℕ

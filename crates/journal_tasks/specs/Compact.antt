@@ -24,7 +24,8 @@ IsWritten past None old new =
 IsWritten past (Some why) old new = Explains past why × (new ≡ old)
 
 -- the same for the journal with this text
-pub record Compacts (bytes : List ℕ) (why : Option NoShort) (old new : Option (List ℕ)) : Type 0 where
+pub record Compacts (bytes : List ℕ) (why : Option NoShort)
+    (old new : Option (List ℕ)) : Type 0 where
   pub past : Past
   pub fits : AllFit past
   pub text : bytes ≡ journal_text past

@@ -37,8 +37,10 @@ ending_status OutOfBudget = 6
 pub record AreFound (budget : ℕ) (from : Stage) (collected : Collected) : Type 0 where
   pub witnessed : All (IsWitness next_stage stands_still observed from) collected.found.items
   pub distinct : AreDistinct collected.found.items
-  pub all : collected.complete ≡ true → AreAll next_stage stands_still observed from collected.found.items
-  pub used_up : collected.complete ≡ false → TakesAll next_stage choice_count (λ depth. 1) budget from
+  pub all : collected.complete ≡ true →
+      AreAll next_stage stands_still observed from collected.found.items
+  pub used_up : collected.complete ≡ false →
+      TakesAll next_stage choice_count (λ depth. 1) budget from
   pub steps : (collected.steps ≤ budget) × (collected.complete ≡ false → collected.steps ≡ budget)
   pub within : collected.complete ≡ true → AreFoundWithin collected.steps collected.found.items
   pub states : 2 * collected.states ≤ collected.steps
@@ -51,7 +53,8 @@ numbered found (suc index) = slice_get found index
 
 -- the text of the journal after a schedule from this stage
 abbrev pub journal_of : Stage → List ℕ → List ℕ
-journal_of from schedule = unwrap_or (option_map (λ (to : Stage). journal_text to.past) (after next_stage schedule from)) []
+journal_of from schedule = unwrap_or (option_map (λ (to : Stage). journal_text to.past)
+    (after next_stage schedule from)) []
 
 -- the journal that leads to the item with a number, if there is one
 abbrev pub numbered_text : Stage → Option Witnessed → List ℕ
@@ -60,8 +63,10 @@ numbered_text from (Some one) = journal_of from one.schedule.items
 
 -- the answer: the report, or the journal with a number
 abbrev pub answer_text : Option ℕ → ℕ → Stage → Collected → List ℕ
-answer_text None phases from collected = report_text phases collected.found.items collected.complete collected.steps collected.states
-answer_text (Some number) phases from collected = numbered_text from (numbered collected.found.items number)
+answer_text None phases from collected = report_text phases collected.found.items collected.complete
+    collected.steps collected.states
+answer_text (Some number) phases from collected =
+    numbered_text from (numbered collected.found.items number)
 
 abbrev pub has_deadlock : List Witnessed → Bool
 has_deadlock found = list_any (λ one. one.outcome.stuck) found
@@ -69,7 +74,8 @@ has_deadlock found = list_any (λ one. one.outcome.stuck) found
 -- the result of trying the interleavings
 abbrev pub ending_of : Collected → Ending
 ending_of collected =
-    if has_deadlock collected.found.items then Deadlock else (if collected.complete then Well else OutOfBudget)
+    if has_deadlock collected.found.items then Deadlock else
+    (if collected.complete then Well else OutOfBudget)
 
 abbrev pub ending_if : Collected → Option Witnessed → Ending
 ending_if collected None = if collected.complete then NoSuch else NotReached
@@ -82,23 +88,27 @@ answer_ending (Some number) collected = ending_if collected (numbered collected.
 
 -- All interleavings of a script were tried, unless the budget was used up, and the answer was
 -- appended to known bytes. The script, which has these bytes, starts after the calls of a journal.
-pub record AnswersAfter (past : Past) (script : Whole) (bytes : List ℕ) (trial : Trial) (ending : Ending) (old new : Option (List ℕ)) : Type 0 where
+pub record AnswersAfter (past : Past) (script : Whole) (bytes : List ℕ) (trial : Trial)
+    (ending : Ending) (old new : Option (List ℕ)) : Type 0 where
   pub from : Stage
   pub begins : BeginsAfter past script from
   pub says : from.script ≡ bytes
   pub collected : Collected
   pub found : AreFound trial.budget from collected
   pub ends : ending ≡ answer_ending trial.journal collected
-  pub written : known.Appends old new (answer_text trial.journal (length script.phases) from collected)
+  pub written : known.Appends old new (answer_text trial.journal
+      (length script.phases) from collected)
 
 -- the same, but a proper prefix of the answer was appended
-pub record AnswersAfterInPart (past : Past) (script : Whole) (bytes : List ℕ) (trial : Trial) (old new : Option (List ℕ)) : Type 0 where
+pub record AnswersAfterInPart (past : Past) (script : Whole) (bytes : List ℕ) (trial : Trial)
+    (old new : Option (List ℕ)) : Type 0 where
   pub from : Stage
   pub begins : BeginsAfter past script from
   pub says : from.script ≡ bytes
   pub collected : Collected
   pub found : AreFound trial.budget from collected
-  pub written : AppendsTooLittle old new (answer_text trial.journal (length script.phases) from collected)
+  pub written : AppendsTooLittle old new (answer_text trial.journal
+      (length script.phases) from collected)
 
 -- the same for a script that starts with the empty journal
 abbrev pub Answers : Whole → List ℕ → Trial → Ending → Option (List ℕ) → Option (List ℕ) → Type 0
@@ -109,6 +119,9 @@ AnswersInPart script bytes trial old new = AnswersAfterInPart [] script bytes tr
 
 -- The answer was written; or nothing was, and there is a reason why the script cannot continue from
 -- the journal.
-abbrev pub AnswersOrNot : Past → Whole → List ℕ → Trial → Result Ending NoStart → Option (List ℕ) → Option (List ℕ) → Type 0
-AnswersOrNot past script bytes trial (Ok ending) old new = AnswersAfter past script bytes trial ending old new
-AnswersOrNot past script bytes trial (Err why) old new = IsNoStart past script.processes why × (new ≡ old)
+abbrev pub AnswersOrNot : Past → Whole → List ℕ → Trial → Result Ending NoStart → Option (List ℕ) →
+    Option (List ℕ) → Type 0
+AnswersOrNot past script bytes trial (Ok ending) old new =
+    AnswersAfter past script bytes trial ending old new
+AnswersOrNot past script bytes trial (Err why) old new = IsNoStart past script.processes why ×
+    (new ≡ old)

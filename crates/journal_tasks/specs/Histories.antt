@@ -41,7 +41,8 @@ message_came (Some completion) = message_received completion.outcome completion.
 -- what was noted for a process, in the order of its calls
 abbrev pub completions_of : ℕ → List Noted → List Completion
 completions_of p [] = []
-completions_of p (one ∷ noted) = if one.process == p then one.completion ∷ completions_of p noted else completions_of p noted
+completions_of p (one ∷ noted) = if one.process == p then one.completion ∷ completions_of p noted
+    else completions_of p noted
 
 -- A call of a history: its process, the call, its name or message, what it returned, and whether it
 -- began before it ended.
@@ -65,10 +66,24 @@ asked c = record {
 
 abbrev pub call_by : ℕ → Call → List ℕ → Option Completion → Asked
 call_by p call given came =
-    record { process = p; call = call; given = given; reply = reply_came came; message = message_came came; in_order = true }
+    record {
+      process = p;
+      call = call;
+      given = given;
+      reply = reply_came came;
+      message = message_came came;
+      in_order = true;
+    }
 
 abbrev pub close_by : ℕ → ℕ → Asked
-close_by p d = record { process = p; call = MqClose d; given = []; reply = Some reply.Done; message = []; in_order = true }
+close_by p d = record {
+  process = p;
+  call = MqClose d;
+  given = [];
+  reply = Some reply.Done;
+  message = [];
+  in_order = true;
+}
 
 -- The calls that process p makes for a line with this result: the call of the line; none if the
 -- name is malformed; and for an exit, a close of each of some descriptors.
@@ -89,7 +104,8 @@ MakesAll p came (plan ∷ plans) calls =
 
 -- The calls that it makes for the first lines of a program, with the results that were noted: all
 -- lines that returned, and at most one more, which had not.
-pub record MakesFront (p : ℕ) (program : List Plan) (completions : List Completion) (calls : List Asked) : Type 0 where
+pub record MakesFront (p : ℕ) (program : List Plan) (completions : List Completion)
+    (calls : List Asked) : Type 0 where
   pub count : ℕ
   pub makes : MakesAll p (slice_get completions) (take count program) calls
   pub all : (length program ≤ count) ⊎ (length completions ≤ count)
@@ -111,7 +127,8 @@ pub record AreOfScript (script : Whole) (noted : List Noted) (calls : List Calle
 
 -- the text of a history of the calls of a script, with the results that were noted, was appended to
 -- known bytes
-pub record WritesHistory (script : Whole) (noted : List Noted) (old new : Option (List ℕ)) : Type 0 where
+pub record WritesHistory (script : Whole) (noted : List Noted)
+    (old new : Option (List ℕ)) : Type 0 where
   pub calls : List Called
   pub are : AreOfScript script noted calls
   pub written : known.Appends old new (history_text calls)

@@ -36,37 +36,47 @@ pub record AreFoundInTime (limit : ℕ) (from : Stage) (collected : Collected) :
 
 -- The last search had some budget, up to that of the trial, and the answer is that of a trial with
 -- this budget.
-pub record AnswersInTime (past : Past) (script : Whole) (bytes : List ℕ) (trial : Trial) (ending : Ending) (old new : Option (List ℕ)) : Type 0 where
+pub record AnswersInTime (past : Past) (script : Whole) (bytes : List ℕ) (trial : Trial)
+    (ending : Ending) (old new : Option (List ℕ)) : Type 0 where
   pub budget : ℕ
   pub fits : IsBudgetInTime first_for_orders trial.budget budget
   pub answers : AnswersAfter past script bytes (record trial { budget = budget }) ending old new
 
 -- the same, but a proper prefix of the answer was appended
-pub record AnswersInTimeInPart (past : Past) (script : Whole) (bytes : List ℕ) (trial : Trial) (old new : Option (List ℕ)) : Type 0 where
+pub record AnswersInTimeInPart (past : Past) (script : Whole) (bytes : List ℕ) (trial : Trial)
+    (old new : Option (List ℕ)) : Type 0 where
   pub budget : ℕ
   pub fits : IsBudgetInTime first_for_orders trial.budget budget
   pub answers : AnswersAfterInPart past script bytes (record trial { budget = budget }) old new
 
 -- The answer was written; or nothing was, and there is a reason why the script cannot continue from
 -- the journal.
-abbrev pub AnswersInTimeOrNot : Past → Whole → List ℕ → Trial → Result Ending NoStart → Option (List ℕ) → Option (List ℕ) → Type 0
-AnswersInTimeOrNot past script bytes trial (Ok ending) old new = AnswersInTime past script bytes trial ending old new
-AnswersInTimeOrNot past script bytes trial (Err why) old new = IsNoStart past script.processes why × (new ≡ old)
+abbrev pub AnswersInTimeOrNot : Past → Whole → List ℕ → Trial → Result Ending NoStart →
+    Option (List ℕ) → Option (List ℕ) → Type 0
+AnswersInTimeOrNot past script bytes trial (Ok ending) old new = AnswersInTime past script bytes
+    trial ending old new
+AnswersInTimeOrNot past script bytes trial (Err why) old new = IsNoStart past script.processes why ×
+    (new ≡ old)
 
 -- the result of the last check of these calls, and its budget
-pub record IsJudgedInTime (limit : ℕ) (calls : List Called) (budget : ℕ) (judgement : Judgement) : Type 0 where
+pub record IsJudgedInTime (limit : ℕ) (calls : List Called) (budget : ℕ)
+    (judgement : Judgement) : Type 0 where
   pub fits : IsBudgetInTime (first_for_calls (length calls)) limit budget
   pub judges : IsJudgement budget calls judgement
 
 -- The last check had some budget, up to the given one, and the answer is that of a check with this
 -- budget.
-pub record JudgesInTime (limit : Option ℕ) (bytes : List ℕ) (with_journal : Bool) (status : ℕ) (old new : Option (List ℕ)) : Type 0 where
+pub record JudgesInTime (limit : Option ℕ) (bytes : List ℕ) (with_journal : Bool) (status : ℕ)
+    (old new : Option (List ℕ)) : Type 0 where
   pub budget : ℕ
   pub judges : JudgesHistory (Some budget) bytes with_journal status old new
-  pub fits : IsBudgetInTime (first_for_calls (length judges.calls)) (budget_for limit (length judges.calls)) budget
+  pub fits : IsBudgetInTime (first_for_calls (length judges.calls))
+      (budget_for limit (length judges.calls)) budget
 
 -- the same, but a proper prefix of the answer was appended
-pub record StopsInTime (limit : Option ℕ) (bytes : List ℕ) (with_journal : Bool) (old new : Option (List ℕ)) : Type 0 where
+pub record StopsInTime (limit : Option ℕ) (bytes : List ℕ) (with_journal : Bool)
+    (old new : Option (List ℕ)) : Type 0 where
   pub budget : ℕ
   pub stops : StopsInJudgement (Some budget) bytes with_journal old new
-  pub fits : IsBudgetInTime (first_for_calls (length stops.calls)) (budget_for limit (length stops.calls)) budget
+  pub fits : IsBudgetInTime (first_for_calls (length stops.calls))
+      (budget_for limit (length stops.calls)) budget

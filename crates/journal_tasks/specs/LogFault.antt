@@ -11,7 +11,8 @@ use Rattle.journal_tasks.specs.declared.fault.LogFault.TheVariants.{BadLine, Ill
 -- the text on standard error
 abbrev pub fault_text : LogFault → List ℕ
 fault_text (BadLine line) = journal_fault_text (journal.BadLine line)
-fault_text (IllFormed line why) = codes "line " ++ (decimal line ++ (codes ": " ++ ill_formed_text why))
+fault_text (IllFormed line why) = codes "line " ++
+    (decimal line ++ (codes ": " ++ ill_formed_text why))
 fault_text Input = codes "input fault"
 fault_text Output = codes "output fault"
 fault_text NoMemory = codes "no memory"

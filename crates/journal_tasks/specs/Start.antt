@@ -27,5 +27,6 @@ pub record WaitsAt (past : Past) (n place : ℕ) : Type 0 where
 -- why a script of n processes cannot continue from a journal
 abbrev pub IsNoStart : Past → ℕ → NoStart → Type 0
 IsNoStart past n (Illegal place) = IsFirstIllegal past place
-IsNoStart past n (Foreign place) = (place < length past) × IfSome (record_at past place) (λ r. n < r.entry.process)
+IsNoStart past n (Foreign place) = (place < length past) × IfSome (record_at past place)
+    (λ r. n < r.entry.process)
 IsNoStart past n (Waits place) = WaitsAt past n place

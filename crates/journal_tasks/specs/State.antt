@@ -23,7 +23,8 @@ entries_wanted wanted past = first (count_wanted wanted past) past
 -- why there is no state: the journal has fewer entries, or one of them is not legal
 abbrev pub LacksState : Wanted → Past → NoState → Type 0
 LacksState wanted past (Beyond len) = (len ≡ length past) × (length past < count_wanted wanted past)
-LacksState wanted past (Illegal place) = (count_wanted wanted past ≤ length past) × IsFirstIllegal (entries_wanted wanted past) place
+LacksState wanted past (Illegal place) = (count_wanted wanted past ≤ length past) × IsFirstIllegal
+    (entries_wanted wanted past) place
 
 -- the text of the state after these entries, which are legal
 pub record IsTextOf (wanted : Wanted) (past : Past) (text : List ℕ) : Type 0 where
@@ -33,11 +34,13 @@ pub record IsTextOf (wanted : Wanted) (past : Past) (text : List ℕ) : Type 0 w
 
 -- The text of that state was appended to known bytes; or they are unchanged, and there is a reason.
 abbrev pub IsShown : Wanted → Past → Option NoState → Option (List ℕ) → Option (List ℕ) → Type 0
-IsShown wanted past None old new = (text : List ℕ) × IsTextOf wanted past text × known.Appends old new text
+IsShown wanted past None old new = (text : List ℕ) × IsTextOf wanted past text ×
+    known.Appends old new text
 IsShown wanted past (Some why) old new = LacksState wanted past why × (new ≡ old)
 
 -- the same for the journal with this text
-pub record Tells (bytes : List ℕ) (wanted : Wanted) (why : Option NoState) (old new : Option (List ℕ)) : Type 0 where
+pub record Tells (bytes : List ℕ) (wanted : Wanted) (why : Option NoState)
+    (old new : Option (List ℕ)) : Type 0 where
   pub past : Past
   pub fits : AllFit past
   pub text : bytes ≡ journal_text past

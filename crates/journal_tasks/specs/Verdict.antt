@@ -37,7 +37,11 @@ abbrev pub creates : Record → Bool
 creates r = opens_new r.entry.reply
 
 abbrev pub counts_of : Past → Counts
-counts_of past = record { entries = length past; processes = processes_to 32 past; queues = count_by creates past }
+counts_of past = record {
+  entries = length past;
+  processes = processes_to 32 past;
+  queues = count_by creates past;
+}
 
 -- a number of things, with the word for one of them or that for several
 abbrev pub counted : ℕ → List ℕ → List ℕ → List ℕ
@@ -67,7 +71,9 @@ cause_text (cause.Reply expected) = codes "expected " ++ join_with_byte 32 (repl
 -- What is printed if a journal is not legal: the place of its first entry that is not legal, why,
 -- and its line.
 abbrev pub illegal_text : Past → Departure → List ℕ
-illegal_text past d = codes "entry " ++ (decimal d.place ++ (codes ": " ++ (cause_text d.cause ++ 10 ∷ last_line (first (d.place + 1) past))))
+illegal_text past d = codes "entry " ++
+    (decimal d.place ++
+    (codes ": " ++ (cause_text d.cause ++ 10 ∷ last_line (first (d.place + 1) past))))
 
 abbrev pub verdict_text : Past → Verdict → List ℕ
 verdict_text past (Legal counts) = legal_text counts

@@ -28,7 +28,8 @@ pub record Draws (bytes : List ℕ) (window : Window) (old new : Option (List �
   pub fits : AllFit past
   pub text : bytes ≡ journal_text past
   pub begins : is_beyond window.from (length past) ≡ false
-  pub written : known.Appends old new (picture_text past (first_shown window (length past)) (count_shown window (length past)))
+  pub written : known.Appends old new (picture_text past (first_shown window (length past))
+      (count_shown window (length past)))
 
 -- a proper prefix of such a picture was appended to known bytes
 pub record DrawsInPart (bytes : List ℕ) (window : Window) (old new : Option (List ℕ)) : Type 0 where
@@ -36,4 +37,5 @@ pub record DrawsInPart (bytes : List ℕ) (window : Window) (old new : Option (L
   pub fits : AllFit past
   pub text : bytes ≡ journal_text past
   pub begins : is_beyond window.from (length past) ≡ false
-  pub written : AppendsTooLittle old new (picture_text past (first_shown window (length past)) (count_shown window (length past)))
+  pub written : AppendsTooLittle old new (picture_text past (first_shown window (length past))
+      (count_shown window (length past)))

@@ -14,7 +14,8 @@ pub processes-nil : processes [] ≡ []
 unfolding processes
 processes-nil = refl
 
-pub processes-more : (r : Record) (past : Past) → processes (r ∷ past) ≡ with_process r.entry.process (processes past)
+pub processes-more : (r : Record) (past : Past) → processes (r ∷ past) ≡
+    with_process r.entry.process (processes past)
 unfolding processes
 processes-more r past = refl
 
@@ -24,23 +25,29 @@ pub heads-none : (x : ℕ) (number : List ℕ) → heads_text x number 0 ≡ []
 unfolding heads_text
 heads-none x number = refl
 
-pub heads-more : (x n : ℕ) (number : List ℕ) → heads_text x number (n + 1) ≡ heads_text x number n ++ head_text x (n * 816 + 48) number
+pub heads-more : (x n : ℕ) (number : List ℕ) → heads_text x number (n + 1) ≡
+    heads_text x number n ++ head_text x (n * 816 + 48) number
 unfolding heads_text
 heads-more x n number = rw add-one refl
 
 pub ruleset heads_steps = (heads-none, heads-more, append-nil, append_assoc)
 
-pub entries-none : (past : Past) (ps : List Process) (from : Place) (count : ℕ) → entries_text past ps from count 0 ≡ []
+pub entries-none : (past : Past) (ps : List Process) (from : Place) (count : ℕ) →
+    entries_text past ps from count 0 ≡ []
 unfolding entries_text
 entries-none past ps from count = refl
 
-pub entries-more : (past : Past) (ps : List Process) (from : Place) (count k : ℕ) → entries_text past ps from count (k + 1) ≡ entries_text past ps from count k ++ last_text past ps from count (first (from + k + 1) past)
+pub entries-more : (past : Past) (ps : List Process) (from : Place) (count k : ℕ) →
+    entries_text past ps from count (k + 1) ≡ entries_text past ps from count k ++
+    last_text past ps from count (first (from + k + 1) past)
 unfolding entries_text
 entries-more past ps from count k = rw add-one refl
 
 pub ruleset entries_steps = (entries-none, entries-more, append-nil, append_assoc)
 
-pub ending-more : (wait : Place) (r : Record) (past : Past) → ending wait (r ∷ past) ≡ option_or (ending wait past) (if nat_lt wait (length past) && is_place wait (ended_wait r.entry.reply) then Some (length past) else None)
+pub ending-more : (wait : Place) (r : Record) (past : Past) → ending wait (r ∷ past) ≡
+    option_or (ending wait past) (if nat_lt wait (length past) && is_place wait
+    (ended_wait r.entry.reply) then Some (length past) else None)
 unfolding ending
 ending-more wait r past = refl
 
@@ -59,7 +66,9 @@ pub wait_begun-nil : (p : Process) → wait_begun [] p ≡ None
 unfolding wait_begun
 wait_begun-nil p = refl
 
-pub wait_begun-more : (r : Record) (past : Past) (p : Process) → wait_begun (r ∷ past) p ≡ (if r.entry.process == p then (if is_wait r.entry.reply then Some (length past) else None) else wait_begun past p)
+pub wait_begun-more : (r : Record) (past : Past) (p : Process) → wait_begun (r ∷ past) p ≡
+    (if r.entry.process == p then (if is_wait r.entry.reply then Some (length past) else None) else
+    wait_begun past p)
 unfolding wait_begun
 wait_begun-more r past p = refl
 
@@ -69,14 +78,19 @@ pub queue_named-nil : (p : Process) (d : Descriptor) → queue_named [] p d ≡ 
 unfolding queue_named
 queue_named-nil p d = refl
 
-pub queue_named-more : (r : Record) (past : Past) (p : Process) (d : Descriptor) → queue_named (r ∷ past) p d ≡ (if shares r.entry.process p && is_place d (opened_number r.entry.call r.entry.reply) then r.payload else queue_named past p d)
+pub queue_named-more : (r : Record) (past : Past) (p : Process) (d : Descriptor) →
+    queue_named (r ∷ past) p d ≡
+    (if shares r.entry.process p && is_place d (opened_number r.entry.call r.entry.reply) then
+    r.payload else queue_named past p d)
 unfolding queue_named
 queue_named-more r past p d = refl
 
 pub ruleset queue_named_steps = (queue_named-nil, queue_named-more)
 
-pub named-append : (xs ys : List ℕ) → flat_map named (xs ++ ys) ≡ flat_map named xs ++ flat_map named ys
+pub named-append : (xs ys : List ℕ) → flat_map named (xs ++ ys) ≡ flat_map named xs ++
+    flat_map named ys
 named-append [] ys = refl
-named-append (x ∷ xs) ys = ap (λ t. named x ++ t) (named-append xs ys) ∙ sym (append_assoc (named x) (flat_map named xs) (flat_map named ys))
+named-append (x ∷ xs) ys = ap (λ t. named x ++ t) (named-append xs ys) ∙
+    sym (append_assoc (named x) (flat_map named xs) (flat_map named ys))
 
 pub ruleset named_steps = (named-append, append_assoc)

@@ -17,25 +17,30 @@ use Rattle.journal_views.specs.declared.followed.Followed.{Followed}
 -- the first of these queues that was created under a name
 abbrev pub bound_in : Past → List ℕ → List ℕ → Option ℕ
 bound_in past [] name = None
-bound_in past (q ∷ queues) name = if bytes_eq (name_of past q) name then Some q else bound_in past queues name
+bound_in past (q ∷ queues) name = if bytes_eq (name_of past q) name then Some q else bound_in
+    past queues name
 
 -- the queue that a call is made on, given what each process holds
 abbrev pub called_in : List Owner → ℕ → Call → Option ℕ
-called_in owners p call = option_map (λ h. h.queue) (option_and_then (held_in owners p) (descriptor_of call))
+called_in owners p call = option_map (λ h. h.queue) (option_and_then (held_in owners p)
+    (descriptor_of call))
 
 -- the queues that are bound to their names after the entry at place k, with this payload
 abbrev pub bound_after : Past → ℕ → Entry → List ℕ → List ℕ → List ℕ
 bound_after past k e name queues =
     if creates e.call e.reply then k ∷ queues
-    else (if unlinks e.call e.reply then filter (λ q. not (bytes_eq (name_of past q) name)) queues else queues)
+    else (if unlinks e.call e.reply then filter (λ q. not (bytes_eq (name_of past q) name))
+    queues else queues)
 
 -- After the first k entries these queues are bound to their names. The latest is first.
 abbrev pub AreBound : Past → ℕ → List ℕ → Type 0
-AreBound past k queues = (name : List ℕ) → bound_in past queues name ≡ bound_queue (first k past) name
+AreBound past k queues = (name : List ℕ) → bound_in past queues name ≡
+    bound_queue (first k past) name
 
 -- each of the first k entries is made on this queue, through the descriptor that its call names
 abbrev pub AreOn : Past → ℕ → List (Option ℕ) → Type 0
-AreOn past k on = (i : ℕ) (r : Record) → i < k → first (i + 1) past ≡ r ∷ first i past → get_or on i None ≡ called_queue (first i past) r.entry.process r.entry.call
+AreOn past k on = (i : ℕ) (r : Record) → i < k → first (i + 1) past ≡ r ∷ first i past →
+    get_or on i None ≡ called_queue (first i past) r.entry.process r.entry.call
 
 -- the tables are those of the first k entries
 pub record Follows (past : Past) (k : ℕ) (f : Followed) : Type 0 where

@@ -21,4 +21,5 @@ lines_text past from (suc k) = lines_text past from k ++ last_line (first (from 
 -- A page: the head of its template, the line of the state before, the lines of `count` records from
 -- the place `from` on, and the tail of the template.
 abbrev pub page_text : List ℕ → List ℕ → List ℕ → Past → Place → ℕ → List ℕ
-page_text head tail before past from count = head ++ (flat_map shielded before ++ (flat_map shielded (lines_text past from count) ++ tail))
+page_text head tail before past from count = head ++ (flat_map shielded before ++
+    (flat_map shielded (lines_text past from count) ++ tail))

@@ -20,7 +20,9 @@ abbrev pub json_front : Queue → List ℕ
 json_front q = codes "{\"queue\":" ++ (decimal q ++ codes ",\"name\":")
 
 abbrev pub json_rest : Bool → Attr → List ℕ
-json_rest named limits = codes ",\"named\":" ++ (true_or_false named ++ (codes ",\"maxmsg\":" ++ (signed_decimal limits.maxmsg ++ (codes ",\"msgsize\":" ++ signed_decimal limits.msgsize))))
+json_rest named limits = codes ",\"named\":" ++
+    (true_or_false named ++ (codes ",\"maxmsg\":" ++ (signed_decimal limits.maxmsg ++
+    (codes ",\"msgsize\":" ++ signed_decimal limits.msgsize))))
 
 -- the JSON of a description after its access mode, and after its queue
 abbrev pub json_flag : Bool → List ℕ

@@ -23,7 +23,12 @@ kind reply = codes "call"
 -- the start of a mark: its kind, a point, and its text at the column of texts
 unfoldable pub mark_front : ℕ → ℕ → ℕ → Reply → List ℕ
 mark_front column x y reply =
-    codes "<g class=\"" ++ (kind reply ++ (codes "\"><circle cx=\"" ++ (decimal x ++ (codes "\" cy=\"" ++ (decimal y ++ (codes "\" r=\"4\"/><text x=\"" ++ (decimal column ++ (codes "\" y=\"" ++ (decimal (y + 4) ++ codes "\">")))))))))
+    codes "<g class=\"" ++
+    (kind reply ++ (codes "\"><circle cx=\"" ++
+    (decimal x ++
+    (codes "\" cy=\"" ++
+    (decimal y ++ (codes "\" r=\"4\"/><text x=\"" ++
+    (decimal column ++ (codes "\" y=\"" ++ (decimal (y + 4) ++ codes "\">")))))))))
 
 -- the x coordinate of the texts of the entries: to the right of the lanes
 abbrev pub column : List Process → ℕ
@@ -33,11 +38,17 @@ column ps = (min (length ps) 41 + 1) * 60
 unfoldable pub mark_text : List Process → Place → Place → Record → List ℕ
 mark_text ps from place r =
     mark_front (column ps) (lane ps r.entry.process) (row from place) r.entry.reply ++
-    (label (line_text place r) (join_with_byte 32 (reply_words r.entry.reply)) ++ codes "</text></g>\n")
+    (label (line_text place r) (join_with_byte 32 (reply_words r.entry.reply)) ++
+    codes "</text></g>\n")
 
 -- the end points of a line
 unfoldable pub ends_text : Stroke → List ℕ
-ends_text stroke = codes "x1=\"" ++ (decimal stroke.x1 ++ (codes "\" y1=\"" ++ (decimal stroke.y1 ++ (codes "\" x2=\"" ++ (decimal stroke.x2 ++ (codes "\" y2=\"" ++ (decimal stroke.y2 ++ codes "\"")))))))
+ends_text stroke = codes "x1=\"" ++
+    (decimal stroke.x1 ++
+    (codes "\" y1=\"" ++
+    (decimal stroke.y1 ++
+    (codes "\" x2=\"" ++
+    (decimal stroke.x2 ++ (codes "\" y2=\"" ++ (decimal stroke.y2 ++ codes "\"")))))))
 
 unfoldable pub bar_text : Option Stroke → List ℕ
 bar_text None = []
@@ -45,15 +56,19 @@ bar_text (Some stroke) = codes "<line class=\"wait\" " ++ (ends_text stroke ++ c
 
 -- an arrow in a hue
 unfoldable pub flight_text : Stroke → ℕ → List ℕ
-flight_text stroke hue = codes "<line class=\"message\" stroke=\"hsl(" ++ (decimal hue ++ (codes ",80%,30%)\" " ++ (ends_text stroke ++ (codes " marker-end=\"url(#tip" ++ (decimal hue ++ codes ")\"/>\n")))))
+flight_text stroke hue = codes "<line class=\"message\" stroke=\"hsl(" ++
+    (decimal hue ++ (codes ",80%,30%)\" " ++ (ends_text stroke ++ (codes " marker-end=\"url(#tip" ++
+    (decimal hue ++ codes ")\"/>\n")))))
 
 -- the start of the name of a queue, beside this point
 unfoldable pub name_front : ℕ → ℕ → List ℕ
-name_front x y = codes "<text class=\"queue\" x=\"" ++ (decimal (x + 6) ++ (codes "\" y=\"" ++ (decimal (y - 3) ++ codes "\">")))
+name_front x y = codes "<text class=\"queue\" x=\"" ++
+    (decimal (x + 6) ++ (codes "\" y=\"" ++ (decimal (y - 3) ++ codes "\">")))
 
 -- the name of a queue beside this point: its first 24 bytes, with the quotes
 unfoldable pub name_text : ℕ → ℕ → List ℕ → List ℕ
-name_text x y name = name_front x y ++ (flat_map named (take 26 (payload_text name)) ++ codes "</text>\n")
+name_text x y name = name_front x y ++ (flat_map named (take 26 (payload_text name)) ++
+    codes "</text>\n")
 
 -- an arrow, and at its start the name of the queue
 unfoldable pub arrow_text : Past → Option Flight → List ℕ
@@ -66,7 +81,8 @@ arrow_text past (Some f) =
 unfoldable pub record_text : Past → List Process → Place → ℕ → Place → Record → List ℕ
 record_text past ps from count place r =
     mark_text ps from place r ++
-    (bar_text (bar_of past ps from count place r.entry) ++ arrow_text past (arrow past ps from place r.entry))
+    (bar_text (bar_of past ps from count place r.entry) ++ arrow_text past
+    (arrow past ps from place r.entry))
 
 -- the picture of the last of these records, in the journal `past`
 unfoldable pub last_text : Past → List Process → Place → ℕ → Past → List ℕ
@@ -86,7 +102,9 @@ number_text ps p = if nat_lt (count_left p ps) 40 then caller_word p else codes 
 -- a text in a lane, at these coordinates
 unfoldable pub head_text : ℕ → ℕ → List ℕ → List ℕ
 head_text x y number =
-    codes "<text class=\"lane\" x=\"" ++ (decimal x ++ (codes "\" y=\"" ++ (decimal y ++ (codes "\">" ++ (number ++ codes "</text>\n")))))
+    codes "<text class=\"lane\" x=\"" ++
+    (decimal x ++
+    (codes "\" y=\"" ++ (decimal y ++ (codes "\">" ++ (number ++ codes "</text>\n")))))
 
 -- the number of a process n times: before the first row, and before each fiftieth
 unfoldable pub heads_text : ℕ → List ℕ → ℕ → List ℕ
@@ -96,7 +114,9 @@ heads_text x number (suc n) = heads_text x number n ++ head_text x (n * 816 + 48
 -- the line of a lane
 unfoldable pub line_down : ℕ → ℕ → List ℕ
 line_down x down =
-    codes "<line class=\"lane\" x1=\"" ++ (decimal x ++ (codes "\" y1=\"30\" x2=\"" ++ (decimal x ++ (codes "\" y2=\"" ++ (decimal down ++ codes "\"/>\n")))))
+    codes "<line class=\"lane\" x1=\"" ++
+    (decimal x ++ (codes "\" y1=\"30\" x2=\"" ++
+    (decimal x ++ (codes "\" y2=\"" ++ (decimal down ++ codes "\"/>\n")))))
 
 -- how often the numbers are shown in a picture of `count` entries
 abbrev pub heads : ℕ → ℕ
@@ -107,13 +127,16 @@ heads count = (count - 1) / 50 + 1
 unfoldable pub lane_text : Past → List Process → Place → ℕ → Process → List ℕ
 lane_text past ps from count p =
     line_down (lane ps p) (height count) ++
-    (heads_text (lane ps p) (number_text ps p) (heads count) ++ bar_text (bar_before past ps from count p))
+    (heads_text (lane ps p) (number_text ps p) (heads count) ++
+    bar_text (bar_before past ps from count p))
 
 -- how many entries are left out
 unfoldable pub left_out_text : ℕ → ℕ → List ℕ
 left_out_text before behind =
     if before + behind == 0 then []
-    else codes "<text class=\"queue\" x=\"60\" y=\"12\">" ++ (decimal before ++ (codes " entries before these are left out, and " ++ (decimal behind ++ codes " behind them</text>\n")))
+    else codes "<text class=\"queue\" x=\"60\" y=\"12\">" ++
+    (decimal before ++ (codes " entries before these are left out, and " ++
+    (decimal behind ++ codes " behind them</text>\n")))
 
 -- what is above the lanes: that the journal is empty, or how many entries are left out
 unfoldable pub note_text : Past → Place → ℕ → List ℕ
@@ -125,7 +148,8 @@ note_text past from count =
 -- the start of a picture: its size, its colours, and the arrowheads
 unfoldable pub front_text : ℕ → ℕ → List ℕ
 front_text width down =
-    codes "<svg xmlns=\"http://www.w3.org/2000/svg\" width=\"" ++ (decimal width ++ (codes "\" height=\"" ++ (decimal down ++ (codes "\">\n" ++ style_text))))
+    codes "<svg xmlns=\"http://www.w3.org/2000/svg\" width=\"" ++
+    (decimal width ++ (codes "\" height=\"" ++ (decimal down ++ (codes "\">\n" ++ style_text))))
 
 -- A picture of `count` records from the place `from` on: the note above the lanes, a lane for each
 -- process that occurs, each record, and to the right of the lanes their texts.
@@ -134,4 +158,5 @@ picture_text past from count =
     let ps = processes past in
     front_text (column ps + 740) (height count) ++
     (note_text past from count ++
-    (flat_map (lane_text past ps from count) ps ++ (entries_text past ps from count count ++ codes "</svg>\n")))
+    (flat_map (lane_text past ps from count) ps ++ (entries_text past ps from count count ++
+    codes "</svg>\n")))

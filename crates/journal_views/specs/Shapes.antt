@@ -34,23 +34,31 @@ height count = depth count + 20
 
 -- the entry at the place `other`, if that is before `place`
 unfoldable pub entry_before : Past → Place → Place → Option Entry
-entry_before past place other = if nat_lt other place then option_map (λ r. r.entry) (record_at past other) else None
+entry_before past place other = if nat_lt other place then option_map (λ r. r.entry)
+    (record_at past other) else None
 
 -- The bar of a wait of process p that ended at this place. If it did not end by the last entry
 -- shown, the bar goes to the lower edge.
 abbrev pub bar_to : List Process → Place → ℕ → Process → Place → Option Place → Option Stroke
-bar_to ps from count p wait None = Some (record { x1 = lane ps p; y1 = row from wait; x2 = lane ps p; y2 = height count })
+bar_to ps from count p wait None = Some (record {
+  x1 = lane ps p;
+  y1 = row from wait;
+  x2 = lane ps p;
+  y2 = height count;
+})
 bar_to ps from count p wait (Some end) =
     if nat_lt end from then None
     else Some (record { x1 = lane ps p; y1 = row from wait; x2 = lane ps p; y2 = row from end })
 
 -- the bar of a wait of process p: in its lane, from its call to its end, as far as these are shown
 abbrev pub bar : Past → List Process → Place → ℕ → Process → Place → Option Stroke
-bar past ps from count p wait = bar_to ps from count p wait (ending wait (first (from + count) past))
+bar past ps from count p wait = bar_to ps from count p wait
+    (ending wait (first (from + count) past))
 
 -- the bar of the wait that an entry begins
 abbrev pub bar_of : Past → List Process → Place → ℕ → Place → Entry → Option Stroke
-bar_of past ps from count place e = if is_wait e.reply then bar past ps from count e.process place else None
+bar_of past ps from count place e = if is_wait e.reply then bar past ps from count
+    e.process place else None
 
 -- the bar of the wait that a process is in when the picture starts
 abbrev pub bar_before : Past → List Process → Place → ℕ → Process → Option Stroke
@@ -67,7 +75,12 @@ abbrev pub arrow_got : Past → List Process → Place → Place → Entry → P
 arrow_got past ps from place e sent = do
   sender ← entry_before past place sent
   Some (record {
-    stroke = record { x1 = lane ps sender.process; y1 = row from sent; x2 = lane ps e.process; y2 = row from place };
+    stroke = record {
+      x1 = lane ps sender.process;
+      y1 = row from sent;
+      x2 = lane ps e.process;
+      y2 = row from place;
+    };
     sender = sender;
     sent = sent;
   })
@@ -77,13 +90,19 @@ abbrev pub arrow_handed : Past → List Process → Place → Place → Entry �
 arrow_handed past ps from place e wait = do
   receiver ← entry_before past place wait
   Some (record {
-    stroke = record { x1 = lane ps e.process; y1 = row from place; x2 = lane ps receiver.process; y2 = row from place };
+    stroke = record {
+      x1 = lane ps e.process;
+      y1 = row from place;
+      x2 = lane ps receiver.process;
+      y2 = row from place;
+    };
     sender = e;
     sent = place;
   })
 
 abbrev pub arrow_by : Past → List Process → Place → Place → Entry → Reply → Option Flight
-arrow_by past ps from place e (reply.Got sent admitted notified) = arrow_got past ps from place e sent
+arrow_by past ps from place e (reply.Got sent admitted notified) =
+    arrow_got past ps from place e sent
 arrow_by past ps from place e (reply.Handed wait) = arrow_handed past ps from place e wait
 arrow_by past ps from place e reply = None
 

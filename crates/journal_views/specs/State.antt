@@ -79,8 +79,12 @@ first_bytes = 24
 -- The message of a send: its priority, its length, and its first bytes, as hexadecimal digits in
 -- JSON.
 abbrev pub sent : Form → Record → List ℕ
-sent Text r = codes " priority " ++ (decimal (priority_given r.entry.call) ++ (codes " length " ++ (decimal (length r.payload) ++ (payload_text (take first_bytes r.payload) ++ codes "\n"))))
-sent Json r = codes ",\"priority\":" ++ (decimal (priority_given r.entry.call) ++ (codes ",\"length\":" ++ (decimal (length r.payload) ++ (codes ",\"bytes\":\"" ++ (encode_lower (take first_bytes r.payload) ++ codes "\"}")))))
+sent Text r = codes " priority " ++ (decimal (priority_given r.entry.call) ++
+    (codes " length " ++ (decimal (length r.payload) ++
+    (payload_text (take first_bytes r.payload) ++ codes "\n"))))
+sent Json r = codes ",\"priority\":" ++ (decimal (priority_given r.entry.call) ++
+    (codes ",\"length\":" ++ (decimal (length r.payload) ++ (codes ",\"bytes\":\"" ++
+    (encode_lower (take first_bytes r.payload) ++ codes "\"}")))))
 
 -- a message in a queue, given the record of its send
 abbrev pub message : Form → Place → Record → List ℕ
@@ -89,13 +93,17 @@ message Json m r = codes "{\"place\":" ++ (decimal m ++ sent Json r)
 
 -- a caller that waits to send, given the record of its send
 abbrev pub sender : Form → Place → Record → List ℕ
-sender Text w r = codes "  sender " ++ (decimal w ++ (codes " process " ++ (caller_word r.entry.process ++ sent Text r)))
-sender Json w r = codes "{\"place\":" ++ (decimal w ++ (codes ",\"process\":" ++ (decimal r.entry.process ++ sent Json r)))
+sender Text w r = codes "  sender " ++
+    (decimal w ++ (codes " process " ++ (caller_word r.entry.process ++ sent Text r)))
+sender Json w r = codes "{\"place\":" ++
+    (decimal w ++ (codes ",\"process\":" ++ (decimal r.entry.process ++ sent Json r)))
 
 -- a caller that waits to receive, given the record of its receive
 abbrev pub receiver : Form → Place → Record → List ℕ
-receiver Text w r = codes "  receiver " ++ (decimal w ++ (codes " process " ++ (caller_word r.entry.process ++ codes "\n")))
-receiver Json w r = codes "{\"place\":" ++ (decimal w ++ (codes ",\"process\":" ++ (decimal r.entry.process ++ codes "}")))
+receiver Text w r = codes "  receiver " ++
+    (decimal w ++ (codes " process " ++ (caller_word r.entry.process ++ codes "\n")))
+receiver Json w r = codes "{\"place\":" ++
+    (decimal w ++ (codes ",\"process\":" ++ (decimal r.entry.process ++ codes "}")))
 
 -- the text about the record at a place
 abbrev pub at : (Place → Record → List ℕ) → Past → Place → List ℕ
@@ -105,9 +113,16 @@ at written past m = unwrap_or (option_map (written m) (record_at past m)) []
 -- a program.
 abbrev pub registration : Form → Option Registration → List ℕ
 registration Text None = []
-registration Text (Some n) = codes "  registration " ++ (decimal n.place ++ (codes " process " ++ (caller_word n.process ++ (codes " descriptor " ++ (decimal n.d ++ (codes " value " ++ (decimal n.value ++ codes "\n")))))))
+registration Text (Some n) = codes "  registration " ++
+    (decimal n.place ++
+    (codes " process " ++ (caller_word n.process ++
+    (codes " descriptor " ++
+    (decimal n.d ++ (codes " value " ++ (decimal n.value ++ codes "\n")))))))
 registration Json None = codes "null"
-registration Json (Some n) = codes "{\"place\":" ++ (decimal n.place ++ (codes ",\"process\":" ++ (decimal n.process ++ (codes ",\"descriptor\":" ++ (decimal n.d ++ (codes ",\"value\":\"" ++ (decimal n.value ++ codes "\"}")))))))
+registration Json (Some n) = codes "{\"place\":" ++
+    (decimal n.place ++ (codes ",\"process\":" ++
+    (decimal n.process ++ (codes ",\"descriptor\":" ++
+    (decimal n.d ++ (codes ",\"value\":\"" ++ (decimal n.value ++ codes "\"}")))))))
 
 -- a word for a queue that has lost its name
 abbrev pub unless_named : Bool → List ℕ
@@ -116,17 +131,30 @@ unless_named false = codes " unlinked"
 
 -- a queue: the entry that created it, its name, whether it is still bound to that, and its limits
 abbrev pub queue_head : Form → Queue → List ℕ → Bool → Attr → List ℕ
-queue_head Text q name named limits = codes "queue " ++ (decimal q ++ (payload_text name ++ (unless_named named ++ (codes " limits " ++ (signed_decimal limits.maxmsg ++ (codes " " ++ (signed_decimal limits.msgsize ++ codes "\n")))))))
-queue_head Json q name named limits = codes "{\"queue\":" ++ (decimal q ++ (codes ",\"name\":" ++ (name_string name ++ (codes ",\"named\":" ++ (true_or_false named ++ (codes ",\"maxmsg\":" ++ (signed_decimal limits.maxmsg ++ (codes ",\"msgsize\":" ++ signed_decimal limits.msgsize))))))))
+queue_head Text q name named limits = codes "queue " ++
+    (decimal q ++
+    (payload_text name ++
+    (unless_named named ++ (codes " limits " ++ (signed_decimal limits.maxmsg ++
+    (codes " " ++ (signed_decimal limits.msgsize ++ codes "\n")))))))
+queue_head Json q name named limits = codes "{\"queue\":" ++
+    (decimal q ++
+    (codes ",\"name\":" ++
+    (name_string name ++
+    (codes ",\"named\":" ++
+    (true_or_false named ++ (codes ",\"maxmsg\":" ++ (signed_decimal limits.maxmsg ++
+    (codes ",\"msgsize\":" ++ signed_decimal limits.msgsize))))))))
 
 -- A queue with its messages in the order in which they will be received, its waits in the order in
 -- which they will be served, and its registration.
 abbrev pub queue : Form → Past → Queue → List ℕ
 queue form past q =
     queue_head form q (name_of past q) (is_named past q) (attributes past q)
-    ++ (label form (codes "messages") ++ (listed form (map (at (message form) past) (lined (priority past) (present past q)))
-    ++ (label form (codes "senders") ++ (listed form (map (at (sender form) past) (reverse (waiting_sends past q)))
-    ++ (label form (codes "receivers") ++ (listed form (map (at (receiver form) past) (reverse (waiting_receives past q)))
+    ++ (label form (codes "messages") ++
+    (listed form (map (at (message form) past) (lined (priority past) (present past q)))
+    ++ (label form (codes "senders") ++
+    (listed form (map (at (sender form) past) (reverse (waiting_sends past q)))
+    ++ (label form (codes "receivers") ++
+    (listed form (map (at (receiver form) past) (reverse (waiting_receives past q)))
     ++ (label form (codes "registration") ++ (registration form (registered past q)
     ++ in_json form (codes "}")))))))))
 
@@ -135,8 +163,16 @@ queue form past q =
 -- a descriptor: its queue, its access mode, and whether it is nonblocking
 abbrev pub descriptor : Form → Descriptor → Option Description → List ℕ
 descriptor form d None = []
-descriptor Text d (Some h) = codes "  descriptor " ++ (decimal d ++ (codes " queue " ++ (decimal h.queue ++ (codes " " ++ (access_letter h.access ++ (letter_if h.nonblock (codes "n") ++ codes "\n"))))))
-descriptor Json d (Some h) = codes "{\"descriptor\":" ++ (decimal d ++ (codes ",\"queue\":" ++ (decimal h.queue ++ (codes ",\"access\":\"" ++ (access_letter h.access ++ (codes "\",\"nonblock\":" ++ (true_or_false h.nonblock ++ codes "}")))))))
+descriptor Text d (Some h) = codes "  descriptor " ++
+    (decimal d ++
+    (codes " queue " ++
+    (decimal h.queue ++
+    (codes " " ++ (access_letter h.access ++ (letter_if h.nonblock (codes "n") ++ codes "\n"))))))
+descriptor Json d (Some h) = codes "{\"descriptor\":" ++
+    (decimal d ++
+    (codes ",\"queue\":" ++
+    (decimal h.queue ++ (codes ",\"access\":\"" ++ (access_letter h.access ++
+    (codes "\",\"nonblock\":" ++ (true_or_false h.nonblock ++ codes "}")))))))
 
 -- a notice by its value
 abbrev pub notice : Form → ℕ → List ℕ
@@ -147,8 +183,10 @@ notice Json value = codes "\"" ++ (decimal value ++ codes "\"")
 abbrev pub wait : Form → Option Place → Option Place → List ℕ
 wait Text None by = codes "\n"
 wait Text (Some w) None = codes " waits " ++ (decimal w ++ codes "\n")
-wait Text (Some w) (Some by) = codes " waits " ++ (decimal w ++ (codes " answered " ++ (decimal by ++ codes "\n")))
-wait Json since by = codes ",\"wait\":" ++ (number_or_null since ++ (codes ",\"answered\":" ++ number_or_null by))
+wait Text (Some w) (Some by) = codes " waits " ++
+    (decimal w ++ (codes " answered " ++ (decimal by ++ codes "\n")))
+wait Json since by = codes ",\"wait\":" ++ (number_or_null since ++ (codes ",\"answered\":" ++
+    number_or_null by))
 
 abbrev pub process_head : Form → Process → List ℕ
 process_head Text p = codes "process " ++ caller_word p
@@ -158,7 +196,8 @@ process_head Json p = codes "{\"process\":" ++ decimal p
 abbrev pub process : Form → Past → Process → List ℕ
 process form past p =
     process_head form p ++ (wait form (open_wait past p) (answered_by past p)
-    ++ (label form (codes "descriptors") ++ (listed form (map (λ d. descriptor form d (held past p d)) (held_numbers past p))
+    ++ (label form (codes "descriptors") ++
+    (listed form (map (λ d. descriptor form d (held past p d)) (held_numbers past p))
     ++ (label form (codes "notices") ++ (listed form (map (notice form) (notices past p))
     ++ in_json form (codes "}"))))))
 

@@ -28,16 +28,19 @@ count_viewed from to len = end_viewed to len - first_viewed from to len
 
 -- the line of the state after these records, or the line `null` if they are not legal
 abbrev pub IsStateLine : Past → List ℕ → Type 0
-IsStateLine past line = (Legal past × (line ≡ state Json past)) ⊎ ((Legal past → ⊥) × (line ≡ codes "null\n"))
+IsStateLine past line = (Legal past × (line ≡ state Json past)) ⊎
+    ((Legal past → ⊥) × (line ≡ codes "null\n"))
 
 -- the page of these entries of a journal, with the line of the state before them, between the head
 -- and the tail of a template
 abbrev pub page_within : List ℕ → List ℕ → List ℕ → ℕ → ℕ → Past → List ℕ
 page_within head tail before from to past =
-    page_text head tail before past (first_viewed from to (length past)) (count_viewed from to (length past))
+    page_text head tail before past (first_viewed from to (length past))
+    (count_viewed from to (length past))
 
 -- the page of these entries, of the journal with this text, was appended to known bytes
-pub record Views (bytes : List ℕ) (from to : ℕ) (head tail : List ℕ) (old new : Option (List ℕ)) : Type 0 where
+pub record Views (bytes : List ℕ) (from to : ℕ) (head tail : List ℕ)
+    (old new : Option (List ℕ)) : Type 0 where
   pub past : Past
   pub fits : AllFit past
   pub text : bytes ≡ journal_text past
@@ -47,7 +50,8 @@ pub record Views (bytes : List ℕ) (from to : ℕ) (head tail : List ℕ) (old 
   pub written : known.Appends old new (page_within head tail before from to past)
 
 -- a proper prefix of such a page was appended to known bytes
-pub record ViewsInPart (bytes : List ℕ) (from to : ℕ) (head tail : List ℕ) (old new : Option (List ℕ)) : Type 0 where
+pub record ViewsInPart (bytes : List ℕ) (from to : ℕ) (head tail : List ℕ)
+    (old new : Option (List ℕ)) : Type 0 where
   pub past : Past
   pub fits : AllFit past
   pub text : bytes ≡ journal_text past
@@ -68,7 +72,8 @@ pub record IsTooLong (bytes : List ℕ) (from to : ℕ) (head tail : List ℕ) :
   pub fits : AllFit past
   pub text : bytes ≡ journal_text past
   pub begins : is_beyond from (length past) ≡ false
-  pub much : IsTrue (nat_lt 1000000 (count_viewed from to (length past))) ⊎ HasLongPage past from to head tail
+  pub much : IsTrue (nat_lt 1000000 (count_viewed from to (length past))) ⊎
+      HasLongPage past from to head tail
 
 -- the journal with this text has this many entries, and a part of it from here begins behind them
 pub record IsBeyond (bytes : List ℕ) (from len : ℕ) : Type 0 where

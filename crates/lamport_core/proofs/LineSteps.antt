@@ -33,10 +33,13 @@ line_Scan n j f p = grind (arith, eqb_tells)
 
 -- the point of process i after a step from P
 module _ (w : State) (i : ℕ) (s : IsSafe w) (p : IsProcess (process_count w) i) where
-  there : (P Q : At) → IsLine (process_count w) P Q → IsLine (process_count w) P (of_process Rest (with_process w.points i Q) i)
-  there P Q h = subst (IsLine (process_count w) P) (sym (of-with_same Rest w.points i Q (subst (λ n. IsProcess n i) (sym s.same_count) p))) h
+  there : (P Q : At) → IsLine (process_count w) P Q →
+      IsLine (process_count w) P (of_process Rest (with_process w.points i Q) i)
+  there P Q h = subst (IsLine (process_count w) P)
+      (sym (of-with_same Rest w.points i Q (subst (λ n. IsProcess n i) (sym s.same_count) p))) h
 
-  line_from : (P : At) → IsPoint (process_count w) P → IsLine (process_count w) P (point_of (step_from P w i) i)
+  line_from : (P : At) → IsPoint (process_count w) P →
+      IsLine (process_count w) P (point_of (step_from P w i) i)
   line_from Rest h = there Rest SetX refl
   line_from Start h = there Start SetX refl
   line_from SetX h = there SetX TestY refl
@@ -80,14 +83,24 @@ module _ (n k : ℕ) (some : 0 < n) (few : n < 2 ^ 32) where
   counted_line SetY Q c e = leads SetY Q TestX e (more 3 c (omega arith))
   counted_line TestX Q c (inl e) = leads TestX Q Fast e (more 4 c (omega arith))
   counted_line TestX Q c (inr e) = leads TestX Q SlowB e (more 4 c (omega arith))
-  counted_line SlowB Q c e = leads SlowB Q (Scan 1) e ((omega arith, omega arith), at_least 6 (omega arith) (omega arith))
-  counted_line (Scan j) Q c (inl e) = leads (Scan j) Q (Scan j) e (c.0, at_least (j + 5) (omega arith) (omega arith))
-  counted_line (Scan j) Q c (inr (inl e)) = leads (Scan j) Q SlowY e.1 (at_least (n + 6) (omega arith) (omega arith))
-  counted_line (Scan j) Q c (inr (inr e)) = leads (Scan j) Q (Scan (j + 1)) e.1 ((omega arith, omega arith), at_least (j + 1 + 5) (omega arith) (omega arith))
-  counted_line SlowY Q c (inl e) = leads SlowY Q Slow e (at_least (n + 7) (omega arith) (omega arith))
-  counted_line SlowY Q c (inr e) = leads SlowY Q SlowAwait e (at_least (n + 7) (omega arith) (omega arith))
-  counted_line SlowAwait Q c (inl e) = leads SlowAwait Q Start e (at_least 5 (omega arith) (omega arith))
-  counted_line SlowAwait Q c (inr e) = leads SlowAwait Q SlowAwait e (at_least (n + 7) (omega arith) (omega arith))
+  counted_line SlowB Q c e = leads SlowB Q (Scan 1) e (
+    (omega arith, omega arith),
+    at_least 6 (omega arith) (omega arith),
+  )
+  counted_line (Scan j) Q c (inl e) = leads (Scan j) Q (Scan j) e
+      (c.0, at_least (j + 5) (omega arith) (omega arith))
+  counted_line (Scan j) Q c (inr (inl e)) = leads (Scan j) Q SlowY e.1
+      (at_least (n + 6) (omega arith) (omega arith))
+  counted_line (Scan j) Q c (inr (inr e)) = leads (Scan j) Q (Scan (j + 1)) e.1
+      ((omega arith, omega arith), at_least (j + 1 + 5) (omega arith) (omega arith))
+  counted_line SlowY Q c (inl e) = leads SlowY Q Slow e
+      (at_least (n + 7) (omega arith) (omega arith))
+  counted_line SlowY Q c (inr e) = leads SlowY Q SlowAwait e
+      (at_least (n + 7) (omega arith) (omega arith))
+  counted_line SlowAwait Q c (inl e) = leads SlowAwait Q Start e
+      (at_least 5 (omega arith) (omega arith))
+  counted_line SlowAwait Q c (inr e) = leads SlowAwait Q SlowAwait e
+      (at_least (n + 7) (omega arith) (omega arith))
   counted_line Fast Q c e = leads Fast Q Leaving e (at_least 6 (omega arith) (omega arith))
   counted_line Slow Q c e = leads Slow Q Leaving e (at_least 6 (omega arith) (omega arith))
   counted_line Leaving Q c e = leads Leaving Q Rest e refl

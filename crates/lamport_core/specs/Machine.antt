@@ -16,7 +16,11 @@ state_of x y flags points = record { x = x; y = y; flags = flags; points = point
 
 -- process i takes its next step, which is counted
 abbrev pub stepped : Machine → ℕ → Machine
-stepped m i = record { state = next m.state i; steps = with_process m.steps i (one_more (of_process 0 m.steps i)) }
+stepped m i = record {
+  state = next m.state i;
+  steps = with_process m.steps i
+      (one_more (of_process 0 m.steps i));
+}
 
 -- each process of a schedule takes its next step, in the order of the schedule
 abbrev pub run_through : Machine → List ℕ → Machine

@@ -1,4 +1,5 @@
--- Lamport's Algorithm 2 for n processes, numbered from 1: its words, the point of each process, and its steps.
+-- Lamport's Algorithm 2 for n processes, numbered from 1: its words, the point of each process, and
+-- its steps.
 use Rattle.std.specs.Prelude.{◌≡◌, ℕ, zero, suc, ◌+◌, ◌<◌, ◌≤◌, ◌==◌, ◌⊎◌, Bool, true, false, List, [], ◌∷◌, length, slice_index_or, slice_set, replicate, if◌then◌else◌}
 use Rattle.lamport_core.specs.declared.At.{At}
 use Rattle.lamport_core.specs.declared.At.TheVariants.{Rest, Start, SetX, TestY, BackB, AwaitY, SetY, TestX, SlowB, Scan, SlowY, SlowAwait, Fast, Slow, Leaving}

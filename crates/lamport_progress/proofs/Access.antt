@@ -30,7 +30,8 @@ begun_is : (P : At) → P ≢ Rest → begun P ≡ 1
 begun_is P ne = grind arith
 
 -- a step moves its own process
-points_from : (P : At) (w : State) (i : ℕ) → (Q : At) × ((step_from P w i).points ≡ with_process w.points i Q)
+points_from : (P : At) (w : State) (i : ℕ) →
+    (Q : At) × ((step_from P w i).points ≡ with_process w.points i Q)
 points_from SetX w i = (TestY, refl)
 points_from TestY w i = (after_TestY w.y, refl)
 points_from BackB w i = (AwaitY, refl)
@@ -74,8 +75,15 @@ record Driven (n : ℕ) (w : State) : Type 0 where
 no_drive : (n : ℕ) (w : State) → IsSound n w → IsOccupied w → Driven n w
 no_drive n w s h = record { steps = []; processes = tt; sound = s; inside = h; fewer = omega arith }
 
-one_more : (n : ℕ) (w : State) (j : ℕ) → IsProcess n j → begun_count (next w j) ≤ begun_count w → Driven n (next w j) → Driven n w
-one_more n w j p le d = let few = d.fewer in record { steps = j ∷ d.steps; processes = (p, d.processes); sound = d.sound; inside = d.inside; fewer = omega arith }
+one_more : (n : ℕ) (w : State) (j : ℕ) → IsProcess n j → begun_count (next w j) ≤ begun_count w →
+    Driven n (next w j) → Driven n w
+one_more n w j p le d = let few = d.fewer in record {
+  steps = j ∷ d.steps;
+  processes = (p, d.processes);
+  sound = d.sound;
+  inside = d.inside;
+  fewer = omega arith;
+}
 
 entering-ne-Rest : (P : At) → IsEntering P → P ≢ Rest
 entering-ne-Rest P h e = subst IsEntering e h
@@ -84,7 +92,8 @@ drive : (n p m : ℕ) (w : State) → Pending n p w → measure w ≤ m → Driv
 drive n p zero w c le =
     let s = c.sound in
     let r = some_enabled w s.safe s.owned p (entering-ne-Rest (point_of w p) c.entering) in
-    elim (one_step n w r.process s (subst (λ k. IsProcess k r.process) s.counts (s.safe.safe.process r.process r.started))) [
+    elim (one_step n w r.process s (subst (λ k. IsProcess k r.process) s.counts
+    (s.safe.safe.process r.process r.started))) [
       | inl h ↦ absurd (c.outside h)
       | inr (inl e) ↦ absurd (r.enabled e)
       | inr (inr less) ↦ absurd (omega arith)
@@ -92,7 +101,8 @@ drive n p zero w c le =
 drive n p (suc m) w c le =
     let s = c.sound in
     let r = some_enabled w s.safe s.owned p (entering-ne-Rest (point_of w p) c.entering) in
-    let q : IsProcess n r.process = subst (λ k. IsProcess k r.process) s.counts (s.safe.safe.process r.process r.started) in
+    let q : IsProcess n r.process = subst (λ k. IsProcess k r.process) s.counts
+    (s.safe.safe.process r.process r.started) in
     let few = starts_nobody n w r.process s q r.started in
     elim (one_step n w r.process s q) [
       | inl h ↦ absurd (c.outside h)
@@ -103,17 +113,20 @@ drive n p (suc m) w c le =
       ])
     ]
 
-can_after : (n i : ℕ) (w : State) (is : List ℕ) → IsSchedule n is → CanEnter n (run w is) i → CanEnter n w i
+can_after : (n i : ℕ) (w : State) (is : List ℕ) → IsSchedule n is → CanEnter n (run w is) i →
+    CanEnter n w i
 can_after n i w is s c = grind (arith, schedule-append, run-append)
 
 at_once_in : (n i : ℕ) (w : State) → IsInside w i → CanEnter n w i
 at_once_in n i w h = record { steps = []; processes = tt; inside = h }
 
-alone_in : (n i : ℕ) (w : State) → IsSound n w → IsProcess n i → w.y ≡ 0 → point_of w i ≡ Rest → CanEnter n w i
+alone_in : (n i : ℕ) (w : State) → IsSound n w → IsProcess n i → w.y ≡ 0 → point_of w i ≡ Rest →
+    CanEnter n w i
 alone_in n i w s p y at = record {
   steps = replicate 5 i;
   processes = (p, (p, (p, (p, (p, tt)))));
-  inside = inl (enters_alone w i s.safe.same_count (subst (λ m. IsProcess m i) (sym s.counts) p) y at);
+  inside = inl (enters_alone w i s.safe.same_count (subst (λ m. IsProcess m i) (sym s.counts) p) y
+      at);
 }
 
 -- what remains to be done at a point of process i
@@ -132,35 +145,46 @@ module _ (n i : ℕ) (p : IsProcess n i) where
   Fewer c = (w : State) → IsSound n w → begun_count w ≤ c → CanEnter n w i
 
   -- process k, in its critical section, leaves it
-  out : (c : ℕ) → Fewer c → (w : State) (k : ℕ) → IsSound n w → begun_count w ≤ suc c → IsInside w k → CanEnter n w i
+  out : (c : ℕ) → Fewer c → (w : State) (k : ℕ) → IsSound n w → begun_count w ≤ suc c →
+      IsInside w k → CanEnter n w i
   out c f w k s le h = elim (cases_eq k i) [
     | inl e ↦ at_once_in n i w (subst (λ j. IsInside w j) e h)
     | inr ne ↦
-        let q : IsProcess n k = subst (λ m. IsProcess m k) s.counts (s.safe.safe.process k (inside-ne-Rest (point_of w k) h)) in
+        let q : IsProcess n k = subst (λ m. IsProcess m k) s.counts
+        (s.safe.safe.process k (inside-ne-Rest (point_of w k) h)) in
         let t : IsSound n (next w k) = sound_next n w k s q in
-        let at : point_of (next w k) k ≡ Leaving = leaves (process_count w) (point_of w k) (point_of (next w k) k) h (next_line w k s.safe (subst (λ m. IsProcess m k) (sym s.counts) q)) in
+        let at : point_of (next w k) k ≡ Leaving = leaves (process_count w) (point_of w k)
+        (point_of (next w k) k) h
+        (next_line w k s.safe (subst (λ m. IsProcess m k) (sym s.counts) q)) in
         let few = starts_nobody n w k s q (inside-ne-Rest (point_of w k) h) in
         let fewer = ends_one n (next w k) k t q at in
-        can_after n i w (k ∷ k ∷ []) (q, (q, tt)) (f (next (next w k) k) (sound_next n (next w k) k t q) (omega arith))
+        can_after n i w (k ∷ k ∷ []) (q, (q, tt))
+        (f (next (next w k) k) (sound_next n (next w k) k t q) (omega arith))
   ]
 
   -- process j, in its entry, or another enters its critical section
-  driven : (c : ℕ) → Fewer c → (w : State) (j : ℕ) → IsSound n w → begun_count w ≤ suc c → IsEntering (point_of w j) → CanEnter n w i
+  driven : (c : ℕ) → Fewer c → (w : State) (j : ℕ) → IsSound n w → begun_count w ≤ suc c →
+      IsEntering (point_of w j) → CanEnter n w i
   driven c f w j s le on = elim (occupied_or_not w) [
     | inl h ↦ out c f w h.0 s le h.1
     | inr nobody ↦
-        let d = drive n j (measure w) w (record { sound = s; outside = nobody; entering = on }) (omega arith) in
+        let d = drive n j (measure w) w (record { sound = s; outside = nobody; entering = on })
+        (omega arith) in
         let few = d.fewer in
-        can_after n i w d.steps d.processes (out c f (run w d.steps) d.inside.0 d.sound (omega arith) d.inside.1)
+        can_after n i w d.steps d.processes (out c f (run w d.steps) d.inside.0 d.sound
+        (omega arith) d.inside.1)
   ]
 
-  taken : (c : ℕ) → Fewer c → (w : State) → IsSound n w → begun_count w ≤ suc c → w.y ≢ 0 → CanEnter n w i
+  taken : (c : ℕ) → Fewer c → (w : State) → IsSound n w → begun_count w ≤ suc c → w.y ≢ 0 →
+      CanEnter n w i
   taken c f w s le ne = elim (occupied_or_not w) [
     | inl h ↦ out c f w h.0 s le h.1
-    | inr nobody ↦ driven c f w w.y s le (set_y_entering (point_of w w.y) (s.owned ne) (λ h. nobody (w.y, h)))
+    | inr nobody ↦ driven c f w w.y s le (set_y_entering (point_of w w.y) (s.owned ne)
+        (λ h. nobody (w.y, h)))
   ]
 
-  from_stand : (c : ℕ) → Fewer c → (w : State) → IsSound n w → begun_count w ≤ suc c → Stand (point_of w i) → CanEnter n w i
+  from_stand : (c : ℕ) → Fewer c → (w : State) → IsSound n w → begun_count w ≤ suc c →
+      Stand (point_of w i) → CanEnter n w i
   from_stand c f w s le (resting e) = elim (cases_eq w.y 0) [
     | inl y ↦ alone_in n i w s p y e
     | inr ne ↦ taken c f w s le ne
@@ -171,7 +195,8 @@ module _ (n i : ℕ) (p : IsProcess n i) where
   from_stand c f w s le (coming on) = driven c f w i s le on
 
   begun_some : (w : State) (j : ℕ) → begun_count w ≤ 0 → point_of w j ≢ Rest → ⊥
-  begun_some w j le ne = let h = term-le-total begun w.points j refl in let one = begun_is (point_of w j) ne in omega arith
+  begun_some w j le ne = let h = term-le-total begun w.points j refl in let one =
+      begun_is (point_of w j) ne in omega arith
 
   rest_is : (P : At) → (P ≢ Rest → ⊥) → P ≡ Rest
   rest_is P h = grind arith
@@ -180,7 +205,8 @@ module _ (n i : ℕ) (p : IsProcess n i) where
   zero_y w s le = grind (arith, begun_some)
 
   can_from : (c : ℕ) → Fewer c
-  can_from zero w s le = alone_in n i w s p (zero_y w s le) (rest_is (point_of w i) (begun_some w i le))
+  can_from zero w s le = alone_in n i w s p (zero_y w s le)
+      (rest_is (point_of w i) (begun_some w i le))
   can_from (suc c) w s le = from_stand c (can_from c) w s le (stand (point_of w i))
 
 pub can_enter : (n : ℕ) (w : State) (i : ℕ) → Reach n w → IsProcess n i → CanEnter n w i

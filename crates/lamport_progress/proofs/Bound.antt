@@ -32,7 +32,8 @@ measure_rounds n p w rounds c ne a le =
     let counts = c.sound.counts in
     let few = owner-le (storing_count w.points) (process_count w) (point_of w w.y) in
     leads_enters n p (concat rounds) w c (schedule_concat n w rounds a)
-    (rounds_lead n p fair_measure Helps (fair n p) rounds w (record { pending = c; taken = ne }) a (omega arith))
+    (rounds_lead n p fair_measure Helps (fair n p) rounds w (record { pending = c; taken = ne })
+    a (omega arith))
 
 taken_rounds : (n p : ℕ) (w : State) (rounds : List (List ℕ)) → Pending n p w → w.y ≢ 0 →
     AreFairRounds n w rounds → 6 * n < length rounds → Enters w (concat rounds)
@@ -87,22 +88,24 @@ claim_rounds : (m n p : ℕ) (w : State) (rounds : List (List ℕ)) → Pending 
     m + 5 * n ≤ length rounds + 4 → Enters w (concat rounds)
 claim_rounds zero n p w rounds c z u h l a some most le = absurd (let lt = l.1 in omega arith)
 claim_rounds (suc m) n p w [] c z u h l a some most le = absurd (omega arith)
-claim_rounds (suc m) n p w (is ∷ rounds) c z u h l a some most le = elim (pending_all n p is w c a.0) [
-  | inl g ↦ enters-append w is (concat rounds) g
-  | inr all ↦
-      let stage = stage_run n p is w all a.0 h in
-      enters_later w is (concat rounds) (elim (cases_eq (run w is).y 0) [
-        | inr ne ↦ first_rounds n p (run w is) rounds (pending_end n p is w all) ne
-            (none_run n p is w all a.0 (λ j. settled_few (point_of w j) (u j)))
-            (stage_taken (run w is) ne stage) a.2 some (omega arith)
-        | inl y ↦ elim (advance_round n p m most is w all a.0 a.1 z (inl u) l) [
-          | inl ne ↦ absurd (ne y)
-          | inr low ↦ claim_rounds m n p (run w is) rounds (pending_end n p is w all) y
-              (settled_free (run w is) y (settles_round n p 0 is w all a.0 a.1
-              (inr (λ j. let few = u j in omega arith)))) stage low a.2 some (omega arith) (omega arith)
-        ]
-      ])
-]
+claim_rounds (suc m) n p w (is ∷ rounds) c z u h l a some most le =
+    elim (pending_all n p is w c a.0) [
+      | inl g ↦ enters-append w is (concat rounds) g
+      | inr all ↦
+          let stage = stage_run n p is w all a.0 h in
+          enters_later w is (concat rounds) (elim (cases_eq (run w is).y 0) [
+            | inr ne ↦ first_rounds n p (run w is) rounds (pending_end n p is w all) ne
+                (none_run n p is w all a.0 (λ j. settled_few (point_of w j) (u j)))
+                (stage_taken (run w is) ne stage) a.2 some (omega arith)
+            | inl y ↦ elim (advance_round n p m most is w all a.0 a.1 z (inl u) l) [
+              | inl ne ↦ absurd (ne y)
+              | inr low ↦ claim_rounds m n p (run w is) rounds (pending_end n p is w all) y
+                  (settled_free (run w is) y (settles_round n p 0 is w all a.0 a.1
+                  (inr (λ j. let few = u j in omega arith)))) stage low a.2 some
+                  (omega arith) (omega arith)
+            ]
+          ])
+    ]
 
 -- while the processes have m steps left to settle
 settle_rounds : (m n p : ℕ) (w : State) (rounds : List (List ℕ)) → Pending n p w → Settled m w →
@@ -111,8 +114,13 @@ settle_rounds zero n p w rounds c settled h a le = elim (cases_eq w.y 0) [
   | inr ne ↦ taken_rounds n p w rounds c ne a (omega arith)
   | inl z ↦
       let u = settled_free w z settled in
-      let point = subst (λ k. IsPoint k (point_of w p)) c.sound.counts (c.sound.safe.safe.point p) in
-      claim_rounds (n + 6) n p w rounds c z u h (p, entering_low n (point_of w p) point c.entering (u p))
+      let point = subst (λ k. IsPoint k (point_of w p)) c.sound.counts
+      (c.sound.safe.safe.point p) in
+      claim_rounds (n + 6) n p w rounds c z u h (
+        p,
+        entering_low n (point_of w p) point
+            c.entering (u p),
+      )
       a (pending_some n p w c) (omega arith) (omega arith)
 ]
 settle_rounds (suc m) n p w [] c settled h a le = absurd (omega arith)
@@ -134,8 +142,10 @@ low_rounds (suc m) n p w (is ∷ rounds) c l few a le = elim (cases_eq w.y 0) [
     | inl g ↦ enters-append w is (concat rounds) g
     | inr all ↦ enters_later w is (concat rounds)
         (elim (advance_round n p m (omega arith) is w all a.0 a.1 z (inr (omega arith)) l) [
-          | inl ne ↦ taken_rounds n p (run w is) rounds (pending_end n p is w all) ne a.2 (omega arith)
-          | inr low ↦ low_rounds m n p (run w is) rounds (pending_end n p is w all) low (omega arith)
+          | inl ne ↦ taken_rounds n p (run w is) rounds (pending_end n p is w all) ne
+              a.2 (omega arith)
+          | inr low ↦ low_rounds m n p (run w is) rounds (pending_end n p is w all)
+              low (omega arith)
               a.2 (omega arith)
         ])
   ]
@@ -152,9 +162,11 @@ pending_rounds : (n p : ℕ) (w : State) (rounds : List (List ℕ)) → Pending 
 pending_rounds n p w rounds c a le = elim (cases_eq w.y 0) [
   | inr ne ↦ taken_rounds n p w rounds c ne a (omega arith)
   | inl z ↦ elim (find_point IsClaim claim_or_not (λ h. h) w.points) [
-    | inl k ↦ low_rounds 2 n p w rounds c (suc k.0, claim_low n (point_of w (suc k.0)) k.1) (omega arith)
+    | inl k ↦ low_rounds 2 n p w rounds c (suc k.0, claim_low n (point_of w (suc k.0)) k.1)
+        (omega arith)
         a (omega arith)
-    | inr none ↦ settle_rounds 2 n p w rounds c (settled_two w) (inl (z, claimed none)) a (omega arith)
+    | inr none ↦ settle_rounds 2 n p w rounds c (settled_two w) (inl (z, claimed none)) a
+        (omega arith)
   ]
 ]
   where
@@ -162,14 +174,23 @@ pending_rounds n p w rounds c a le = elim (cases_eq w.y 0) [
     claimed none zero h = absurd h
     claimed none (suc k) h = absurd (none k h)
 
-pub rounds_enter : (n : ℕ) (w : State) (i : ℕ) (rounds : List (List ℕ)) → Reach n w → IsEntering (point_of w i) → AreFairRounds n w rounds → round_bound n ≤ length rounds → Enters w (concat rounds)
+pub rounds_enter : (n : ℕ) (w : State) (i : ℕ) (rounds : List (List ℕ)) → Reach n w →
+    IsEntering (point_of w i) → AreFairRounds n w rounds → round_bound n ≤ length rounds →
+    Enters w (concat rounds)
 rounds_enter n w i [] r on a le = absurd (omega arith)
 rounds_enter n w i (is ∷ rounds) r on a le =
     let s = reach_sound n w r in
     elim (occupied_or_not w) [
-      | inr out ↦ pending_rounds n i w (is ∷ rounds) (record { sound = s; outside = out; entering = on }) a (omega arith)
-      | inl h ↦ elim (first_round n i is w h.0 s on h.1 a.0 (a.1 h.0 (inside-ne-Rest (point_of w h.0) h.1) (steady_enabled w s.safe h.0 (inside_steady (point_of w h.0) h.1)))) [
-        | inl g ↦ enters-append w is (concat rounds) g
-        | inr c ↦ enters_later w is (concat rounds) (pending_rounds n i (run w is) rounds c a.2 (omega arith))
-      ]
+      | inr out ↦ pending_rounds n i w (is ∷ rounds) (record {
+        sound = s;
+        outside = out;
+        entering = on;
+      }) a (omega arith)
+      | inl h ↦ elim (first_round n i is w h.0 s on h.1 a.0
+          (a.1 h.0 (inside-ne-Rest (point_of w h.0) h.1) (steady_enabled w s.safe h.0
+          (inside_steady (point_of w h.0) h.1)))) [
+            | inl g ↦ enters-append w is (concat rounds) g
+            | inr c ↦ enters_later w is (concat rounds) (pending_rounds n i (run w is) rounds c
+                a.2 (omega arith))
+          ]
     ]

@@ -63,7 +63,8 @@ module _ (w : State) (i : ℕ) (there : IsProcess (length w.points) i) (z : w.y 
   scan j f r = grind arith
 
   -- no step increases the distance
-  keeps_from : (P : At) → IsPoint n P → (IsInsidePoint P → ⊥) → Leaves (claim_rank n P) (step_from P w i)
+  keeps_from : (P : At) → IsPoint n P → (IsInsidePoint P → ⊥) →
+      Leaves (claim_rank n P) (step_from P w i)
   keeps_from P h out = grind (arith, at_Q, free_load, scan)
 
 -- a settled process with its flag up is close to its store
@@ -83,7 +84,8 @@ module _ (n p : ℕ) (m : ℕ) (most : suc m ≤ n + 6) where
     scan_going j k true e q lt (inr few) = absurd (omega arith)
     scan_going j k true e q lt (inl u) = inl (
       k,
-      let low = up_low n (point_of w k) (subst (λ b. FlagFits (point_of w k) b) e (c.sound.safe.safe.flag k))
+      let low = up_low n (point_of w k) (subst (λ b. FlagFits (point_of w k) b) e
+          (c.sound.safe.safe.flag k))
           (λ h. c.outside (k, h)) (u k) in omega arith,
     )
 
@@ -101,12 +103,14 @@ module _ (n p : ℕ) (m : ℕ) (most : suc m ≤ n + 6) where
     going-ne-Rest : (P : At) → IsGoing (flag_of w) P → P ≢ Rest
     going-ne-Rest P g e = subst (IsGoing (flag_of w)) e g
 
-    going_enabled : (j : ℕ) (P : At) → w.y ≡ 0 → point_of w j ≡ P → IsGoing (flag_of w) P → IsEnabled w j
+    going_enabled : (j : ℕ) (P : At) → w.y ≡ 0 → point_of w j ≡ P → IsGoing (flag_of w) P →
+        IsEnabled w j
     going_enabled j (Scan k) z at g = down_enabled w c.sound.safe j k g at
     going_enabled j P z at g = free_enabled w c.sound.safe j P at
         (at_zero_free w.y P z (going-ne-Rest P g)) (λ k e. cc)
 
-  module _ (i : ℕ) (is : List ℕ) (w : State) (c : StaysPending n p w (i ∷ is)) (q : IsProcess n i) (z : w.y ≡ 0) where
+  module _ (i : ℕ) (is : List ℕ) (w : State) (c : StaysPending n p w (i ∷ is)) (q : IsProcess n i)
+      (z : w.y ≡ 0) where
     there : IsProcess (length w.points) i
     there = subst (λ k. IsProcess k i) (sym (c.0.sound.safe.same_count ∙ c.0.sound.counts)) q
 
@@ -116,9 +120,11 @@ module _ (n p : ℕ) (m : ℕ) (most : suc m ≤ n + 6) where
 
     keeps_next : Or (claim_rank n (point_of (next w i) i) ≤ claim_rank n (point_of w i))
     keeps_next = subst
-        (λ k. ((next w i).y ≢ 0) ⊎ (claim_rank k (point_of (next w i) i) ≤ claim_rank k (point_of w i)))
+        (λ k. ((next w i).y ≢ 0) ⊎ (claim_rank k (point_of (next w i) i) ≤ claim_rank k
+        (point_of w i)))
         c.0.sound.counts
-        (keeps_from w i there z (point_of w i) (c.0.sound.safe.safe.point i) (λ h. c.0.outside (i, h)))
+        (keeps_from w i there z (point_of w i) (c.0.sound.safe.safe.point i)
+        (λ h. c.0.outside (i, h)))
 
     lowers_next : IsGoing (flag_of w) (point_of w i) →
         Or (claim_rank n (point_of (next w i) i) ≤ claim_rank n (point_of w i) - 1)
@@ -129,7 +135,11 @@ module _ (n p : ℕ) (m : ℕ) (most : suc m ≤ n + 6) where
       | inr ne ↦ inr (l.0, subst (λ a. claim_rank n a < m) (sym (others_next w i l.0 ne)) l.1)
       | inl e ↦ elim keeps_next [
         | inl ne ↦ inl ne
-        | inr le ↦ inr (i, let lt = subst (λ k. claim_rank n (point_of w k) < m) e l.1 in omega arith)
+        | inr le ↦ inr (
+          i,
+          let lt = subst (λ k. claim_rank n (point_of w k) < m) e l.1 in
+              omega arith,
+        )
       ]
     ]
 
@@ -137,7 +147,8 @@ module _ (n p : ℕ) (m : ℕ) (most : suc m ≤ n + 6) where
     settled_next u = elim (settles_next n p i is w c q z) [
       | inl ne ↦ inl ne
       | inr le ↦ inr (λ j. elim (cases_eq j i) [
-        | inl e ↦ subst (λ k. unsettled (point_of (next w i) k) ≤ 0) (sym e) (let h = u i in omega arith)
+        | inl e ↦ subst (λ k. unsettled (point_of (next w i) k) ≤ 0) (sym e) (let h = u i in
+            omega arith)
         | inr ne ↦ subst (λ a. unsettled a ≤ 0) (sym (others_next w i j ne)) (u j)
       ])
     ]
@@ -156,7 +167,8 @@ module _ (n p : ℕ) (m : ℕ) (most : suc m ≤ n + 6) where
   due_next i is w c q z u (inr d) = elim (cases_eq d.0 i) [
     | inr ne ↦ elim (contains_head i d.0 is d.2.0 d.2.1 d.2.2) [
       | inl e ↦ absurd (ne (sym e))
-      | inr t ↦ inr (inr (d.0, subst (λ a. claim_rank n a < suc m) (sym (others_next w i d.0 ne)) d.1, t))
+      | inr t ↦
+          inr (inr (d.0, subst (λ a. claim_rank n a < suc m) (sym (others_next w i d.0 ne)) d.1, t))
     ]
     | inl e ↦
         let lt : claim_rank n (point_of w i) < suc m =
@@ -179,10 +191,12 @@ module _ (n p : ℕ) (m : ℕ) (most : suc m ≤ n + 6) where
         where
           store : (P : At) → point_of w i ≡ P → claim_rank n P ≤ 0 → (step_from P w i).y ≢ 0
           store SetY at le = λ e. omega arith
-          store (Scan j) at le = absurd (let h = subst (λ k. IsPoint k (Scan j)) c.0.sound.counts (subst (IsPoint (process_count w)) at (c.0.sound.safe.safe.point i)) in omega arith)
+          store (Scan j) at le = absurd (let h = subst (λ k. IsPoint k (Scan j)) c.0.sound.counts
+              (subst (IsPoint (process_count w)) at (c.0.sound.safe.safe.point i)) in omega arith)
           store _ at le = absurd (omega arith)
 
-  advance_run : (is : List ℕ) (w : State) → StaysPending n p w is → IsSchedule n is → Unblocked m w →
+  advance_run : (is : List ℕ) (w : State) → StaysPending n p w is → IsSchedule n is →
+      Unblocked m w →
       LowDue w is → ((run w is).y ≢ 0) ⊎ Low n m (run w is)
   advance_run [] w c s u (inl l) = inr l
   advance_run [] w c s u (inr d) = absurd (let lt = d.2.1 in omega arith)
@@ -199,7 +213,8 @@ module _ (n p : ℕ) (m : ℕ) (most : suc m ≤ n + 6) where
 
   -- a fair round reduces the steps by one, or y is not 0
   pub advance_round : (is : List ℕ) (w : State) → StaysPending n p w is → IsSchedule n is →
-      IsFairRound w is → w.y ≡ 0 → Unblocked m w → Low n (suc m) w → ((run w is).y ≢ 0) ⊎ Low n m (run w is)
+      IsFairRound w is → w.y ≡ 0 → Unblocked m w → Low n (suc m) w →
+      ((run w is).y ≢ 0) ⊎ Low n m (run w is)
   advance_round is w c s r z u l =
       let now = pending_now n p is w c in
       elim (going_point w now l.0 l.1 u) [
@@ -207,10 +222,12 @@ module _ (n p : ℕ) (m : ℕ) (most : suc m ≤ n + 6) where
         | inr g ↦ advance_run is w c s u (inr (
           l.0,
           l.1,
-          r l.0 (going-ne-Rest w now (point_of w l.0) g) (going_enabled w now l.0 (point_of w l.0) z refl g),
+          r l.0 (going-ne-Rest w now (point_of w l.0) g)
+              (going_enabled w now l.0 (point_of w l.0) z refl g),
         ))
       ]
 
 -- a settled process in its entry has a rank
-pub entering_low : (n : ℕ) (P : At) → IsPoint n P → IsEntering P → unsettled P ≤ 0 → claim_rank n P < n + 6
+pub entering_low : (n : ℕ) (P : At) → IsPoint n P → IsEntering P → unsettled P ≤ 0 →
+    claim_rank n P < n + 6
 entering_low n P q h u = grind arith

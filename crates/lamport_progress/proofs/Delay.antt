@@ -82,7 +82,8 @@ covers_fair n w [] s c p e = tt
 covers_fair n w (is ∷ rounds) s c p e =
     let h = both (covers n w is) (cover_all n (run w is) rounds) e in (
       p.0,
-      (λ i ne go. covers_steps n w is h.0 i (subst (λ m. IsProcess m i) c (s.safe.process i ne)) ne),
+      (λ i ne go. covers_steps n w is h.0 i (subst (λ m. IsProcess m i) c (s.safe.process i ne))
+          ne),
       covers_fair n (run w is) rounds
           (run_safe w is s (subst (λ m. IsSchedule m is) (sym c) p.0)) (count-run w is ∙ c) p.1 h.1,
     )
@@ -142,7 +143,46 @@ rounds =
 
 scheduled : Scheduled 2 rounds
 unfolding rounds
-scheduled = ((two, (one, tt)), ((one, (two, tt)), ((two, tt), ((two, tt), ((two, tt), ((two, tt), ((two, tt), ((two, tt), ((two, tt), ((two, tt), ((one, (two, tt)), ((one, (two, tt)), ((one, (two, tt)), ((two, (one, tt)), ((one, (two, tt)), ((one, (two, tt)), tt))))))))))))))))
+scheduled = (
+  (two, (one, tt)),
+  (
+    (one, (two, tt)),
+    (
+      (two, tt),
+      (
+        (two, tt),
+        (
+          (two, tt),
+          (
+            (two, tt),
+            (
+              (two, tt),
+              (
+                (two, tt),
+                (
+                  (two, tt),
+                  (
+                    (two, tt),
+                    (
+                      (one, (two, tt)),
+                      (
+                        (one, (two, tt)),
+                        (
+                          (one, (two, tt)),
+                          ((two, (one, tt)), ((one, (two, tt)), ((one, (two, tt)), tt))),
+                        ),
+                      ),
+                    ),
+                  ),
+                ),
+              ),
+            ),
+          ),
+        ),
+      ),
+    ),
+  ),
+)
 
 pub delays : Delays 2 16
 unfolding first rounds

@@ -12,15 +12,18 @@ use Rattle.lamport_progress.specs.Progress.{IsEnabled, EnabledProcess, HasSetY, 
 use Rattle.lamport_core.specs.declared.At.{At}
 use Rattle.lamport_core.specs.declared.At.TheVariants.{Rest, SetX, AwaitY, Scan, SlowAwait, Slow}
 
-module _ (w : State) (i : ℕ) (s : IsSafe w) (p : IsProcess (process_count w) i) (o : IsOwned w) where
+module _ (w : State) (i : ℕ) (s : IsSafe w) (p : IsProcess (process_count w) i)
+    (o : IsOwned w) where
   inside_list : IsProcess (length w.points) i
   inside_list = subst (λ n. IsProcess n i) (sym s.same_count) p
 
   -- a step of process i from P to Q that leaves y
-  owns : (P Q : At) → point_of w i ≡ P → (w.y ≡ i → HasSetY P → HasSetY Q) → w.y ≢ 0 → HasSetY (of_process Rest (with_process w.points i Q) w.y)
+  owns : (P Q : At) → point_of w i ≡ P → (w.y ≡ i → HasSetY P → HasSetY Q) → w.y ≢ 0 →
+      HasSetY (of_process Rest (with_process w.points i Q) w.y)
   owns P Q at h taken = elim (cases_eq w.y i) [
     | inl e ↦ subst (λ k. HasSetY (of_process Rest (with_process w.points i Q) k)) (sym e)
-        (subst HasSetY (sym (of-with_same Rest w.points i Q inside_list)) (h e (subst HasSetY at (subst (λ k. HasSetY (point_of w k)) e (o taken)))))
+        (subst HasSetY (sym (of-with_same Rest w.points i Q inside_list))
+        (h e (subst HasSetY at (subst (λ k. HasSetY (point_of w k)) e (o taken)))))
     | inr ne ↦ subst HasSetY (sym (of-with_other Rest w.points i w.y Q ne)) (o taken)
   ]
 
@@ -33,9 +36,11 @@ module _ (w : State) (i : ℕ) (s : IsSafe w) (p : IsProcess (process_count w) i
   pub owned_next : IsOwned (next w i)
   owned_next = owned_from (point_of w i) refl
 
-pub owned_run : (w : State) (is : List ℕ) → IsSafe w → IsOwned w → IsSchedule (process_count w) is → IsOwned (run w is)
+pub owned_run : (w : State) (is : List ℕ) → IsSafe w → IsOwned w → IsSchedule (process_count w) is →
+    IsOwned (run w is)
 owned_run w [] s o p = o
-owned_run w (i ∷ is) s o p = owned_run (next w i) is (next_safe w i s p.0) (owned_next w i s p.0 o) (subst (λ n. IsSchedule n is) (sym (count-next w i)) p.1)
+owned_run w (i ∷ is) s o p = owned_run (next w i) is (next_safe w i s p.0) (owned_next w i s p.0 o)
+    (subst (λ n. IsSchedule n is) (sym (count-next w i)) p.1)
 
 -- the process whose flag a scan tests next
 abbrev scan_of : At → ℕ
@@ -82,24 +87,31 @@ module _ (w : State) (s : IsSafe w) where
 
   -- a process at a point that always moves
   pub steady_enabled : (i : ℕ) → IsSteady (point_of w i) → IsEnabled w i
-  steady_enabled i h = goes_on i (steady_leaves (process_count w) (point_of w i) (point_of (next w i) i) h (next_line w i s (s.safe.process i (steady-ne-Rest (point_of w i) h))))
+  steady_enabled i h = goes_on i (steady_leaves (process_count w) (point_of w i)
+      (point_of (next w i) i) h
+      (next_line w i s (s.safe.process i (steady-ne-Rest (point_of w i) h))))
 
   pub start_enabled : (i : ℕ) → IsProcess (process_count w) i → point_of w i ≡ Rest → IsEnabled w i
   start_enabled i p at = goes_on i (λ h.
-      let l : point_of (next w i) i ≡ SetX = subst (λ R. IsLine (process_count w) R (point_of (next w i) i)) at (next_line w i s p) in
+      let l : point_of (next w i) i ≡ SetX =
+      subst (λ R. IsLine (process_count w) R (point_of (next w i) i)) at (next_line w i s p) in
       let d : SetX ≡ Rest = sym l ∙ h ∙ at in cc)
 
   pub up_enabled : (j : ℕ) → flag_of w j ≡ true → IsEnabled w j
-  up_enabled j up = steady_enabled j (up_steady (point_of w j) (subst (λ b. FlagFits (point_of w j) b) up (s.safe.flag j)))
+  up_enabled j up =
+      steady_enabled j (up_steady (point_of w j) (subst (λ b. FlagFits (point_of w j) b) up
+      (s.safe.flag j)))
 
   pub up-ne-Rest : (j : ℕ) → flag_of w j ≡ true → point_of w j ≢ Rest
-  up-ne-Rest j up = steady-ne-Rest (point_of w j) (up_steady (point_of w j) (subst (λ b. FlagFits (point_of w j) b) up (s.safe.flag j)))
+  up-ne-Rest j up = steady-ne-Rest (point_of w j) (up_steady (point_of w j)
+      (subst (λ b. FlagFits (point_of w j) b) up (s.safe.flag j)))
 
   pub down_enabled : (i j : ℕ) → flag_of w j ≡ false → point_of w i ≡ Scan j → IsEnabled w i
   down_enabled i j down at = grind (arith, goes_on, of-with_same)
 
   -- at a point that waits neither for y nor for a flag
-  pub free_enabled : (i : ℕ) (P : At) → point_of w i ≡ P → IsBegunFree w.y P → ((j : ℕ) → P ≢ Scan j) → IsEnabled w i
+  pub free_enabled : (i : ℕ) (P : At) → point_of w i ≡ P → IsBegunFree w.y P →
+      ((j : ℕ) → P ≢ Scan j) → IsEnabled w i
   free_enabled i P at h f = grind (arith, goes_on, of-with_same, steady_enabled)
 
   enabled_from : (i : ℕ) (P : At) → point_of w i ≡ P → IsBegunFree w.y P → EnabledProcess w
@@ -117,7 +129,9 @@ start_owned : (n : ℕ) → IsOwned (start n)
 start_owned n taken = absurd (taken refl)
 
 pub reach_owned : (n : ℕ) (w : State) → Reach n w → IsOwned w
-reach_owned n w r = subst IsOwned (sym r.ends) (owned_run (start n) r.schedule (start_safe n) (start_owned n) (subst (λ m. IsSchedule m r.schedule) (sym (length-replicate n false)) r.processes))
+reach_owned n w r = subst IsOwned (sym r.ends) (owned_run (start n) r.schedule (start_safe n)
+    (start_owned n) (subst (λ m. IsSchedule m r.schedule)
+    (sym (length-replicate n false)) r.processes))
 
 pub no_dead_end : (n : ℕ) (w : State) (i : ℕ) → Reach n w → point_of w i ≢ Rest → EnabledProcess w
 no_dead_end n w i r = some_enabled w (reach_safe n w r) (reach_owned n w r) i

@@ -49,7 +49,8 @@ entry_of w i out h = elim (cases_eq h.0 i) [
   | inr ne ↦ absurd (out (h.0, subst IsInsidePoint (others_next w i h.0 ne) h.1))
 ]
 
-pub leads_enters : (n p : ℕ) (is : List ℕ) (w : State) → Pending n p w → IsSchedule n is → LeadsInside w is → Enters w is
+pub leads_enters : (n p : ℕ) (is : List ℕ) (w : State) → Pending n p w → IsSchedule n is →
+    LeadsInside w is → Enters w is
 leads_enters n p [] w c s h = absurd (c.outside h)
 leads_enters n p (i ∷ is) w c s (inl h) = absurd (c.outside h)
 leads_enters n p (i ∷ is) w c s (inr h) = elim (pending_next n p i w c s.0) [
@@ -83,7 +84,8 @@ leaving_outside Q l h2 = grind arith
 
 module _ (n p : ℕ) where
   -- process p is still in its entry after a step, unless it enters by it
-  entering_next : (w : State) (i : ℕ) → IsSound n w → IsEntering (point_of w p) → IsProcess n i → IsEntry w i ⊎ IsEntering (point_of (next w i) p)
+  entering_next : (w : State) (i : ℕ) → IsSound n w → IsEntering (point_of w p) → IsProcess n i →
+      IsEntry w i ⊎ IsEntering (point_of (next w i) p)
   entering_next w i s on q = elim (cases_eq p i) [
     | inr ne ↦ inr (subst IsEntering (sym (others_next w i p ne)) on)
     | inl e ↦
@@ -91,20 +93,26 @@ module _ (n p : ℕ) where
         let l = next_line w i s.safe (subst (λ m. IsProcess m i) (sym s.counts) q) in
         elim (inside_or_not (point_of (next w i) i)) [
           | inl h ↦ inl (entering_outside (point_of w i) here, h)
-          | inr out ↦ inr (subst (λ k. IsEntering (point_of (next w i) k)) (sym e) (entering_line (process_count w) (point_of w i) (point_of (next w i) i) here l out))
+          | inr out ↦ inr (subst (λ k. IsEntering (point_of (next w i) k)) (sym e)
+              (entering_line (process_count w) (point_of w i) (point_of (next w i) i) here l out))
         ]
   ]
 
-  nobody_after : (w : State) (k : ℕ) → IsSound n w → IsProcess n k → IsInside w k → IsOccupied (next w k) → ⊥
+  nobody_after : (w : State) (k : ℕ) → IsSound n w → IsProcess n k → IsInside w k →
+      IsOccupied (next w k) → ⊥
   nobody_after w k s q h j =
-      let l = leaves (process_count w) (point_of w k) (point_of (next w k) k) h (next_line w k s.safe (subst (λ m. IsProcess m k) (sym s.counts) q)) in
+      let l = leaves (process_count w) (point_of w k) (point_of (next w k) k) h
+      (next_line w k s.safe (subst (λ m. IsProcess m k) (sym s.counts) q)) in
       elim (cases_eq j.0 k) [
-        | inl e ↦ leaving_outside (point_of (next w k) k) l (subst (λ i. IsInside (next w k) i) e j.1)
-        | inr ne ↦ ne (one_inside w j.0 k s.safe (subst IsInsidePoint (others_next w k j.0 ne) j.1) h)
+        | inl e ↦ leaving_outside (point_of (next w k) k) l
+            (subst (λ i. IsInside (next w k) i) e j.1)
+        | inr ne ↦ ne (one_inside w j.0 k s.safe (subst IsInsidePoint (others_next w k j.0 ne) j.1)
+            h)
       ]
 
   -- a round in which process k, which is in its critical section, takes a step
-  pub first_round : (is : List ℕ) (w : State) (k : ℕ) → IsSound n w → IsEntering (point_of w p) → IsInside w k → IsSchedule n is → Contains is k → Enters w is ⊎ Pending n p (run w is)
+  pub first_round : (is : List ℕ) (w : State) (k : ℕ) → IsSound n w → IsEntering (point_of w p) →
+      IsInside w k → IsSchedule n is → Contains is k → Enters w is ⊎ Pending n p (run w is)
   first_round [] w k s on h a t = absurd (let lt = t.1 in omega arith)
   first_round (i ∷ is) w k s on h a t = elim (entering_next w i s on a.0) [
     | inl e ↦ inl (inl e)
@@ -116,7 +124,11 @@ module _ (n p : ℕ) where
       }) a.1) [ inl g ↦ inl (inr g) | inr all ↦ inr (pending_end n p is (next w i) all) ]
       | inr ne ↦ elim (contains_head i k is t.0 t.1 t.2) [
         | inl e ↦ absurd (ne (sym e))
-        | inr u ↦ elim (first_round is (next w i) k (sound_next n w i s a.0) on' (subst IsInsidePoint (sym (others_next w i k ne)) h) a.1 u) [ inl g ↦ inl (inr g) | inr g ↦ inr g ]
+        | inr u ↦ elim (first_round is (next w i) k (sound_next n w i s a.0) on'
+            (subst IsInsidePoint (sym (others_next w i k ne)) h) a.1 u) [
+              | inl g ↦ inl (inr g)
+              | inr g ↦ inr g
+            ]
       ]
     ]
   ]
@@ -130,10 +142,13 @@ pub enters_later : (w : State) (is js : List ℕ) → Enters (run w is) js → E
 enters_later w [] js h = h
 enters_later w (i ∷ is) js h = inr (enters_later (next w i) is js h)
 
-pub schedule-append : (n : ℕ) (is js : List ℕ) → IsSchedule n is → IsSchedule n js → IsSchedule n (is ++ js)
+pub schedule-append : (n : ℕ) (is js : List ℕ) → IsSchedule n is → IsSchedule n js →
+    IsSchedule n (is ++ js)
 schedule-append n [] js a b = b
 schedule-append n (i ∷ is) js a b = (a.0, schedule-append n is js a.1 b)
 
-pub schedule_concat : (n : ℕ) (w : State) (rounds : List (List ℕ)) → AreFairRounds n w rounds → IsSchedule n (concat rounds)
+pub schedule_concat : (n : ℕ) (w : State) (rounds : List (List ℕ)) → AreFairRounds n w rounds →
+    IsSchedule n (concat rounds)
 schedule_concat n w [] a = tt
-schedule_concat n w (is ∷ rounds) a = schedule-append n is (concat rounds) a.0 (schedule_concat n (run w is) rounds a.2)
+schedule_concat n w (is ∷ rounds) a = schedule-append n is (concat rounds) a.0
+    (schedule_concat n (run w is) rounds a.2)

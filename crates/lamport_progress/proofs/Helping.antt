@@ -172,7 +172,8 @@ fair n p = record {
         | inr (inl k) ↦ inr (inl k)
         | inr (inr k) ↦ inr (inr (helps_on w (next w i) j k (others_next w i j other) h))
       ];
-  some = λ w c. some_helper w c.pending.sound.safe c.pending.outside (c.pending.sound.owned c.taken);
+  some = λ w c. some_helper w c.pending.sound.safe c.pending.outside
+      (c.pending.sound.owned c.taken);
 }
   where
     counted : (n p : ℕ) (w : State) (i : ℕ) → Held n p w → IsProcess n i →

@@ -53,7 +53,8 @@ rank false n p = taken_rank n p
 abbrev pub measure : State → ℕ
 measure w = sum_by (rank (w.y == 0) (process_count w)) w.points
 
-pub lower : (t : Bool) (n : ℕ) (P Q : At) → free_rank n Q < free_rank n P → taken_rank n Q < taken_rank n P → rank t n Q < rank t n P
+pub lower : (t : Bool) (n : ℕ) (P Q : At) → free_rank n Q < free_rank n P →
+    taken_rank n Q < taken_rank n P → rank t n Q < rank t n P
 lower t n P Q f g = grind arith
 
 pub taken-le-rank : (t : Bool) (n : ℕ) (p : At) → taken_rank n p ≤ rank t n p
@@ -63,5 +64,8 @@ rank-le : (t : Bool) (n : ℕ) (p : At) → rank t n p ≤ 2 * n + 11
 rank-le t n p = grind arith
 
 -- the measure is at most the bound
-pub measure-le : (w : State) → length w.points ≡ process_count w → measure w ≤ work_bound (process_count w)
-measure-le w e = subst (λ k. measure w ≤ k * (2 * process_count w + 11)) e (total_le (rank (w.y == 0) (process_count w)) (2 * process_count w + 11) w.points (rank-le (w.y == 0) (process_count w)))
+pub measure-le : (w : State) → length w.points ≡ process_count w →
+    measure w ≤ work_bound (process_count w)
+measure-le w e = subst (λ k. measure w ≤ k * (2 * process_count w + 11)) e
+    (total_le (rank (w.y == 0) (process_count w)) (2 * process_count w + 11) w.points
+    (rank-le (w.y == 0) (process_count w)))

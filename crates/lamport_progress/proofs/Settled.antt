@@ -46,7 +46,8 @@ module _ (w : State) (i : ℕ) (there : IsProcess (length w.points) i) where
       unsettled (of_process Rest (with_process w.points i Q) i) ≤ k
   at_Q k Q le = subst (λ a. unsettled a ≤ k) (sym (of-with_same Rest w.points i Q there)) le
 
-  inside_Q : (Q : At) → IsInsidePoint Q → IsInsidePoint (of_process Rest (with_process w.points i Q) i)
+  inside_Q : (Q : At) → IsInsidePoint Q →
+      IsInsidePoint (of_process Rest (with_process w.points i Q) i)
   inside_Q Q h = subst IsInsidePoint (sym (of-with_same Rest w.points i Q there)) h
 
 -- process j has at most m steps left by the measure f, or one more and it takes a step
@@ -81,8 +82,10 @@ module _ (n p : ℕ) where
   pending_end [] w c = c
   pending_end (i ∷ is) w c = pending_end is (next w i) c.1
 
-  pub settles_next : (i : ℕ) (is : List ℕ) (w : State) → StaysPending n p w (i ∷ is) → IsProcess n i →
-      w.y ≡ 0 → ((next w i).y ≢ 0) ⊎ (unsettled (point_of (next w i) i) ≤ unsettled (point_of w i) - 1)
+  pub settles_next : (i : ℕ) (is : List ℕ) (w : State) → StaysPending n p w (i ∷ is) →
+      IsProcess n i →
+      w.y ≡ 0 → ((next w i).y ≢ 0) ⊎ (unsettled (point_of (next w i) i) ≤ unsettled
+      (point_of w i) - 1)
   settles_next i is w c q z = grind (arith, at_Q, inside_Q, pending_now)
 
   settles_run : (j m : ℕ) (is : List ℕ) (w : State) → StaysPending n p w is → IsSchedule n is →
@@ -112,7 +115,8 @@ module _ (n p : ℕ) where
   settles_round m is w c s r (inr le) = elim (cases_eq (run w is).y 0) [
     | inr ne ↦ inl ne
     | inl z ↦ inr (λ j. elim (settles_run j m is w c s
-        (due_now unsettled j m w is (pending_now is w c).sound.safe r (unsettled_steady (point_of w j)) (le j))) [
+        (due_now unsettled j m w is (pending_now is w c).sound.safe r
+        (unsettled_steady (point_of w j)) (le j))) [
           | inl ne ↦ absurd (ne z)
           | inr h ↦ h
         ])

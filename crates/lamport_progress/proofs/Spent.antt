@@ -119,7 +119,8 @@ module _ (w : State) (i : ℕ) (there : IsProcess (length w.points) i) where
       | inl e ↦ subst (λ k. IsClaim (point_of (step_from TestY w i) k)) (sym e)
           (subst IsClaim (sym (at_Q (after_TestY w.y)))
           (subst (λ t. IsClaim (cond t SetY BackB)) (sym (eq-eqb w.y 0 z)) tt))
-      | inr ne ↦ subst IsClaim (sym (others_from TestY w i w.x ne)) (c i (subst IsClaim (sym at) tt))
+      | inr ne ↦ subst IsClaim (sym (others_from TestY w i w.x ne))
+          (c i (subst IsClaim (sym at) tt))
     ],
   )
 
@@ -131,10 +132,12 @@ module _ (w : State) (i : ℕ) (there : IsProcess (length w.points) i) where
   abbrev Leaves : ℕ → State → Type 0
   Leaves m v = IsInside v i ⊎ (level (point_of v i) ≤ m)
 
-  level_Q : (m : ℕ) (Q : At) → level Q ≤ m → level (of_process Rest (with_process w.points i Q) i) ≤ m
+  level_Q : (m : ℕ) (Q : At) → level Q ≤ m →
+      level (of_process Rest (with_process w.points i Q) i) ≤ m
   level_Q m Q le = subst (λ a. level a ≤ m) (sym (at_Q Q)) le
 
-  inside_Q : (Q : At) → IsInsidePoint Q → IsInsidePoint (of_process Rest (with_process w.points i Q) i)
+  inside_Q : (Q : At) → IsInsidePoint Q →
+      IsInsidePoint (of_process Rest (with_process w.points i Q) i)
   inside_Q Q h = subst IsInsidePoint (sym (at_Q Q)) h
 
   taken_load : (Q R : At) (m : ℕ) → w.y ≢ 0 → level R ≤ m → level (cond (w.y == 0) Q R) ≤ m
@@ -166,7 +169,8 @@ abbrev pub NoneLeaves : State → Type 0
 NoneLeaves w = (j : ℕ) → clear (point_of w j) ≤ 4
 
 module _ (n p : ℕ) where
-  module _ (i : ℕ) (is : List ℕ) (w : State) (c : StaysPending n p w (i ∷ is)) (q : IsProcess n i) where
+  module _ (i : ℕ) (is : List ℕ) (w : State) (c : StaysPending n p w (i ∷ is))
+      (q : IsProcess n i) where
     there : IsProcess (length w.points) i
     there = subst (λ m. IsProcess m i) (sym (c.0.sound.safe.same_count ∙ c.0.sound.counts)) q
 
@@ -177,7 +181,8 @@ module _ (n p : ℕ) where
     still_taken : w.y ≢ 0 → (next w i).y ≢ 0
     still_taken = taken_from (point_of w i) w i q.0 (λ h. c.0.outside (i, h))
 
-    level_on : (j m : ℕ) → m ≤ 3 → w.y ≢ 0 → level (point_of w j) ≤ m → level (point_of (next w i) j) ≤ m
+    level_on : (j m : ℕ) → m ≤ 3 → w.y ≢ 0 → level (point_of w j) ≤ m →
+        level (point_of (next w i) j) ≤ m
     level_on j m few ne le = grind (arith, others_next, level_next)
 
     spent_on : Spent 2 3 w → w.y ≢ 0 → Spent 2 3 (next w i)
@@ -218,7 +223,8 @@ module _ (n p : ℕ) where
   stage_run [] w c s h = h
   stage_run (i ∷ is) w c s h = stage_run is (next w i) c.1 s.1 (stage_next i is w c s.0 h)
 
-  pub none_run : (is : List ℕ) (w : State) → StaysPending n p w is → IsSchedule n is → NoneLeaves w →
+  pub none_run : (is : List ℕ) (w : State) → StaysPending n p w is → IsSchedule n is →
+      NoneLeaves w →
       NoneLeaves (run w is)
   none_run [] w c s u = u
   none_run (i ∷ is) w c s u = none_run is (next w i) c.1 s.1 (none_next i is w c s.0 u)
@@ -284,7 +290,8 @@ level-ne-Rest P h e = let le = subst (λ a. level a ≤ 3) e h in absurd (omega 
 -- two processes with one step left keep the sum low
 pub spent_sum : (n p : ℕ) (w : State) → Pending n p w → NoneLeaves w → Spent 0 1 w →
     (2 ≤ n) × (sum_by clear w.points + 7 ≤ 4 * n)
-spent_sum n p w c u s = from s.a s.b s.differ (numbered s.a (level-ne-Rest (point_of w s.a) (let h = s.first in omega arith)))
+spent_sum n p w c u s = from s.a s.b s.differ
+    (numbered s.a (level-ne-Rest (point_of w s.a) (let h = s.first in omega arith)))
     (numbered s.b (level-ne-Rest (point_of w s.b) (let h = s.second in omega arith)))
     (let h = s.first in let g = clear_level (point_of w s.a) (omega arith) in omega arith)
     (let h = s.second in let g = clear_level (point_of w s.b) (omega arith) in omega arith)

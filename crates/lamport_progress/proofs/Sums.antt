@@ -8,16 +8,32 @@ use Rattle.lamport_core.specs.State.{IsProcess, of_process, with_process}
 use Rattle.lamport_core.specs.declared.At.{At}
 use Rattle.lamport_core.specs.declared.At.TheVariants.{Rest}
 
-set_less : (f g : At → ℕ) (ps : List At) (k : ℕ) (Q : At) → k < length ps → ((q : At) → g q ≤ f q) → g Q < f (get_or ps k Rest) → sum_by g (set ps k Q) < sum_by f ps
+set_less : (f g : At → ℕ) (ps : List At) (k : ℕ) (Q : At) → k < length ps → ((q : At) → g q ≤ f q) →
+    g Q < f (get_or ps k Rest) → sum_by g (set ps k Q) < sum_by f ps
 set_less f g [] k Q lt h l = absurd (omega arith)
-set_less f g (p ∷ ps) zero Q lt h l = omega (arith, sum_by-cons g Q ps, sum_by-cons f p ps, sum_by-le-sum_by g f ps h, l)
-set_less f g (p ∷ ps) (suc k) Q lt h l = omega (arith, sum_by-cons g p (set ps k Q), sum_by-cons f p ps, h p, set_less f g ps k Q (omega arith) h l)
+set_less f g (p ∷ ps) zero Q lt h l = omega (
+  arith,
+  sum_by-cons g Q ps,
+  sum_by-cons f p ps,
+  sum_by-le-sum_by g f ps h,
+  l,
+)
+set_less f g (p ∷ ps) (suc k) Q lt h l = omega (
+  arith,
+  sum_by-cons g p (set ps k Q),
+  sum_by-cons f p ps,
+  h p,
+  set_less f g ps k Q (omega arith) h l,
+)
 
 -- if no term increases, and that of the process that moves decreases, the sum decreases
-pub total_less : (f g : At → ℕ) (ps : List At) (i : ℕ) (Q : At) → IsProcess (length ps) i → ((q : At) → g q ≤ f q) → g Q < f (of_process Rest ps i) → sum_by g (with_process ps i Q) < sum_by f ps
+pub total_less : (f g : At → ℕ) (ps : List At) (i : ℕ) (Q : At) → IsProcess (length ps) i →
+    ((q : At) → g q ≤ f q) → g Q < f (of_process Rest ps i) →
+    sum_by g (with_process ps i Q) < sum_by f ps
 total_less f g ps i Q p h l = grind (arith, set_less)
 
-pub total_le : (f : At → ℕ) (m : ℕ) (ps : List At) → ((q : At) → f q ≤ m) → sum_by f ps ≤ length ps * m
+pub total_le : (f : At → ℕ) (m : ℕ) (ps : List At) → ((q : At) → f q ≤ m) →
+    sum_by f ps ≤ length ps * m
 total_le f m [] h = omega arith
 total_le f m (p ∷ ps) h = omega (arith, sum_by-cons f p ps, h p, total_le f m ps h)
 
@@ -57,15 +73,23 @@ two_less f m (p ∷ ps) (suc j) (suc k) a b ne h =
           (λ e. ne (ap suc e)) (λ l. h (suc l)),
     )
 
-set_at_most : (f : At → ℕ) (ps : List At) (k : ℕ) (Q : At) → k < length ps → f Q ≤ f (get_or ps k Rest) → sum_by f (set ps k Q) ≤ sum_by f ps
+set_at_most : (f : At → ℕ) (ps : List At) (k : ℕ) (Q : At) → k < length ps →
+    f Q ≤ f (get_or ps k Rest) → sum_by f (set ps k Q) ≤ sum_by f ps
 set_at_most f [] k Q lt l = absurd (omega arith)
 set_at_most f (p ∷ ps) zero Q lt l = omega (arith, sum_by-cons f Q ps, sum_by-cons f p ps, l)
-set_at_most f (p ∷ ps) (suc k) Q lt l = omega (arith, sum_by-cons f p (set ps k Q), sum_by-cons f p ps, set_at_most f ps k Q (omega arith) l)
+set_at_most f (p ∷ ps) (suc k) Q lt l = omega (
+  arith,
+  sum_by-cons f p (set ps k Q),
+  sum_by-cons f p ps,
+  set_at_most f ps k Q (omega arith) l,
+)
 
 -- if the term of the process that moves does not increase, the sum does not
-pub total_at_most : (f : At → ℕ) (ps : List At) (i : ℕ) (Q : At) → IsProcess (length ps) i → f Q ≤ f (of_process Rest ps i) → sum_by f (with_process ps i Q) ≤ sum_by f ps
+pub total_at_most : (f : At → ℕ) (ps : List At) (i : ℕ) (Q : At) → IsProcess (length ps) i →
+    f Q ≤ f (of_process Rest ps i) → sum_by f (with_process ps i Q) ≤ sum_by f ps
 total_at_most f ps i Q p l = grind (arith, set_at_most)
 
 -- the term of each number, whether or not it is that of a process, is at most the sum
-pub term-le-total : (f : At → ℕ) (ps : List At) (i : ℕ) → f Rest ≡ 0 → f (of_process Rest ps i) ≤ sum_by f ps
+pub term-le-total : (f : At → ℕ) (ps : List At) (i : ℕ) → f Rest ≡ 0 →
+    f (of_process Rest ps i) ≤ sum_by f ps
 term-le-total f ps i e = grind (arith, get_or-le-sum_by, get_or_past)

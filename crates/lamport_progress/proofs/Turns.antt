@@ -20,22 +20,33 @@ contains_round_robin : (n i : ℕ) → IsProcess n i → Contains (round_robin n
 contains_round_robin zero i p = absurd (omega arith)
 contains_round_robin (suc k) i p = elim (cases_eq i (suc k)) [
   | inl e ↦ (0, omega arith, sym e)
-  | inr ne ↦ contains_later (round_robin k) i (suc k) (contains_round_robin k i (omega arith, omega arith))
+  | inr ne ↦ contains_later (round_robin k) i (suc k) (contains_round_robin k i
+      (omega arith, omega arith))
 ]
 
 schedule_round_robin : (n m : ℕ) → m ≤ n → IsSchedule n (round_robin m)
 schedule_round_robin n zero le = tt
 schedule_round_robin n (suc k) le = ((omega arith, le), schedule_round_robin n k (omega arith))
 
-turns : (n k : ℕ) (w : State) → IsSafe w → process_count w ≡ n → AreFairRounds n w (replicate k (round_robin n))
+turns : (n k : ℕ) (w : State) → IsSafe w → process_count w ≡ n →
+    AreFairRounds n w (replicate k (round_robin n))
 turns n zero w s e = tt
-turns n (suc k) w s e = grind (arith, schedule_round_robin, contains_round_robin, run_safe, count-run, turns n k)
+turns n (suc k) w s e = grind (
+  arith,
+  schedule_round_robin,
+  contains_round_robin,
+  run_safe,
+  count-run,
+  turns n k,
+)
 
-pub round_robin_enters : (n : ℕ) (w : State) (i : ℕ) → Reach n w → IsEntering (point_of w i) → Enters w (concat (replicate (round_bound n) (round_robin n)))
+pub round_robin_enters : (n : ℕ) (w : State) (i : ℕ) → Reach n w → IsEntering (point_of w i) →
+    Enters w (concat (replicate (round_bound n) (round_robin n)))
 round_robin_enters n w i r on =
     let s = reach_sound n w r in
     let long = length-replicate (round_bound n) (round_robin n) in
-    rounds_enter n w i (replicate (round_bound n) (round_robin n)) r on (turns n (round_bound n) w s.safe s.counts) (omega arith)
+    rounds_enter n w i (replicate (round_bound n) (round_robin n)) r on
+    (turns n (round_bound n) w s.safe s.counts) (omega arith)
 
 -- Process 1 of two waits for y = 0, and process 2 is at rest. In a round process 2 enters and
 -- leaves, process 1 finds that y is not 0, and the world is the same again.
@@ -87,19 +98,44 @@ schedule_round = (two, (two, (two, (two, (one, (two, (two, (two, tt))))))))
 
 out_of_round : StaysOut 1 hungry round
 unfolding hungry round
-out_of_round = ((awaits AwaitY refl), ((awaits AwaitY refl), ((awaits AwaitY refl), ((awaits AwaitY refl), ((awaits AwaitY refl), ((awaits AwaitY refl), ((awaits AwaitY refl), ((awaits AwaitY refl), (awaits AwaitY refl)))))))))
+out_of_round = (
+  (awaits AwaitY refl),
+  (
+    (awaits AwaitY refl),
+    (
+      (awaits AwaitY refl),
+      (
+        (awaits AwaitY refl),
+        (
+          (awaits AwaitY refl),
+          (
+            (awaits AwaitY refl),
+            ((awaits AwaitY refl), ((awaits AwaitY refl), (awaits AwaitY refl))),
+          ),
+        ),
+      ),
+    ),
+  ),
+)
 
-stays-append : (p : ℕ) (w : State) (is js : List ℕ) → StaysOut p w is → StaysOut p (run w is) js → StaysOut p w (is ++ js)
+stays-append : (p : ℕ) (w : State) (is js : List ℕ) → StaysOut p w is → StaysOut p (run w is) js →
+    StaysOut p w (is ++ js)
 stays-append p w [] js h g = g
 stays-append p w (i ∷ is) js h g = (h.0, stays-append p (next w i) is js h.1 g)
 
 fair_hungry : (k : ℕ) → AreFairRounds 2 hungry (replicate k round)
 fair_hungry zero = tt
-fair_hungry (suc k) = (schedule_round, is_round, subst (λ w. AreFairRounds 2 w (replicate k round)) (sym again) (fair_hungry k))
+fair_hungry (suc k) = (
+  schedule_round,
+  is_round,
+  subst (λ w. AreFairRounds 2 w (replicate k round))
+      (sym again) (fair_hungry k),
+)
 
 out_hungry : (k : ℕ) → StaysOut 1 hungry (concat (replicate k round))
 out_hungry zero = not_inside
-out_hungry (suc k) = stays-append 1 hungry round (concat (replicate k round)) out_of_round (subst (λ w. StaysOut 1 w (concat (replicate k round))) (sym again) (out_hungry k))
+out_hungry (suc k) = stays-append 1 hungry round (concat (replicate k round)) out_of_round
+    (subst (λ w. StaysOut 1 w (concat (replicate k round))) (sym again) (out_hungry k))
 
 first_steps : Contains round 1
 unfolding round

@@ -42,11 +42,13 @@ at_once w [] h = h
 at_once w (i ∷ is) h = inl h
 
 -- while no process is in its critical section, a step waits or lowers the measure
-pub one_step : (n : ℕ) (w : State) (i : ℕ) → IsSound n w → IsProcess n i → IsOccupied w ⊎ ((next w i ≡ w) ⊎ (measure (next w i) < measure w))
+pub one_step : (n : ℕ) (w : State) (i : ℕ) → IsSound n w → IsProcess n i →
+    IsOccupied w ⊎ ((next w i ≡ w) ⊎ (measure (next w i) < measure w))
 one_step n w i s p = grind (arith, inside_or_not, outcome)
 
 -- if more steps than the measure change the world, some process enters its critical section
-steps_lead : (n : ℕ) (is : List ℕ) (w : State) → IsSound n w → IsSchedule n is → NeverWaits w is → measure w < length is → LeadsInside w is
+steps_lead : (n : ℕ) (is : List ℕ) (w : State) → IsSound n w → IsSchedule n is → NeverWaits w is →
+    measure w < length is → LeadsInside w is
 steps_lead n [] w s p b lt = absurd (omega arith)
 steps_lead n (i ∷ is) w s p b lt = elim (one_step n w i s p.0) [
   | inl h ↦ inl h
@@ -54,7 +56,8 @@ steps_lead n (i ∷ is) w s p b lt = elim (one_step n w i s p.0) [
   | inr (inr less) ↦ inr (steps_lead n is (next w i) (sound_next n w i s p.0) p.1 b.1 (omega arith))
 ]
 
-pub work : (n : ℕ) (w : State) (is : List ℕ) → IsSound n w → IsSchedule n is → NeverWaits w is → work_bound n < length is → LeadsInside w is
+pub work : (n : ℕ) (w : State) (is : List ℕ) → IsSound n w → IsSchedule n is → NeverWaits w is →
+    work_bound n < length is → LeadsInside w is
 work n w is s p b lt = grind (arith, measure-le, steps_lead)
 
 pub rest_or_not : (p : At) → (p ≡ Rest) ⊎ (p ≢ Rest)
@@ -71,11 +74,13 @@ mover n w some s = elim (rest_or_not (point_of w 1)) [
   | inl e ↦ record {
     process = 1;
     numbered = (omega arith, omega arith);
-    enabled = start_enabled w s.safe 1 (subst (λ m. IsProcess m 1) (sym s.counts) (omega arith, omega arith)) e;
+    enabled = start_enabled w s.safe 1 (subst (λ m. IsProcess m 1) (sym s.counts)
+        (omega arith, omega arith)) e;
   }
   | inr begun ↦ let r = some_enabled w s.safe s.owned 1 begun in record {
     process = r.process;
-    numbered = subst (λ m. IsProcess m r.process) s.counts (s.safe.safe.process r.process r.started);
+    numbered = subst (λ m. IsProcess m r.process) s.counts
+        (s.safe.safe.process r.process r.started);
     enabled = r.enabled;
   }
 ]
@@ -91,7 +96,12 @@ no_steps : (n m : ℕ) (w : State) → IsOccupied w → Way n m w
 no_steps n m w h = record { steps = []; processes = tt; bounded = omega arith; inside = h }
 
 one_more_step : (n m : ℕ) (w : State) (i : ℕ) → IsProcess n i → Way n m (next w i) → Way n (suc m) w
-one_more_step n m w i p h = let few = h.bounded in record { steps = i ∷ h.steps; processes = (p, h.processes); bounded = omega arith; inside = h.inside }
+one_more_step n m w i p h = let few = h.bounded in record {
+  steps = i ∷ h.steps;
+  processes = (p, h.processes);
+  bounded = omega arith;
+  inside = h.inside;
+}
 
 way : (n m : ℕ) (w : State) → 0 < n → IsSound n w → measure w ≤ m → Way n m w
 way n zero w some s few = let r = mover n w some s in elim (one_step n w r.process s r.numbered) [
@@ -99,14 +109,17 @@ way n zero w some s few = let r = mover n w some s in elim (one_step n w r.proce
   | inr (inl e) ↦ absurd (r.enabled e)
   | inr (inr less) ↦ absurd (omega arith)
 ]
-way n (suc m) w some s few = let r = mover n w some s in elim (one_step n w r.process s r.numbered) [
-  | inl h ↦ no_steps n (suc m) w h
-  | inr (inl e) ↦ absurd (r.enabled e)
-  | inr (inr less) ↦ one_more_step n m w r.process r.numbered (way n m (next w r.process) some (sound_next n w r.process s r.numbered) (omega arith))
-]
+way n (suc m) w some s few = let r = mover n w some s in
+    elim (one_step n w r.process s r.numbered) [
+      | inl h ↦ no_steps n (suc m) w h
+      | inr (inl e) ↦ absurd (r.enabled e)
+      | inr (inr less) ↦ one_more_step n m w r.process r.numbered (way n m (next w r.process) some
+          (sound_next n w r.process s r.numbered) (omega arith))
+    ]
 
 pub sound-measure-le : (n : ℕ) (w : State) → IsSound n w → measure w ≤ work_bound n
-sound-measure-le n w s = subst (λ m. measure w ≤ work_bound m) s.counts (measure-le w s.safe.same_count)
+sound-measure-le n w s = subst (λ m. measure w ≤ work_bound m) s.counts
+    (measure-le w s.safe.same_count)
 
 pub some_way : (n : ℕ) (w : State) → 0 < n → IsSound n w → (steps : List ℕ) × IsWayInside n w steps
 some_way n w some s = let h = way n (work_bound n) w some s (sound-measure-le n w s) in

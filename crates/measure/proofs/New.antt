@@ -11,7 +11,8 @@ each-new-ready lock k zero = tt
 each-new-ready lock k (suc n) = (record { made = refl; free = refl }, each-new-ready lock (suc k) n)
 
 -- all processes of a new system are ready for a call
-pub new-ready : (lock : LockId) (n : ℕ) (processes : List (Ticket Record)) → processes ≡ tickets_from lock 1 n → All (IsReady lock) processes
+pub new-ready : (lock : LockId) (n : ℕ) (processes : List (Ticket Record)) →
+    processes ≡ tickets_from lock 1 n → All (IsReady lock) processes
 new-ready lock n processes new =
     All-same (IsReady lock) processes (tickets_from lock 1 n) new
     (All-from_recursion (IsReady lock) (tickets_from lock 1 n) (each-new-ready lock 1 n))

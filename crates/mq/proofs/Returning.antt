@@ -13,12 +13,38 @@ use Rattle.mq.specs.Calls.{Calls, Found, made}
 use Rattle.mq.specs.Kinds.{Kind, IsKind, IsCall}
 
 -- a message is got by receives alone
-pub no-message : (call : Call) (reply : Reply) → may_reply call reply ≡ true → is_receive call ≡ false → gets_message reply ≡ false
+pub no-message : (call : Call) (reply : Reply) → may_reply call reply ≡ true → is_receive call ≡
+    false → gets_message reply ≡ false
 no-message call reply may other = search rules
 
 -- what a call of a kind is, by its reply
-pub is-call : {R : Type 0} {old new : Ticket Record} (call : Call) {given : List ℕ} (before after : List ℕ) {returned : R} (k : Kind R) (reply : Reply) → IsKind k → IsGiven call given → may_reply call reply ≡ true → Calls old new (made old.number call given reply) → Found old new call given reply
-    → k.says new.left reply ≡ Some returned → (is_receive call ≡ true → after ≡ filled new.left reply before) → IsCall k.says old new call given before after returned
-is-call (MqReceive d room) before after k reply kind none may calls found says fills = record { reply = reply; calls = calls; found = rw none at found; says_so = says; buffer = fills refl }
-is-call (MqTimedReceive d room until now) before after k reply kind none may calls found says fills = record { reply = reply; calls = calls; found = rw none at found; says_so = says; buffer = fills refl }
-is-call {new = new} call before after k reply kind is may calls found says fills = record { reply = reply; calls = calls; found = found; says_so = sym (kind.alone new.left reply (no-message call reply may refl)) ∙ says }
+pub is-call : {R : Type 0} {old new : Ticket Record} (call : Call) {given : List ℕ}
+    (before after : List ℕ) {returned : R} (k : Kind R) (reply : Reply) → IsKind k →
+    IsGiven call given → may_reply call reply ≡ true →
+    Calls old new (made old.number call given reply) → Found old new call given reply
+    → k.says new.left reply ≡ Some returned →
+    (is_receive call ≡ true → after ≡ filled new.left reply before) →
+    IsCall k.says old new call given before after returned
+is-call (MqReceive d room) before after k reply kind none may calls found says fills =
+    record {
+      reply = reply;
+      calls = calls;
+      found = rw none at found;
+      says_so = says;
+      buffer = fills refl;
+    }
+is-call (MqTimedReceive d room until now) before after k reply kind none may calls found says
+    fills = record {
+      reply = reply;
+      calls = calls;
+      found = rw none at found;
+      says_so = says;
+      buffer = fills refl;
+    }
+is-call {new = new} call before after k reply kind is may calls found says fills =
+    record {
+      reply = reply;
+      calls = calls;
+      found = found;
+      says_so = sym (kind.alone new.left reply (no-message call reply may refl)) ∙ says;
+    }

@@ -28,14 +28,18 @@ author r = r.entry.process
 
 -- the record of a call with these bytes, a name or a message
 abbrev pub recorded : ℕ → Call → List ℕ → Reply → Record
-recorded p call given reply = record { entry = record { process = p; call = call; reply = reply }; payload = payload_of call reply given }
+recorded p call given reply = record {
+  entry = record { process = p; call = call; reply = reply };
+  payload = payload_of call reply given;
+}
 
 -- What a call adds to the journal: its record, or nothing if memory was refused or the journal is
 -- full.
 abbrev pub made : ℕ → Call → List ℕ → Reply → Past
 made p call given reply = if has_entry reply then recorded p call given reply ∷ [] else []
 
--- the fixed part of the state: the number of processes, the bounds of the journal, and whether it is stored
+-- the fixed part of the state: the number of processes, the bounds of the journal, and whether it
+-- is stored
 abbrev pub fixed_of : ℕ → Option Bounds → Bool → List ℕ
 fixed_of n None true = n ∷ []
 fixed_of n None false = n ∷ 0 ∷ []
@@ -89,21 +93,24 @@ KeepsAnswered old new = old.told ≡ true → is_answered new.left new.number �
 
 -- The journal that a call found. The call added its record to it, and its reply is `JournalFull` if
 -- and only if it found the journal full.
-pub record Found (old new : Ticket Record) (call : Call) (given : List ℕ) (reply : Reply) : Type 0 where
+pub record Found (old new : Ticket Record) (call : Call) (given : List ℕ)
+    (reply : Reply) : Type 0 where
   pub journal : Past
   pub added : new.left ≡ made old.number call given reply ++ journal
   pub heeds : HeedsBounds (bounds_of old) journal old.number call given reply
 
 -- A call in one critical section. It left its record, or none if memory was refused or the journal
 -- is full, and its result is what the reply says.
-pub record OneCall {R : Type 0} (says : Reply → Option R) (old new : Ticket Record) (call : Call) (given : List ℕ) (result : R) : Type 0 where
+pub record OneCall {R : Type 0} (says : Reply → Option R) (old new : Ticket Record) (call : Call)
+    (given : List ℕ) (result : R) : Type 0 where
   pub reply : Reply
   pub calls : Calls old new (made old.number call given reply)
   pub found : Found old new call given reply
   pub says_so : says reply ≡ Some result
 
 -- A receive in one critical section. The buffer held `before`, and now holds `after`.
-pub record ReceiveCall {R : Type 0} (says : Past → Reply → Option R) (old new : Ticket Record) (call : Call) (before after : List ℕ) (result : R) : Type 0 where
+pub record ReceiveCall {R : Type 0} (says : Past → Reply → Option R) (old new : Ticket Record)
+    (call : Call) (before after : List ℕ) (result : R) : Type 0 where
   pub reply : Reply
   pub calls : Calls old new (made old.number call [] reply)
   pub found : Found old new call [] reply
@@ -112,7 +119,8 @@ pub record ReceiveCall {R : Type 0} (says : Past → Reply → Option R) (old ne
 
 -- A collect that found the wait answered, by the entry with sequence number `by` of the journal
 -- found. It left one record, and returns the outcome of the wait.
-pub record Collects (old new : Ticket Record) (result : Outcome) (before after : List ℕ) : Type 0 where
+pub record Collects (old new : Ticket Record) (result : Outcome)
+    (before after : List ℕ) : Type 0 where
   pub found : Past
   pub by : ℕ
   pub added : new.left ≡ recorded old.number Collect [] (Collected by) ∷ found
@@ -141,16 +149,19 @@ pub record Waited (old new : Ticket Record) (call : Call) (given : List ℕ) (by
   pub begun : Ticket Record
   pub begins : Begins old begun call given
   pub ends : Calls begun new (recorded old.number Collect [] (Collected by) ∷ [])
-  pub calls : Calls old new (recorded old.number Collect [] (Collected by) ∷ recorded old.number call given Waits ∷ [])
+  pub calls : Calls old new (recorded old.number Collect [] (Collected by) ∷
+      recorded old.number call given Waits ∷ [])
 
 -- a send that waited, and was then accepted
-pub record WaitedSend (old new : Ticket Record) (call : Call) (given : List ℕ) (result : Result (Unit {0}) Fault) : Type 0 where
+pub record WaitedSend (old new : Ticket Record) (call : Call) (given : List ℕ)
+    (result : Result (Unit {0}) Fault) : Type 0 where
   pub by : ℕ
   pub waited : Waited old new call given by
   pub is : result ≡ Ok tt
 
 -- a receive that waited, and then got the message of the send that answered it
-pub record WaitedReceive (old new : Ticket Record) (call : Call) (before after : List ℕ) (result : Result Received Fault) : Type 0 where
+pub record WaitedReceive (old new : Ticket Record) (call : Call) (before after : List ℕ)
+    (result : Result Received Fault) : Type 0 where
   pub by : ℕ
   pub waited : Waited old new call [] by
   pub is : result ≡ Ok (received_at new.left by)
@@ -158,19 +169,25 @@ pub record WaitedReceive (old new : Ticket Record) (call : Call) (before after :
 
 -- this call, which sends: without a wait, or with one that was answered
 abbrev pub Sends : Ticket Record → Ticket Record → Call → List ℕ → Result (Unit {0}) Fault → Type 0
-Sends old new call bytes result = OneCall send_says old new call bytes result ⊎ WaitedSend old new call bytes result
+Sends old new call bytes result = OneCall send_says old new call bytes result ⊎
+    WaitedSend old new call bytes result
 
 -- a send, without a wait or with one
-abbrev pub SendCall : Ticket Record → Ticket Record → ℕ → List ℕ → ℕ → Result (Unit {0}) Fault → Type 0
+abbrev pub SendCall : Ticket Record → Ticket Record → ℕ → List ℕ → ℕ → Result (Unit {0}) Fault →
+    Type 0
 SendCall old new d bytes prio result = Sends old new (MqSend d prio (length bytes)) bytes result
 
 -- This call, which receives, in the same way. The buffer held `before`, and now holds `after`.
-abbrev pub Receives : Ticket Record → Ticket Record → Call → List ℕ → List ℕ → Result Received Fault → Type 0
-Receives old new call before after result = ReceiveCall receive_says old new call before after result ⊎ WaitedReceive old new call before after result
+abbrev pub Receives : Ticket Record → Ticket Record → Call → List ℕ → List ℕ →
+    Result Received Fault → Type 0
+Receives old new call before after result = ReceiveCall receive_says old new call before after
+    result ⊎ WaitedReceive old new call before after result
 
 -- a receive, without a wait or with one
-abbrev pub WholeReceive : Ticket Record → Ticket Record → ℕ → List ℕ → List ℕ → Result Received Fault → Type 0
-WholeReceive old new d before after result = Receives old new (MqReceive d (length before)) before after result
+abbrev pub WholeReceive : Ticket Record → Ticket Record → ℕ → List ℕ → List ℕ →
+    Result Received Fault → Type 0
+WholeReceive old new d before after result = Receives old new (MqReceive d (length before))
+    before after result
 
 -- The end of a wait that no entry answered. It left one record, the withdrawal of that wait at the
 -- time `now`.
@@ -188,30 +205,38 @@ pub record Withdraws (gives : Deadline → Type 0) (old new : Ticket Record) : T
 -- A timed call that waited until its deadline. It left two records, the wait and then its
 -- withdrawal, in a journal that extends the one in which the wait began. Its result says that it
 -- timed out.
-pub record Expired {R : Type 0} (gives : Deadline → Type 0) (old new : Ticket Record) (call : Call) (given : List ℕ) (result : Result R Fault) : Type 0 where
+pub record Expired {R : Type 0} (gives : Deadline → Type 0) (old new : Ticket Record) (call : Call)
+    (given : List ℕ) (result : Result R Fault) : Type 0 where
   pub now : Deadline
   pub moment : gives now
   pub wait : ℕ
   pub begun : Ticket Record
   pub begins : Begins old begun call given
   pub ends : Calls begun new (recorded old.number (Withdraw now) [] (Withdrawn wait) ∷ [])
-  pub calls : Calls old new (recorded old.number (Withdraw now) [] (Withdrawn wait) ∷ recorded old.number call given Waits ∷ [])
+  pub calls : Calls old new (recorded old.number (Withdraw now) [] (Withdrawn wait) ∷
+      recorded old.number call given Waits ∷ [])
   pub is : result ≡ Err TimedOut
 
 -- A send with a deadline, made at a time that its clock can return: without a wait, after a wait
 -- that was answered, or after one that was withdrawn.
-pub record TimedSend (gives : Deadline → Type 0) (old new : Ticket Record) (d : ℕ) (bytes : List ℕ) (prio : ℕ) (until : Deadline) (result : Result (Unit {0}) Fault) : Type 0 where
+pub record TimedSend (gives : Deadline → Type 0) (old new : Ticket Record) (d : ℕ) (bytes : List ℕ)
+    (prio : ℕ) (until : Deadline) (result : Result (Unit {0}) Fault) : Type 0 where
   pub now : Deadline
   pub moment : gives now
-  pub how : OneCall send_says old new (MqTimedSend d prio (length bytes) until now) bytes result ⊎ WaitedSend old new (MqTimedSend d prio (length bytes) until now) bytes result
+  pub how : OneCall send_says old new (MqTimedSend d prio (length bytes) until now) bytes result ⊎
+      WaitedSend old new (MqTimedSend d prio (length bytes) until now) bytes result
       ⊎ Expired gives old new (MqTimedSend d prio (length bytes) until now) bytes result
 
 -- A receive with a deadline, in the same way. If it was withdrawn, the buffer is unchanged.
-pub record TimedReceive (gives : Deadline → Type 0) (old new : Ticket Record) (d : ℕ) (before after : List ℕ) (until : Deadline) (result : Result Received Fault) : Type 0 where
+pub record TimedReceive (gives : Deadline → Type 0) (old new : Ticket Record) (d : ℕ)
+    (before after : List ℕ) (until : Deadline) (result : Result Received Fault) : Type 0 where
   pub now : Deadline
   pub moment : gives now
-  pub how : ReceiveCall receive_says old new (MqTimedReceive d (length before) until now) before after result ⊎ WaitedReceive old new (MqTimedReceive d (length before) until now) before after result
-      ⊎ Expired gives old new (MqTimedReceive d (length before) until now) [] result × (after ≡ before)
+  pub how : ReceiveCall receive_says old new (MqTimedReceive d (length before) until now) before
+      after result ⊎ WaitedReceive old new (MqTimedReceive d (length before) until now)
+      before after result
+      ⊎ Expired gives old new (MqTimedReceive d (length before) until now) [] result ×
+      (after ≡ before)
 
 -- closes of these descriptors by process p, the latest first
 abbrev pub closes : ℕ → List ℕ → Past
@@ -221,7 +246,9 @@ closes p ds = map (λ d. recorded p (MqClose d) [] Done) ds
 -- full.
 abbrev pub AreInTurn : Option Bounds → Past → ℕ → List ℕ → Type 0
 AreInTurn bounds found p [] = Unit {0}
-AreInTurn bounds found p (d ∷ ds) = AreInTurn bounds found p ds × (lowest_held (closes p ds ++ found) p ≡ Some d) × (finds_full bounds (closes p ds ++ found) p (MqClose d) [] ≡ false)
+AreInTurn bounds found p (d ∷ ds) = AreInTurn bounds found p ds ×
+    (lowest_held (closes p ds ++ found) p ≡ Some d) × (finds_full bounds (closes p ds ++ found) p
+    (MqClose d) [] ≡ false)
 
 -- From the journal found to the one left, process p closed descriptors, always its lowest, and none
 -- when the journal was full.
@@ -262,7 +289,24 @@ pub record Knows (stay : Ticket Record) (answers places : ℕ) : Type 0 where
 
 -- what a process value without its seat shows
 abbrev pub no_ticket : Ticket Record
-no_ticket = record { lock = record { table = record { words = 0; slots = 0; views_name = 0; atom = 0; block = 0; offset = 0; slot_names = [] }; count = 0; fixed = [] }; number = 0; left = []; told = false }
+no_ticket = record {
+  lock = record {
+    table = record {
+      words = 0;
+      slots = 0;
+      views_name = 0;
+      atom = 0;
+      block = 0;
+      offset = 0;
+      slot_names = [];
+    };
+    count = 0;
+    fixed = [];
+  };
+  number = 0;
+  left = [];
+  told = false;
+}
 
 -- what a process value shows
 abbrev pub ticket_of : {A : Type 0} → (A → Ticket Record) → Option A → Ticket Record
@@ -270,7 +314,8 @@ ticket_of f (Some seat) = f seat
 ticket_of f None = no_ticket
 
 -- A process with this ticket entered this critical section as process p, and found these books.
-pub record Came (old : Ticket Record) (system : LockId) (stay : Ticket Record) (books : Kept) (p : ℕ) : Type 0 where
+pub record Came (old : Ticket Record) (system : LockId) (stay : Ticket Record) (books : Kept)
+    (p : ℕ) : Type 0 where
   pub lock : stay.lock ≡ system
   pub number : stay.number ≡ old.number
   pub process : p ≡ old.number
@@ -294,4 +339,5 @@ pub record Entrant : Type 0 where
 pub record UnderWay (t : Ticket Record) (number : ℕ) (waits : Option ℕ) : Type 0 where
   pub number_is : number ≡ t.number
   pub waits_is : waits ≡ waiting_room t.left t.number
-  pub fixed_is : t.lock.fixed ≡ fixed_of t.lock.count (bounds_in t.lock.fixed) (stored_in t.lock.fixed)
+  pub fixed_is : t.lock.fixed ≡ fixed_of t.lock.count (bounds_in t.lock.fixed)
+      (stored_in t.lock.fixed)

@@ -55,14 +55,20 @@ IsOver (Some waiting) returned = returned ≢ waiting
 
 -- A call of any kind in one critical section. The buffer of a receive held `before` and now holds
 -- `after`. The result of any other call depends on its reply alone.
-abbrev pub IsCall : {R : Type 0} → (Past → Reply → Option R) → Ticket Record → Ticket Record → Call → List ℕ → List ℕ → List ℕ → R → Type 0
-IsCall says old new (MqReceive d room) given before after returned = ReceiveCall says old new (MqReceive d room) before after returned
-IsCall says old new (MqTimedReceive d room until now) given before after returned = ReceiveCall says old new (MqTimedReceive d room until now) before after returned
+abbrev pub IsCall : {R : Type 0} → (Past → Reply → Option R) → Ticket Record → Ticket Record →
+    Call → List ℕ → List ℕ → List ℕ → R → Type 0
+IsCall says old new (MqReceive d room) given before after returned = ReceiveCall says old new
+    (MqReceive d room) before after returned
+IsCall says old new (MqTimedReceive d room until now) given before after returned =
+    ReceiveCall says old new (MqTimedReceive d room until now) before after returned
 IsCall says old new call given before after returned = OneCall (says []) old new call given returned
 
 -- What holds of each kind. The result of a call tells whether it waits, and depends on the reply
 -- alone if the call got no message.
 pub record IsKind {R : Type 0} (k : Kind R) : Type 0 where
-  pub waits : (past : Past) (reply : Reply) (returned : R) → k.says past reply ≡ Some returned → IsWaiting k.waiting returned → reply ≡ Waits
-  pub over : (past : Past) (reply : Reply) (returned : R) → k.says past reply ≡ Some returned → IsOver k.waiting returned → is_wait reply ≡ false
-  pub alone : (past : Past) (reply : Reply) → gets_message reply ≡ false → k.says past reply ≡ k.says [] reply
+  pub waits : (past : Past) (reply : Reply) (returned : R) → k.says past reply ≡ Some returned →
+      IsWaiting k.waiting returned → reply ≡ Waits
+  pub over : (past : Past) (reply : Reply) (returned : R) → k.says past reply ≡ Some returned →
+      IsOver k.waiting returned → is_wait reply ≡ false
+  pub alone : (past : Past) (reply : Reply) → gets_message reply ≡ false → k.says past reply ≡
+      k.says [] reply

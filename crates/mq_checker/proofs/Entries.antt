@@ -11,11 +11,13 @@ use Rattle.mq_model.proofs.Prefixes.{first-more}
 abbrev recorded : Entry → List ℕ → Record
 recorded e payload = record { entry = e; payload = payload }
 
-pub entry-here : (past : Past) (place : ℕ) (e : Entry) → Some e ≡ option_map (λ r. r.entry) (record_at past place) →
+pub entry-here : (past : Past) (place : ℕ) (e : Entry) → Some e ≡ option_map (λ r. r.entry)
+    (record_at past place) →
     first (place + 1) past ≡ record { entry = e; payload = name_of past place } ∷ first place past
 entry-here past place e is = grind (arith, first-more)
 
-pub entry-there : (past : Past) (place : ℕ) → place < length past → None ≡ option_map (λ (r : Record). r.entry) (record_at past place) → ⊥
+pub entry-there : (past : Past) (place : ℕ) → place < length past →
+    None ≡ option_map (λ (r : Record). r.entry) (record_at past place) → ⊥
 entry-there [] place lt e = absurd (omega arith)
 entry-there (s ∷ past) place lt e = split (place == length past)
     (λ t. let bad : None ≡ Some s.entry = rw t at e in absurd (cc))

@@ -8,5 +8,6 @@ abbrev pub flagged : Option Bool → Option Description → Option Description
 flagged None h = h
 flagged (Some f) h = option_map (with_nonblock f) h
 
-pub flagged_twice : (flag : Option Bool) (f : Bool) (h : Option Description) → flagged flag (option_map (with_nonblock f) h) ≡ flagged (Some (unwrap_or flag f)) h
+pub flagged_twice : (flag : Option Bool) (f : Bool) (h : Option Description) →
+    flagged flag (option_map (with_nonblock f) h) ≡ flagged (Some (unwrap_or flag f)) h
 flagged_twice flag f h = grind arith

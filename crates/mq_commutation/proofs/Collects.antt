@@ -43,18 +43,23 @@ use Rattle.mq_commutation.proofs.Apart.{AreSeparate, apart-commute}
 use Rattle.mq_state.proofs.QueuesNoted.{registered-later}
 use Rattle.mq_state.proofs.QueuesKeep.{alive-below}
 
--- a queue that is not yet created -------------------------------------------------------------------------------------------
+-- a queue that is not yet created -----------------------------------------------------------------
 
 contents-new : (past : Past) → Legal past → (q : ℕ) → length past ≤ q → contents past q ≡ []
-contents-new past legal q le = ap (λ (ks : List ℕ). lined prio_of (map (at sent past) ks)) (present-new past legal q le)
+contents-new past legal q le = ap (λ (ks : List ℕ). lined prio_of (map (at sent past) ks))
+    (present-new past legal q le)
 
 senders-new : (past : Past) → Legal past → (q : ℕ) → length past ≤ q → senders past q ≡ []
-senders-new past legal q le = ap (λ (ks : List ℕ). map (at sender past) (filter (λ m. not (is_in (ended_sends past) m)) ks)) (blocked_sends-new past legal q le)
+senders-new past legal q le =
+    ap (λ (ks : List ℕ). map (at sender past) (filter (λ m. not (is_in (ended_sends past) m)) ks))
+    (blocked_sends-new past legal q le)
 
 receivers-new : (past : Past) → Legal past → (q : ℕ) → length past ≤ q → receivers past q ≡ []
-receivers-new past legal q le = ap (λ (ks : List ℕ). map (at author past) (filter (λ m. not (is_in (ended_receives past) m)) ks)) (blocked_receives-new past legal q le)
+receivers-new past legal q le =
+    ap (λ (ks : List ℕ). map (at author past) (filter (λ m. not (is_in (ended_receives past) m))
+    ks)) (blocked_receives-new past legal q le)
 
--- calls on no queue -----------------------------------------------------------------------------------------------------------
+-- calls on no queue -------------------------------------------------------------------------------
 
 -- an open, an unlink and a collect
 abbrev is_still : Call → Bool
@@ -77,28 +82,39 @@ is_quiet reply = is_plain reply
 still-names : (call : Call) → changes_names call ≡ true → is_still call ≡ true
 still-names call e = grind arith
 
-plain-names : (past : Past) (p : ℕ) (call : Call) (reply : Reply) → changes_names call ≡ true → Says past p call reply → is_plain reply ≡ true
+plain-names : (past : Past) (p : ℕ) (call : Call) (reply : Reply) → changes_names call ≡ true →
+    Says past p call reply → is_plain reply ≡ true
 plain-names past p call reply e says = grind arith
 
 quiet-plain : (reply : Reply) → is_plain reply ≡ true → is_quiet reply ≡ true
 quiet-plain reply e = grind arith
 
-on-none : (past : Past) (p : ℕ) (call : Call) (k : ℕ) → is_still call ≡ true → is_place k (called_queue past p call) ≡ false
+on-none : (past : Past) (p : ℕ) (call : Call) (k : ℕ) → is_still call ≡ true →
+    is_place k (called_queue past p call) ≡ false
 on-none past p call k e = grind arith
 
-contents-quiet : (call : Call) (payload : List ℕ) (on : Bool) (reply : Reply) (ss : List (Option Sender)) (cs : List (Option Message)) → is_quiet reply ≡ true → after_contents call payload on reply ss cs ≡ cs
+contents-quiet : (call : Call) (payload : List ℕ) (on : Bool) (reply : Reply)
+    (ss : List (Option Sender)) (cs : List (Option Message)) → is_quiet reply ≡ true →
+    after_contents call payload on reply ss cs ≡ cs
 contents-quiet call payload on reply ss cs e = grind arith
 
-senders-quiet : (p : ℕ) (call : Call) (payload : List ℕ) (on : Bool) (reply : Reply) (ss : List (Option Sender)) → is_quiet reply ≡ true → after_senders p call payload on reply ss ≡ ss
+senders-quiet : (p : ℕ) (call : Call) (payload : List ℕ) (on : Bool) (reply : Reply)
+    (ss : List (Option Sender)) → is_quiet reply ≡ true → after_senders p call payload on reply ss ≡
+    ss
 senders-quiet p call payload on reply ss e = grind arith
 
-receivers-quiet : (p : ℕ) (call : Call) (on : Bool) (reply : Reply) (rs : List (Option ℕ)) → is_quiet reply ≡ true → after_receivers p call on reply rs ≡ rs
+receivers-quiet : (p : ℕ) (call : Call) (on : Bool) (reply : Reply) (rs : List (Option ℕ)) →
+    is_quiet reply ≡ true → after_receivers p call on reply rs ≡ rs
 receivers-quiet p call on reply rs e = grind arith
 
-registered-quiet : (p : ℕ) (call : Call) (reply : Reply) (before : Option Registered) → is_still call ≡ true → is_quiet reply ≡ true → after_registered false p call reply before ≡ before
+registered-quiet : (p : ℕ) (call : Call) (reply : Reply) (before : Option Registered) →
+    is_still call ≡ true → is_quiet reply ≡ true → after_registered false p call reply before ≡
+    before
 registered-quiet p call reply before still e = grind arith
 
-notices-quiet : (past : Past) (p : ℕ) (call : Call) (reply : Reply) (k : ℕ) (values : List ℕ) → is_quiet reply ≡ true → after_notices p (gives_notice reply) (notified_as past p call reply) k values ≡ values
+notices-quiet : (past : Past) (p : ℕ) (call : Call) (reply : Reply) (k : ℕ) (values : List ℕ) →
+    is_quiet reply ≡ true → after_notices p (gives_notice reply) (notified_as past p call reply)
+    k values ≡ values
 notices-quiet past p call reply k values e = grind arith
 
 kept-quiet : (reply : Reply) → is_quiet reply ≡ true → is_withdrawn reply ≡ false
@@ -107,13 +123,17 @@ kept-quiet reply e = grind arith
 goes-on : (reply : Reply) → is_plain reply ≡ true → is_wait reply ≡ false
 goes-on reply e = grind arith
 
-answer-plain : (p : ℕ) (call : Call) (payload : List ℕ) (reply : Reply) (ss : List (Option Sender)) (rs : List (Option ℕ)) (k : ℕ) (before : Option (Option (Option Message))) → is_plain reply ≡ true → after_answer p call payload reply ss rs k before ≡ before
+answer-plain : (p : ℕ) (call : Call) (payload : List ℕ) (reply : Reply) (ss : List (Option Sender))
+    (rs : List (Option ℕ)) (k : ℕ) (before : Option (Option (Option Message))) → is_plain reply ≡
+    true → after_answer p call payload reply ss rs k before ≡ before
 answer-plain p call payload reply ss rs k before e = grind arith
 
-message-plain : (past : Past) (reply : Reply) → is_plain reply ≡ true → message_given past reply ≡ None
+message-plain : (past : Past) (reply : Reply) → is_plain reply ≡ true → message_given past reply ≡
+    None
 message-plain past reply e = grind arith
 
-collected-plain : (past : Past) (reply : Reply) → is_plain reply ≡ true → message_collected past reply ≡ None
+collected-plain : (past : Past) (reply : Reply) → is_plain reply ≡ true →
+    message_collected past reply ≡ None
 collected-plain past reply e = grind arith
 
 -- a record that leaves the queues and the notices unchanged
@@ -124,21 +144,31 @@ record Still (past : Past) (r : Record) : Type 0 where
   registrations : (k : ℕ) → registered_as (r ∷ past) k ≡ registered_as past k
   values : (k : ℕ) → notices (r ∷ past) k ≡ notices past k
 
-stays-still : (past : Past) → Legal past → (p : ℕ) (call : Call) (reply : Reply) (payload : List ℕ) → IsLegalNext past (rec p call reply payload) → is_still call ≡ true → is_quiet reply ≡ true → Still past (rec p call reply payload)
+stays-still : (past : Past) → Legal past → (p : ℕ) (call : Call) (reply : Reply)
+    (payload : List ℕ) → IsLegalNext past (rec p call reply payload) → is_still call ≡ true →
+    is_quiet reply ≡ true → Still past (rec p call reply payload)
 stays-still past legal p call reply payload next still quiet =
     let says : Says past p call reply = legal_says past (rec p call reply payload) next in
     let kept : is_withdrawn reply ≡ false = kept-quiet reply quiet in
     record {
-      messages = λ k. contents-step past legal p call reply payload k says ∙ contents-quiet call payload (is_place k (called_queue past p call)) reply (senders past k) (contents past k) quiet;
-      sending = λ k. senders-step past p call reply payload k (legal, next) says kept ∙ senders-quiet p call payload (is_place k (called_queue past p call)) reply (senders past k) quiet;
-      receiving = λ k. receivers-step past p call reply payload k (legal, next) says kept ∙ receivers-quiet p call (is_place k (called_queue past p call)) reply (receivers past k) quiet;
+      messages = λ k. contents-step past legal p call reply payload k says ∙
+          contents-quiet call payload (is_place k (called_queue past p call)) reply (senders past k)
+          (contents past k) quiet;
+      sending = λ k. senders-step past p call reply payload k (legal, next) says kept ∙
+          senders-quiet p call payload (is_place k (called_queue past p call)) reply
+          (senders past k) quiet;
+      receiving = λ k. receivers-step past p call reply payload k (legal, next) says kept ∙
+          receivers-quiet p call (is_place k (called_queue past p call)) reply
+          (receivers past k) quiet;
       registrations = λ k. registered-step past p call reply payload next k
-          ∙ ap (λ (b : Bool). after_registered b p call reply (registered_as past k)) (on-none past p call k still)
+          ∙ ap (λ (b : Bool). after_registered b p call reply (registered_as past k))
+          (on-none past p call k still)
           ∙ registered-quiet p call reply (registered_as past k) still quiet;
-      values = λ k. notices-step past legal p call reply payload says k ∙ notices-quiet past p call reply k (notices past k) quiet;
+      values = λ k. notices-step past legal p call reply payload says k ∙ notices-quiet past p call
+          reply k (notices past k) quiet;
     }
 
--- a collect ---------------------------------------------------------------------------------------------------------------------
+-- a collect ---------------------------------------------------------------------------------------
 
 abbrev collect : ℕ → ℕ → Record
 collect p b = rec p Collect (Collected b) []
@@ -149,23 +179,30 @@ collect-held past p b k d = split (shares p k) (λ t. rw t refl) (λ f. rw f ref
 collect-alive : (past : Past) (p b : ℕ) → alive (collect p b ∷ past) ≡ alive past
 collect-alive past p b = alive-same_queues past (collect p b) refl refl (λ e. refl)
 
-collect-answer : (past : Past) → Legal past → (p b k : ℕ) → IsLegalNext past (collect p b) → answer (collect p b ∷ past) k ≡ (if p == k then None else answer past k)
-collect-answer past legal p b k next = answer-step past legal p Collect (Collected b) [] k (legal_says past (collect p b) next) (λ no. absurd (let bad : true ≡ false = no in cc))
+collect-answer : (past : Past) → Legal past → (p b k : ℕ) → IsLegalNext past (collect p b) →
+    answer (collect p b ∷ past) k ≡ (if p == k then None else answer past k)
+collect-answer past legal p b k next = answer-step past legal p Collect (Collected b) [] k
+    (legal_says past (collect p b) next) (λ no. absurd (let bad : true ≡ false = no in cc))
 
--- an open or an unlink ------------------------------------------------------------------------------------------------------------
+-- an open or an unlink ----------------------------------------------------------------------------
 
-names-reply : (past : Past) (p b q : ℕ) (call : Call) (given : List ℕ) → changes_names call ≡ true → reply_to (collect p b ∷ past) q call given ≡ reply_to past q call given
+names-reply : (past : Past) (p b q : ℕ) (call : Call) (given : List ℕ) → changes_names call ≡ true →
+    reply_to (collect p b ∷ past) q call given ≡ reply_to past q call given
 names-reply past p b q (MqOpen flags attr) given e = grind (arith, collect-held, collect-alive)
 names-reply past p b q MqUnlink given e = refl
 names-reply past p b q call given e = absurd (let bad : false ≡ true = e in cc)
 
-names-turn : (past : Past) (p b q : ℕ) (call : Call) → (p ≡ q → ⊥) → changes_names call ≡ true → may_call past q call ≡ true → may_call (collect p b ∷ past) q call ≡ true
+names-turn : (past : Past) (p b q : ℕ) (call : Call) → (p ≡ q → ⊥) → changes_names call ≡ true →
+    may_call past q call ≡ true → may_call (collect p b ∷ past) q call ≡ true
 names-turn past p b q call ne e turn = grind arith
 
-names-free : (past : Past) (q : ℕ) (call : Call) → changes_names call ≡ true → may_call past q call ≡ true → open_wait past q ≡ None
+names-free : (past : Past) (q : ℕ) (call : Call) → changes_names call ≡ true →
+    may_call past q call ≡ true → open_wait past q ≡ None
 names-free past q call e turn = grind arith
 
-module _ (past : Past) (p q : ℕ) (call : Call) (given : List ℕ) (legal : Legal past) (first : IsLegalNext past (record_of past p Collect [])) (second : IsLegalNext past (record_of past q call given)) (ne : p ≡ q → ⊥) (names : changes_names call ≡ true) where
+module _ (past : Past) (p q : ℕ) (call : Call) (given : List ℕ) (legal : Legal past)
+    (first : IsLegalNext past (record_of past p Collect [])) (second : IsLegalNext past
+    (record_of past q call given)) (ne : p ≡ q → ⊥) (names : changes_names call ≡ true) where
   abbrev b : Reply
   b = reply_to past q call given
 
@@ -245,7 +282,8 @@ module _ (past : Past) (p q : ℕ) (call : Call) (given : List ℕ) (legal : Leg
   onto = extended (λ j. j) (length mid) (length past)
 
   -- what is the same at all queues that are not yet created is the same under the renumbering
-  at-onto : {X : Type 0} (f : ℕ → X) (none : X) → ((k : ℕ) → length past ≤ k → f k ≡ none) → (k : ℕ) → f (onto k) ≡ f k
+  at-onto : {X : Type 0} (f : ℕ → X) (none : X) → ((k : ℕ) → length past ≤ k → f k ≡ none) →
+      (k : ℕ) → f (onto k) ≡ f k
   at-onto f none new k = split (k == length mid)
       (λ t. let here : k ≡ length mid = eqb-true k (length mid) t in
       rw t (new (length past) (omega arith) ∙ sym (new k (omega (arith, here)))))
@@ -254,20 +292,31 @@ module _ (past : Past) (p q : ℕ) (call : Call) (given : List ℕ) (legal : Leg
   base : SameStructure (λ j. j) mid past
   base = record {
     names = λ name. option-id (λ (j : ℕ). j) (λ v. refl) (bound_queue past name);
-    descriptors = λ k d. option-id (renumbered (λ (j : ℕ). j)) (λ v. refl) (held past k d) ∙ ap (option_map (renumbered (λ (j : ℕ). j))) (sym (collect-held past p by_p k d));
-    queues = subst (λ (qs : List ℕ). Corresponds (λ (j : ℕ). j) qs (alive past)) (sym (collect-alive past p by_p)) (corresponds-self (alive past));
-    limits = λ k h. sym (attributes-older past (collect p by_p) k (alive-below past k (subst (λ (qs : List ℕ). is_in qs k ≡ true) (collect-alive past p by_p) h)));
+    descriptors = λ k d. option-id (renumbered (λ (j : ℕ). j)) (λ v. refl) (held past k d) ∙
+        ap (option_map (renumbered (λ (j : ℕ). j))) (sym (collect-held past p by_p k d));
+    queues = subst (λ (qs : List ℕ). Corresponds (λ (j : ℕ). j) qs (alive past))
+        (sym (collect-alive past p by_p)) (corresponds-self (alive past));
+    limits = λ k h. sym (attributes-older past (collect p by_p) k
+        (alive-below past k (subst (λ (qs : List ℕ). is_in qs k ≡ true)
+        (collect-alive past p by_p) h)));
   }
 
   stepped : SameStructure onto y x
-  stepped = structure-stays (λ j. j) mid past q call bytes b b (record { equivalent = base; same = refl; legal_x = (legal-mid, next-y); legal_y = legal-x })
+  stepped = structure-stays (λ j. j) mid past q call bytes b b (record {
+    equivalent = base;
+    same = refl;
+    legal_x = (legal-mid, next-y);
+    legal_y = legal-x;
+  })
 
   structure : SameStructure onto y both
   structure = record {
     names = stepped.names;
     descriptors = λ k d. collect-held x p then_by k d ∙ stepped.descriptors k d;
-    queues = subst (λ (qs : List ℕ). Corresponds onto (alive y) qs) (sym (collect-alive x p then_by)) stepped.queues;
-    limits = λ k h. attributes-older x (collect p then_by) (onto k) (alive-below x (onto k) (stepped.queues.each k h)) ∙ stepped.limits k h;
+    queues = subst (λ (qs : List ℕ). Corresponds onto (alive y) qs)
+        (sym (collect-alive x p then_by)) stepped.queues;
+    limits = λ k h. attributes-older x (collect p then_by) (onto k)
+        (alive-below x (onto k) (stepped.queues.each k h)) ∙ stepped.limits k h;
   }
 
   waits-same : (k : ℕ) → is_some (open_wait both k) ≡ is_some (open_wait y k)
@@ -285,18 +334,23 @@ module _ (past : Past) (p q : ℕ) (call : Call) (given : List ℕ) (legal : Leg
       room-step x p Collect (Collected then_by) [] k
       ∙ ap (λ (o : Option ℕ). if p == k then None else o) (room-step past q call b bytes k)
       ∙ own-two p q k ne None room (waiting_room past k)
-      ∙ sym (ap (λ (o : Option ℕ). if q == k then room else o) (room-step past p Collect (Collected by_p) [] k))
+      ∙ sym (ap (λ (o : Option ℕ). if q == k then room else o) (room-step past p Collect
+      (Collected by_p) [] k))
       ∙ sym (room-step mid q call b bytes k)
 
   deadlines-same : (k : ℕ) → wait_deadline both k ≡ wait_deadline y k
-  deadlines-same k = own-two p q k ne None (if is_wait b then deadline_of call else None) (wait_deadline past k)
+  deadlines-same k = own-two p q k ne None (if is_wait b then deadline_of call else None)
+      (wait_deadline past k)
 
   x-answer : (k : ℕ) → answer x k ≡ answer past k
-  x-answer k = answer-step past legal q call b bytes k says (λ no. names-free past q call names second.turn) ∙ answer-plain q call bytes b _ _ k (answer past k) plain
+  x-answer k = answer-step past legal q call b bytes k says
+      (λ no. names-free past q call names second.turn) ∙ answer-plain q call bytes b _ _ k
+      (answer past k) plain
 
   y-answer : (k : ℕ) → answer y k ≡ answer mid k
   y-answer k =
-      answer-step mid legal-mid q call b bytes k (legal_says mid (rec q call b bytes) next-y) (λ no. names-free mid q call names next-y.turn)
+      answer-step mid legal-mid q call b bytes k (legal_says mid (rec q call b bytes) next-y)
+      (λ no. names-free mid q call names next-y.turn)
       ∙ answer-plain q call bytes b _ _ k (answer mid k) plain
 
   answers-same : (k : ℕ) → answer both k ≡ answer y k
@@ -312,13 +366,21 @@ module _ (past : Past) (p q : ℕ) (call : Call) (given : List ℕ) (legal : Leg
     equivalent = record {
       legal = ((legal-mid, next-y), (legal-x, next-both));
       structure = structure;
-      messages = λ k h. both-still.messages (onto k) ∙ x-still.messages (onto k) ∙ at-onto (contents past) [] (contents-new past legal) k ∙ sym (y-still.messages k ∙ collect-still.messages k);
-      sending = λ k h. both-still.sending (onto k) ∙ x-still.sending (onto k) ∙ at-onto (senders past) [] (senders-new past legal) k ∙ sym (y-still.sending k ∙ collect-still.sending k);
-      receiving = λ k h. both-still.receiving (onto k) ∙ x-still.receiving (onto k) ∙ at-onto (receivers past) [] (receivers-new past legal) k ∙ sym (y-still.receiving k ∙ collect-still.receiving k);
+      messages = λ k h. both-still.messages (onto k) ∙ x-still.messages (onto k) ∙
+          at-onto (contents past) [] (contents-new past legal) k ∙ sym (y-still.messages k ∙
+          collect-still.messages k);
+      sending = λ k h. both-still.sending (onto k) ∙ x-still.sending (onto k) ∙
+          at-onto (senders past) [] (senders-new past legal) k ∙
+          sym (y-still.sending k ∙ collect-still.sending k);
+      receiving = λ k h. both-still.receiving (onto k) ∙ x-still.receiving (onto k) ∙
+          at-onto (receivers past) [] (receivers-new past legal) k ∙ sym (y-still.receiving k ∙
+          collect-still.receiving k);
       registrations = λ k h. both-still.registrations (onto k) ∙ x-still.registrations (onto k)
-          ∙ at-onto (registered_as past) None (λ j le. ap (option_map unplaced) (registered-later past legal j le)) k
+          ∙ at-onto (registered_as past) None (λ j le. ap (option_map unplaced)
+          (registered-later past legal j le)) k
           ∙ sym (y-still.registrations k ∙ collect-still.registrations k);
-      values = λ k. both-still.values k ∙ x-still.values k ∙ sym (y-still.values k ∙ collect-still.values k);
+      values = λ k. both-still.values k ∙ x-still.values k ∙
+          sym (y-still.values k ∙ collect-still.values k);
       waits = waits-same;
       rooms = rooms-same;
       deadlines = deadlines-same;
@@ -338,32 +400,53 @@ module _ (past : Past) (p q : ℕ) (call : Call) (given : List ℕ) (legal : Leg
     second = record {
       next = subst (λ (reply : Reply). IsLegalNext mid (with_reply reply)) (sym same-reply) next-y;
       reply = ap outline same-reply;
-      message = message-plain (after_calls past (other ∷ (collect_of p ∷ []))) (reply_to mid q call given) (ap is_plain same-reply ∙ plain) ∙ sym (message-plain x b plain);
-      collected = collected-plain (after_calls past (other ∷ (collect_of p ∷ []))) (reply_to mid q call given) (ap is_plain same-reply ∙ plain) ∙ sym (collected-plain x b plain);
+      message = message-plain (after_calls past (other ∷ (collect_of p ∷ [])))
+          (reply_to mid q call given) (ap is_plain same-reply ∙ plain) ∙
+          sym (message-plain x b plain);
+      collected = collected-plain (after_calls past (other ∷ (collect_of p ∷ [])))
+          (reply_to mid q call given) (ap is_plain same-reply ∙ plain) ∙
+          sym (collected-plain x b plain);
     };
     first = record {
       next = next-both;
       reply = refl;
       message = refl;
       collected =
-          collected-alike past x p Collect (Collected by_p) (Collected then_by) [] [] refl (λ some. x-answer p) (next-both.turn ∙ sym first.turn)
+          collected-alike past x p Collect (Collected by_p) (Collected then_by) [] [] refl
+          (λ some. x-answer p) (next-both.turn ∙ sym first.turn)
           refl refl first.turn;
     };
-    journals = subst (λ (reply : Reply). Equivalent (with_reply reply ∷ mid) both) (sym same-reply) journals;
+    journals = subst (λ (reply : Reply). Equivalent (with_reply reply ∷ mid) both)
+        (sym same-reply) journals;
   }
 
--- each call ---------------------------------------------------------------------------------------------------------------------
+-- each call ---------------------------------------------------------------------------------------
 
 pub names-off : (call : Call) → is_covered call ≡ true → changes_names call ≡ false
 names-off call e = grind arith
 
-names-else : (call : Call) → is_covered call ≡ false → is_withdrawal call ≡ false → changes_names call ≡ true
+names-else : (call : Call) → is_covered call ≡ false → is_withdrawal call ≡ false →
+    changes_names call ≡ true
 names-else call e f = grind arith
 
-pub collect-commutes : (past : Past) (p : ℕ) (b : Request) → Legal past → IsLegalNext past (record_for past (collect_of p)) → IsLegalNext past (record_for past b) → (p == b.process) ≡ false → is_withdrawal b.call ≡ false → Commute past (collect_of p) b
+pub collect-commutes : (past : Past) (p : ℕ) (b : Request) → Legal past →
+    IsLegalNext past (record_for past (collect_of p)) → IsLegalNext past (record_for past b) →
+    (p == b.process) ≡ false → is_withdrawal b.call ≡ false → Commute past (collect_of p) b
 collect-commutes past p b legal first second ne kept = split (is_covered b.call)
-    (λ covered. apart-commute past (collect_of p) b (record { legal = legal; first = first; second = second; apart = apart covered }))
-    (λ uncovered. names-commute past p b.process b.call b.given legal first second (eqb-false p b.process ne) (names-else b.call uncovered kept))
+    (λ covered. apart-commute past (collect_of p) b (record {
+      legal = legal;
+      first = first;
+      second = second;
+      apart = apart covered;
+    }))
+    (λ uncovered. names-commute past p b.process b.call b.given legal first second
+    (eqb-false p b.process ne) (names-else b.call uncovered kept))
   where
     apart : is_covered b.call ≡ true → AreSeparate past (collect_of p) b
-    apart covered = record { processes = eqb-false p b.process ne; holders = inr (inl refl); calls = (refl, covered); queues = refl; notices = refl }
+    apart covered = record {
+      processes = eqb-false p b.process ne;
+      holders = inr (inl refl);
+      calls = (refl, covered);
+      queues = refl;
+      notices = refl;
+    }

@@ -18,7 +18,8 @@ use Rattle.mq_commutation.specs.ExploredCalls.{IsCall, IsReceive, IsSend, OwnThr
 use Rattle.mq_commutation.proofs.Collects.{names-off}
 
 -- what holds of each element holds of one
-among : {X : Type 0} (p : X → Bool) (xs : List X) (x : X) → list_all p xs ≡ true → Contains xs x → p x ≡ true
+among : {X : Type 0} (p : X → Bool) (xs : List X) (x : X) → list_all p xs ≡ true → Contains xs x →
+    p x ≡ true
 among {X} p xs x all (k, within, at) = grind (arith, AllPass-from_list_all)
 
 apart-processes : (a b : Request) (d e : Deed) → OwnThreads a b d e →
@@ -52,10 +53,12 @@ Meet past a b =
     (differ (queue_touched past a) (queue_touched past b) || only_reads a.call && only_reads b.call
     || calls.passes past a b || calls.passes past b a) ≡ true
 
-meet-apart : (past : Past) (a b : Request) → differ (queue_touched past a) (queue_touched past b) ≡ true → Meet past a b
+meet-apart : (past : Past) (a b : Request) → differ (queue_touched past a) (queue_touched past b) ≡
+    true → Meet past a b
 meet-apart past a b h = grind (arith, or_left)
 
-meet-reads : (past : Past) (a b : Request) → only_reads a.call ≡ true → only_reads b.call ≡ true → Meet past a b
+meet-reads : (past : Past) (a b : Request) → only_reads a.call ≡ true → only_reads b.call ≡ true →
+    Meet past a b
 meet-reads past a b h k = grind (arith, or_left, or_right)
 
 meet-passes : (past : Past) (a b : Request) → calls.passes past a b ≡ true → Meet past a b
@@ -64,14 +67,26 @@ meet-passes past a b h = grind (arith, or_left, or_right)
 meet-back : (past : Past) (a b : Request) → calls.passes past b a ≡ true → Meet past a b
 meet-back past a b h = grind (arith, or_right)
 
-meet-on : (past : Past) (object : Queue → ℕ) (a b : Request) (d e : Deed) (first : IsCall past object a d)
+meet-on : (past : Past) (object : Queue → ℕ) (a b : Request) (d e : Deed)
+    (first : IsCall past object a d)
     (second : IsCall past object b e) →
     (first.effect.looks && second.effect.looks ≡ true)
     ⊎ ((not first.effect.looks && not second.effect.looks
-    && (steps.passes first.effect second.effect || steps.passes second.effect first.effect)) ≡ true) → Meet past a b
-meet-on past object a b d e first second h = grind (arith, and_parts, meet-reads, not-true, or_cases, meet-passes, calls-pass, meet-back)
+    && (steps.passes first.effect second.effect || steps.passes second.effect first.effect)) ≡
+    true) → Meet past a b
+meet-on past object a b d e first second h = grind (
+  arith,
+  and_parts,
+  meet-reads,
+  not-true,
+  or_cases,
+  meet-passes,
+  calls-pass,
+  meet-back,
+)
 
-meet : (past : Past) (object : Queue → ℕ) (a b : Request) (d e : Deed) (first : IsCall past object a d)
+meet : (past : Past) (object : Queue → ℕ) (a b : Request) (d e : Deed)
+    (first : IsCall past object a d)
     (second : IsCall past object b e) → commute first.effect second.effect ≡ true → Meet past a b
 meet past object a b d e first second commutes =
     let x = first.effect in
@@ -81,7 +96,8 @@ meet past object a b d e first second commutes =
     let waits : Bool = is_wait x.kind && is_wait y.kind in
     elim (or_cases (not (x.object == y.object)) (commute_on x y) commutes) [
       | inl apart ↦
-          meet-apart past a b (apart-queues object (queue_touched past a) (queue_touched past b) x.object y.object first.queue second.queue apart)
+          meet-apart past a b (apart-queues object (queue_touched past a) (queue_touched past b)
+          x.object y.object first.queue second.queue apart)
       | inr on ↦
           elim (or_cases (looks || pass) waits on) [
             | inl most ↦ meet-on past object a b d e first second (or_cases looks pass most)
@@ -94,13 +110,22 @@ meet past object a b d e first second commutes =
 pub steps-independent : (past : Past) (object : Queue → ℕ) (a b : Request) (d e : Deed) →
     is_covered a.call ≡ true → is_covered b.call ≡ true → OwnThreads a b d e →
     differ (whose_notices past a) (whose_notices past b) ≡ true →
-    IsCall past object a d → IsCall past object b e → steps.are_independent d e ≡ true → calls.are_independent past a b ≡ true
+    IsCall past object a d → IsCall past object b e → steps.are_independent d e ≡ true →
+    calls.are_independent past a b ≡ true
 steps-independent past object a b d e covered_a covered_b threads notices first second independent =
     let thread : Bool = not (d.choice.thread == e.choice.thread) in
     let bound : Bool = not (steps.are_bound d e) in
-    let one = and_parts (thread && bound) (steps.are_apart d.effects.items e.effects.items) independent in
+    let one = and_parts (thread && bound) (steps.are_apart d.effects.items e.effects.items)
+    independent in
     let two = and_parts thread bound one.0 in
-    let of_first = among (λ z. is_apart z e.effects.items) d.effects.items first.effect one.1 first.among in
-    let commutes = among (λ z. commute first.effect z) e.effects.items second.effect of_first second.among in
-    rw (apart-processes a b d e threads two.0, names-off a.call covered_a, names-off b.call covered_b, notices)
+    let of_first = among (λ z. is_apart z e.effects.items) d.effects.items first.effect
+    one.1 first.among in
+    let commutes = among (λ z. commute first.effect z) e.effects.items second.effect
+    of_first second.among in
+    rw (
+      apart-processes a b d e threads two.0,
+      names-off a.call covered_a,
+      names-off b.call covered_b,
+      notices,
+    )
     (meet past object a b d e first second commutes)

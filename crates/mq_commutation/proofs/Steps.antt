@@ -35,7 +35,8 @@ pub shapes : (a b : Reply) → outline b ≡ outline a → shape b ≡ shape a
 shapes a b same = sym (shape-outline b) ∙ ap shape same ∙ shape-outline a
 
 pub both-told : (a b : Reply) → outline b ≡ outline a → is_some (notified b) ≡ is_some (notified a)
-both-told a b same = sym (told-outline b) ∙ ap (λ (r : Reply). is_some (notified r)) same ∙ told-outline a
+both-told a b same = sym (told-outline b) ∙ ap (λ (r : Reply). is_some (notified r)) same ∙
+    told-outline a
 
 pub both-give : (a b : Reply) → outline b ≡ outline a → gives_notice b ≡ gives_notice a
 both-give a b same = sym (given-outline b) ∙ ap gives_notice same ∙ given-outline a
@@ -45,12 +46,18 @@ both-wait a b same = sym (wait-shape b) ∙ ap is_wait (shapes a b same) ∙ wai
 
 -- messages given
 
-pub got-in : (past : Past) → Legal past → (p : ℕ) (call : Call) (m : ℕ) (a n : Option ℕ) (payload : List ℕ) → Says past p call (Got m a n) → (q : ℕ) × (called_queue past p call ≡ Some q) × (message_given (rec p call (Got m a n) payload ∷ past) (Got m a n) ≡ foremost (contents past q))
+pub got-in : (past : Past) → Legal past → (p : ℕ) (call : Call) (m : ℕ) (a n : Option ℕ)
+    (payload : List ℕ) → Says past p call (Got m a n) →
+    (q : ℕ) × (called_queue past p call ≡ Some q) ×
+    (message_given (rec p call (Got m a n) payload ∷ past) (Got m a n) ≡ foremost (contents past q))
 got-in past legal p call m a n payload says = grind (arith, got-all, called, got-message, foremost)
 
-module _ (x y : Past) (legal_x : Legal x) (legal_y : Legal y) (p : ℕ) (call : Call) (a b : Reply) (px py : List ℕ)
-    (next_x : IsLegalNext x (rec p call a px)) (next_y : IsLegalNext y (rec p call b py)) (on : is_covered call ≡ true)
-    (called_both : called_queue y p call ≡ called_queue x p call) (same : outline b ≡ outline a) (paid : py ≡ px) where
+module _ (x y : Past) (legal_x : Legal x) (legal_y : Legal y) (p : ℕ) (call : Call) (a b : Reply)
+    (px py : List ℕ)
+    (next_x : IsLegalNext x (rec p call a px)) (next_y : IsLegalNext y (rec p call b py))
+    (on : is_covered call ≡ true)
+    (called_both : called_queue y p call ≡ called_queue x p call) (same : outline b ≡ outline a)
+    (paid : py ≡ px) where
   abbrev rx : Record
   rx = rec p call a px
 
@@ -68,30 +75,38 @@ module _ (x y : Past) (legal_x : Legal x) (legal_y : Legal y) (p : ℕ) (call : 
 
   pub steps-at : (k : ℕ) → k < length x → k < length y → SameAt x y k → SameAt (rx ∷ x) (ry ∷ y) k
   steps-at k lx ly s =
-      let here : is_place k (called_queue y p call) ≡ is_place k (called_queue x p call) = ap (is_place k) called_both in
+      let here : is_place k (called_queue y p call) ≡ is_place k (called_queue x p call) =
+      ap (is_place k) called_both in
       record {
         limits = attributes-older y ry k ly ∙ s.limits ∙ sym (attributes-older x rx k lx);
         messages =
             contents-step y legal_y p call b py k says_y
-            ∙ sym (contents-shape call py (is_place k (called_queue y p call)) b (senders y k) (contents y k))
+            ∙ sym (contents-shape call py (is_place k (called_queue y p call)) b
+            (senders y k) (contents y k))
             ∙ (λ i. after_contents call (paid i) (here i) (shaped i) (s.sending i) (s.messages i))
-            ∙ contents-shape call px (is_place k (called_queue x p call)) a (senders x k) (contents x k)
+            ∙ contents-shape call px (is_place k (called_queue x p call)) a
+            (senders x k) (contents x k)
             ∙ sym (contents-step x legal_x p call a px k says_x);
         sending =
-            senders-step y p call b py k (legal_y, next_y) says_y (not-withdrawn y p call b on says_y)
+            senders-step y p call b py k (legal_y, next_y) says_y
+            (not-withdrawn y p call b on says_y)
             ∙ sym (senders-shape p call py (is_place k (called_queue y p call)) b (senders y k))
             ∙ (λ i. after_senders p call (paid i) (here i) (shaped i) (s.sending i))
             ∙ senders-shape p call px (is_place k (called_queue x p call)) a (senders x k)
-            ∙ sym (senders-step x p call a px k (legal_x, next_x) says_x (not-withdrawn x p call a on says_x));
+            ∙ sym (senders-step x p call a px k (legal_x, next_x) says_x
+            (not-withdrawn x p call a on says_x));
         receiving =
-            receivers-step y p call b py k (legal_y, next_y) says_y (not-withdrawn y p call b on says_y)
+            receivers-step y p call b py k (legal_y, next_y) says_y
+            (not-withdrawn y p call b on says_y)
             ∙ sym (receivers-shape p call (is_place k (called_queue y p call)) b (receivers y k))
             ∙ (λ i. after_receivers p call (here i) (shaped i) (s.receiving i))
             ∙ receivers-shape p call (is_place k (called_queue x p call)) a (receivers x k)
-            ∙ sym (receivers-step x p call a px k (legal_x, next_x) says_x (not-withdrawn x p call a on says_x));
+            ∙ sym (receivers-step x p call a px k (legal_x, next_x) says_x
+            (not-withdrawn x p call a on says_x));
         registration =
             registered-step y p call b py next_y k
-            ∙ sym (registered-outline (is_place k (called_queue y p call)) p call b (registered_as y k))
+            ∙ sym (registered-outline (is_place k (called_queue y p call)) p call b
+            (registered_as y k))
             ∙ (λ i. after_registered (here i) p call (same i) (s.registration i))
             ∙ registered-outline (is_place k (called_queue x p call)) p call a (registered_as x k)
             ∙ sym (registered-step x p call a px next_x k);
@@ -100,8 +115,12 @@ module _ (x y : Past) (legal_x : Legal x) (legal_y : Legal y) (p : ℕ) (call : 
 got-outline : (r : Reply) → is_got (outline r) ≡ is_got r
 got-outline r = grind arith
 
-both-got : (x y : Past) → Legal x → Legal y → (p : ℕ) (call : Call) (m : ℕ) (a n : Option ℕ) (j : ℕ) (c l : Option ℕ) (px py : List ℕ) → Says x p call (Got m a n) → Says y p call (Got j c l) → called_queue y p call ≡ called_queue x p call →
-    ((k : ℕ) → called_queue x p call ≡ Some k → foremost (contents y k) ≡ foremost (contents x k)) → message_given (rec p call (Got j c l) py ∷ y) (Got j c l) ≡ message_given (rec p call (Got m a n) px ∷ x) (Got m a n)
+both-got : (x y : Past) → Legal x → Legal y → (p : ℕ) (call : Call) (m : ℕ) (a n : Option ℕ) (j : ℕ)
+    (c l : Option ℕ) (px py : List ℕ) → Says x p call (Got m a n) → Says y p call (Got j c l) →
+    called_queue y p call ≡ called_queue x p call →
+    ((k : ℕ) → called_queue x p call ≡ Some k → foremost (contents y k) ≡ foremost (contents x k)) →
+    message_given (rec p call (Got j c l) py ∷ y) (Got j c l) ≡
+    message_given (rec p call (Got m a n) px ∷ x) (Got m a n)
 both-got x y legal_x legal_y p call m a n j c l px py says_x says_y called at =
     let gx = got-in x legal_x p call m a n px says_x in
     let gy = got-in y legal_y p call j c l py says_y in
@@ -110,10 +129,16 @@ both-got x y legal_x legal_y p call m a n j c l px py says_x says_y called at =
     gy.2 ∙ ap (λ (q : ℕ). foremost (contents y q)) one ∙ at gx.0 gx.1 ∙ sym gx.2
 
 -- a reply with the same outline as one that returns no message returns none
-pub no-message : (past : Past) (a b : Reply) → outline b ≡ outline a → is_got a ≡ false → message_given past b ≡ None
-no-message past a b same e = none-given past b (sym (got-outline b) ∙ ap is_got same ∙ got-outline a ∙ e)
+pub no-message : (past : Past) (a b : Reply) → outline b ≡ outline a → is_got a ≡ false →
+    message_given past b ≡ None
+no-message past a b same e = none-given past b (sym (got-outline b) ∙ ap is_got same ∙
+    got-outline a ∙ e)
 
 -- replies with the same outline that return a message return the same one
-pub message-same : (x y : Past) → Legal x → Legal y → (p : ℕ) (call : Call) (a b : Reply) (px py : List ℕ) → Says x p call a → Says y p call b → called_queue y p call ≡ called_queue x p call → outline b ≡ outline a →
-    ((k : ℕ) → called_queue x p call ≡ Some k → foremost (contents y k) ≡ foremost (contents x k)) → message_given (rec p call b py ∷ y) b ≡ message_given (rec p call a px ∷ x) a
-message-same x y legal_x legal_y p call a b px py says_x says_y called same at = grind (arith, is_got, got-outline, the-got, rec, both-got, Says, called, none-given)
+pub message-same : (x y : Past) → Legal x → Legal y → (p : ℕ) (call : Call) (a b : Reply)
+    (px py : List ℕ) → Says x p call a → Says y p call b → called_queue y p call ≡
+    called_queue x p call → outline b ≡ outline a →
+    ((k : ℕ) → called_queue x p call ≡ Some k → foremost (contents y k) ≡ foremost (contents x k)) →
+    message_given (rec p call b py ∷ y) b ≡ message_given (rec p call a px ∷ x) a
+message-same x y legal_x legal_y p call a b px py says_x says_y called same at =
+    grind (arith, is_got, got-outline, the-got, rec, both-got, Says, called, none-given)

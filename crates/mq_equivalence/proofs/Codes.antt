@@ -26,18 +26,24 @@ told-bytes (x ∷ xs) (y ∷ ys) u v n e = grind (arith, told-bytes xs ys u v (o
 told-bytes [] (y ∷ ys) u v n e = absurd (omega arith)
 told-bytes (x ∷ xs) [] u v n e = absurd (omega arith)
 
-pub decodable-optional : {X : Type 0} (code : X → List ℕ) → IsDecodable code → IsDecodable (optional code)
+pub decodable-optional : {X : Type 0} (code : X → List ℕ) → IsDecodable code →
+    IsDecodable (optional code)
 decodable-optional code told h h' u v e = grind arith
 
-decodable-codes : {X : Type 0} (code : X → List ℕ) → IsDecodable code → (xs ys : List X) (u v : List ℕ) → length xs ≡ length ys → codes code xs ++ u ≡ codes code ys ++ v → (xs ≡ ys) × (u ≡ v)
+decodable-codes : {X : Type 0} (code : X → List ℕ) → IsDecodable code →
+    (xs ys : List X) (u v : List ℕ) → length xs ≡ length ys → codes code xs ++ u ≡ codes code ys ++
+    v → (xs ≡ ys) × (u ≡ v)
 decodable-codes code told [] [] u v n e = (refl, e)
 decodable-codes code told (x ∷ xs) (y ∷ ys) u v n e =
-    let first = told x y (codes code xs ++ u) (codes code ys ++ v) (sym (append_assoc (code x) (codes code xs) u) ∙ e ∙ append_assoc (code y) (codes code ys) v) in
+    let first = told x y (codes code xs ++ u) (codes code ys ++ v)
+    (sym (append_assoc (code x) (codes code xs) u) ∙ e ∙ append_assoc (code y)
+    (codes code ys) v) in
     let rest = decodable-codes code told xs ys u v (omega arith) first.1 in
     (rw (first.0, rest.0) refl, rest.1)
 decodable-codes code told _ _ u v n e = absurd (omega arith)
 
-pub decodable-listed : {X : Type 0} (code : X → List ℕ) → IsDecodable code → IsDecodable (listed code)
+pub decodable-listed : {X : Type 0} (code : X → List ℕ) → IsDecodable code →
+    IsDecodable (listed code)
 decodable-listed code told xs ys u v e = decodable-codes code told xs ys u v (cc) (cc)
 
 abbrev attr : ℤ → ℤ → Attr
@@ -76,7 +82,9 @@ SameHeld qs ks (Some g) (Some h) = SameDescription qs ks g h
 SameHeld qs ks None (Some h) = ⊥
 SameHeld qs ks (Some g) None = ⊥
 
-pub told-held : (qs ks : List ℕ) (o p : Option Description) (u v : List ℕ) → optional (description_code qs) o ++ u ≡ optional (description_code ks) p ++ v → SameHeld qs ks o p × (u ≡ v)
+pub told-held : (qs ks : List ℕ) (o p : Option Description) (u v : List ℕ) →
+    optional (description_code qs) o ++ u ≡ optional (description_code ks) p ++ v →
+    SameHeld qs ks o p × (u ≡ v)
 told-held qs ks o p u v e = grind (arith, decodable-test)
 
 abbrev message : ℕ → List ℕ → Message
@@ -98,16 +106,20 @@ Pairs P (x ∷ xs) (y ∷ ys) = P x y × Pairs P xs ys
 Pairs P [] (y ∷ ys) = ⊥
 Pairs P (x ∷ xs) [] = ⊥
 
-told-codes_pairs : (f g : ℕ → List ℕ) (P : ℕ → ℕ → Type 0) → ((a b : ℕ) (u v : List ℕ) → f a ++ u ≡ g b ++ v → P a b × (u ≡ v)) →
-    (xs ys : List ℕ) (u v : List ℕ) → length xs ≡ length ys → codes f xs ++ u ≡ codes g ys ++ v → Pairs P xs ys × (u ≡ v)
+told-codes_pairs : (f g : ℕ → List ℕ) (P : ℕ → ℕ → Type 0) →
+    ((a b : ℕ) (u v : List ℕ) → f a ++ u ≡ g b ++ v → P a b × (u ≡ v)) →
+    (xs ys : List ℕ) (u v : List ℕ) → length xs ≡ length ys → codes f xs ++ u ≡ codes g ys ++ v →
+    Pairs P xs ys × (u ≡ v)
 told-codes_pairs f g P told [] [] u v n e = (tt, e)
 told-codes_pairs f g P told (x ∷ xs) (y ∷ ys) u v n e =
-    let first = told x y (codes f xs ++ u) (codes g ys ++ v) (sym (append_assoc (f x) (codes f xs) u) ∙ e ∙ append_assoc (g y) (codes g ys) v) in
+    let first = told x y (codes f xs ++ u) (codes g ys ++ v)
+    (sym (append_assoc (f x) (codes f xs) u) ∙ e ∙ append_assoc (g y) (codes g ys) v) in
     let rest = told-codes_pairs f g P told xs ys u v (omega arith) first.1 in
     ((first.0, rest.0), rest.1)
 told-codes_pairs f g P told _ _ u v n e = absurd (omega arith)
 
-pub told-pairs : (f g : ℕ → List ℕ) (P : ℕ → ℕ → Type 0) → ((a b : ℕ) (u v : List ℕ) → f a ++ u ≡ g b ++ v → P a b × (u ≡ v)) →
+pub told-pairs : (f g : ℕ → List ℕ) (P : ℕ → ℕ → Type 0) →
+    ((a b : ℕ) (u v : List ℕ) → f a ++ u ≡ g b ++ v → P a b × (u ≡ v)) →
     (xs ys : List ℕ) (u v : List ℕ) → listed f xs ++ u ≡ listed g ys ++ v → Pairs P xs ys × (u ≡ v)
 told-pairs f g P told xs ys u v e = told-codes_pairs f g P told xs ys u v (cc) (cc)
 
@@ -122,13 +134,16 @@ record DecodedNumbered (P : ℕ → Type 0) (low n : ℕ) (u v : List ℕ) : Typ
   each : (p : ℕ) → low ≤ p → p < low + n → P p
   rest : u ≡ v
 
-codes-numbered : (f g : ℕ → List ℕ) (P : ℕ → Type 0) → ((a : ℕ) (u v : List ℕ) → f a ++ u ≡ g a ++ v → P a × (u ≡ v)) →
-    (low n : ℕ) (u v : List ℕ) → codes f (numbers_from low n) ++ u ≡ codes g (numbers_from low n) ++ v → DecodedNumbered P low n u v
+codes-numbered : (f g : ℕ → List ℕ) (P : ℕ → Type 0) →
+    ((a : ℕ) (u v : List ℕ) → f a ++ u ≡ g a ++ v → P a × (u ≡ v)) →
+    (low n : ℕ) (u v : List ℕ) → codes f (numbers_from low n) ++ u ≡ codes g (numbers_from low n) ++
+    v → DecodedNumbered P low n u v
 codes-numbered f g P told low zero u v e = record { each = λ p l h. absurd (omega arith); rest = e }
 codes-numbered f g P told low (suc n) u v e =
     let us = codes f (numbers_from (low + 1) n) ++ u in
     let vs = codes g (numbers_from (low + 1) n) ++ v in
-    let first = told low us vs (sym (append_assoc (f low) (codes f (numbers_from (low + 1) n)) u) ∙ e ∙ append_assoc (g low) (codes g (numbers_from (low + 1) n)) v) in
+    let first = told low us vs (sym (append_assoc (f low) (codes f (numbers_from (low + 1) n)) u) ∙
+    e ∙ append_assoc (g low) (codes g (numbers_from (low + 1) n)) v) in
     grind (arith, nat_tests, eqb-true, codes-numbered f g P told (low + 1) n u v first.1)
 
 -- two lists that are numbered from 0
@@ -137,12 +152,16 @@ pub record AllDecoded (P : ℕ → Type 0) (n m : ℕ) (u v : List ℕ) : Type 0
   pub each : (p : ℕ) → p < n → P p
   pub rest : u ≡ v
 
-pub listed-numbered : (f g : ℕ → List ℕ) (P : ℕ → Type 0) → ((a : ℕ) (u v : List ℕ) → f a ++ u ≡ g a ++ v → P a × (u ≡ v)) →
-    (n m : ℕ) (u v : List ℕ) → listed f (numbers_from 0 n) ++ u ≡ listed g (numbers_from 0 m) ++ v → AllDecoded P n m u v
+pub listed-numbered : (f g : ℕ → List ℕ) (P : ℕ → Type 0) →
+    ((a : ℕ) (u v : List ℕ) → f a ++ u ≡ g a ++ v → P a × (u ≡ v)) →
+    (n m : ℕ) (u v : List ℕ) → listed f (numbers_from 0 n) ++ u ≡ listed g (numbers_from 0 m) ++ v →
+    AllDecoded P n m u v
 listed-numbered f g P told n m u v e =
     let lengths : length (numbers_from 0 n) ≡ length (numbers_from 0 m) = cc in
     let same : n ≡ m = sym (length-numbers 0 n) ∙ lengths ∙ length-numbers 0 m in
     let rest : codes f (numbers_from 0 n) ++ u ≡ codes g (numbers_from 0 m) ++ v = cc in
-    let here : codes f (numbers_from 0 n) ++ u ≡ codes g (numbers_from 0 n) ++ v = subst (λ (k : ℕ). codes f (numbers_from 0 n) ++ u ≡ codes g (numbers_from 0 k) ++ v) (sym same) rest in
+    let here : codes f (numbers_from 0 n) ++ u ≡ codes g (numbers_from 0 n) ++ v =
+    subst (λ (k : ℕ). codes f (numbers_from 0 n) ++ u ≡ codes g (numbers_from 0 k) ++ v)
+    (sym same) rest in
     let all = codes-numbered f g P told 0 n u v here in
     record { count = same; each = λ p h. all.each p (omega arith) (omega arith); rest = all.rest }

@@ -13,7 +13,8 @@ use Rattle.mq_equivalence.specs.Views.{bound_name}
 
 pub nameless-beyond : (past : Past) (q : ℕ) → length past ≤ q → bound_name past q ≡ None
 nameless-beyond past q le = split (is_named past q)
-    (λ t. let lt = created-below past q (bound-created past (name_of past q) q (named-bound past q t)) in absurd (omega arith))
+    (λ t. let lt = created-below past q (bound-created past (name_of past q) q
+    (named-bound past q t)) in absurd (omega arith))
     (λ f. rw f refl)
 
 exists : (past : Past) (k : ℕ) → k < length past → (r : Record) × (record_at past k ≡ Some r)
@@ -21,10 +22,13 @@ exists [] k lt = absurd (omega arith)
 exists (s ∷ past) k lt =
     split (k == length past)
     (λ here. (s, rw here refl))
-    (λ there. let ne : k ≡ length past → ⊥ = eqb-false _ _ there in let old = exists past k (omega arith) in (old.0, rw there old.1))
+    (λ there. let ne : k ≡ length past → ⊥ = eqb-false _ _ there in let old = exists past k
+    (omega arith) in (old.0, rw there old.1))
 
-pub nameless-none : (past : Past) (q : ℕ) → option_map (λ (r : Record). r.payload) (record_at past q) ≡ None → bound_name past q ≡ None
+pub nameless-none : (past : Past) (q : ℕ) → option_map (λ (r : Record). r.payload)
+    (record_at past q) ≡ None → bound_name past q ≡ None
 nameless-none past q none = elim (cases_lt q (length past)) [
-  | inl lt ↦ absurd (let found = exists past q lt in let is = sym (ap (option_map (λ (r : Record). r.payload)) found.1) ∙ none in cc)
+  | inl lt ↦ absurd (let found = exists past q lt in let is = sym
+      (ap (option_map (λ (r : Record). r.payload)) found.1) ∙ none in cc)
   | inr le ↦ nameless-beyond past q le
 ]

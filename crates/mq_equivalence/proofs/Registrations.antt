@@ -21,47 +21,62 @@ use Rattle.mq_equivalence.specs.Views.{Registered, registered_as}
 use Rattle.mq_equivalence.proofs.Notified.{notifies, viewed}
 use Rattle.mq_model.proofs.LegalReplies.{legal_says}
 
--- the registration's place is that of a call on its queue ------------------------------------------------------------------
+-- the registration's place is that of a call on its queue -----------------------------------------
 
-registered-to : (past : Past) (q : ℕ) (n : Registration) → registered past q ≡ Some n → sent_to past n.place ≡ Some q
+registered-to : (past : Past) (q : ℕ) (n : Registration) → registered past q ≡ Some n →
+    sent_to past n.place ≡ Some q
 registered-to [] q n e = absurd (cc)
-registered-to (r ∷ past) q n e = by (only_if (is_on past r.entry q) (registration_of (length past) r.entry.process r.entry.call r.entry.reply)) refl e (λ old. registered-to past q n old)
+registered-to (r ∷ past) q n e =
+    by (only_if (is_on past r.entry q) (registration_of (length past) r.entry.process r.entry.call
+    r.entry.reply)) refl e (λ old. registered-to past q n old)
   where
-    by : (o : Option Registration) → only_if (is_on past r.entry q) (registration_of (length past) r.entry.process r.entry.call r.entry.reply) ≡ o → registered (r ∷ past) q ≡ Some n → (registered past q ≡ Some n → sent_to past n.place ≡ Some q) → sent_to (r ∷ past) n.place ≡ Some q
+    by : (o : Option Registration) →
+        only_if (is_on past r.entry q) (registration_of (length past) r.entry.process r.entry.call
+        r.entry.reply) ≡ o → registered (r ∷ past) q ≡ Some n → (registered past q ≡ Some n →
+        sent_to past n.place ≡ Some q) → sent_to (r ∷ past) n.place ≡ Some q
     by None is e rest =
-        let old : unless (ends (is_on past r.entry q) r.entry) (registered past q) ≡ Some n = rw is at e in
+        let old : unless (ends (is_on past r.entry q) r.entry) (registered past q) ≡ Some n =
+        rw is at e in
         let stood = unless-some (ends (is_on past r.entry q) r.entry) (registered past q) n old in
         let low : n.place < length past = (registered-made past q n stood).place in
         rw (ne_eqb n.place (length past) (λ e. omega arith)) (rest stood)
     by (Some m) is e rest =
         grind (arith, nat_tests, made-of, only-some, eq-eqb, place-is)
 
-one-place : (past : Past) (q k : ℕ) (n m : Registration) → registered past q ≡ Some n → registered past k ≡ Some m → n.place ≡ m.place → q ≡ k
+one-place : (past : Past) (q k : ℕ) (n m : Registration) → registered past q ≡ Some n →
+    registered past k ≡ Some m → n.place ≡ m.place → q ≡ k
 one-place past q k n m eq ek same =
-    let both : Some q ≡ Some k = sym (registered-to past q n eq) ∙ ap (sent_to past) same ∙ registered-to past k m ek in cc
+    let both : Some q ≡ Some k = sym (registered-to past q n eq) ∙ ap (sent_to past) same ∙
+    registered-to past k m ek in cc
 
--- which registration a reply notifies ----------------------------------------------------------------------------------------
+-- which registration a reply notifies -------------------------------------------------------------
 
 and-none : (b : Bool) → false ≡ (b && false)
 and-none b = grind arith
 
-place-told : (past : Past) (p : ℕ) (call : Call) (reply : Reply) (payload : List ℕ) → IsLegalNext past (rec p call reply payload) → (q : ℕ) (n : Registration) → registered past q ≡ Some n →
-    is_place n.place (notified reply) ≡ (is_place q (called_queue past p call) && is_some (notified reply))
+place-told : (past : Past) (p : ℕ) (call : Call) (reply : Reply) (payload : List ℕ) →
+    IsLegalNext past (rec p call reply payload) → (q : ℕ) (n : Registration) → registered past q ≡
+    Some n →
+    is_place n.place (notified reply) ≡ (is_place q (called_queue past p call) && is_some
+    (notified reply))
 place-told past p call reply payload next q n stands = by (notified reply) refl
   where
-    by : (o : Option ℕ) → notified reply ≡ o → is_place n.place (notified reply) ≡ (is_place q (called_queue past p call) && is_some (notified reply))
+    by : (o : Option ℕ) → notified reply ≡ o → is_place n.place (notified reply) ≡
+        (is_place q (called_queue past p call) && is_some (notified reply))
     by None is = rw is (and-none (is_place q (called_queue past p call)))
     by (Some j) is =
         let m = notifies past p call reply j (legal_says past (rec p call reply payload) next) is in
         rw (is, m.called) (split (m.queue == q)
         (λ t. grind (arith, nat_tests, eqb-true, eq-eqb))
-        (λ f. rw f (ne_eqb j n.place (λ e. eqb-false _ _ f (one-place past m.queue q m.registration n m.stands stands (m.place ∙ e))))))
+        (λ f. rw f
+        (ne_eqb j n.place (λ e. eqb-false _ _ f (one-place past m.queue q m.registration n
+        m.stands stands (m.place ∙ e))))))
       where
         registered-at : Option Registration → ℕ
         registered-at None = 0
         registered-at (Some n) = n.place
 
--- the step ---------------------------------------------------------------------------------------------------------------------
+-- the step ----------------------------------------------------------------------------------------
 
 abbrev made_by : ℕ → Call → Option Registered
 made_by p (MqNotify d (Some v)) = Some (record { process = p; d = d; value = v })
@@ -80,7 +95,8 @@ over None before = before
 over (Some n) before = Some n
 
 abbrev ended : Bool → ℕ → Call → Reply → Registered → Bool
-ended on p call reply n = (on && is_some (notified reply)) || ((removes call reply && on || closes call reply n.d) && shares p n.process)
+ended on p call reply n = (on && is_some (notified reply)) ||
+    ((removes call reply && on || closes call reply n.d) && shares p n.process)
 
 abbrev left : Bool → ℕ → Call → Reply → Option Registered → Option Registered
 left on p call reply None = None
@@ -88,11 +104,15 @@ left on p call reply (Some n) = if ended on p call reply n then None else Some n
 
 -- the registration after an entry, which is made on its queue or not
 abbrev pub after_registered : Bool → ℕ → Call → Reply → Option Registered → Option Registered
-after_registered on p call reply before = over (only on (made p call reply)) (left on p call reply before)
+after_registered on p call reply before = over (only on (made p call reply))
+    (left on p call reply before)
 
-view-over : (u v : Option Registration) → option_map viewed (or_else u v) ≡ over (option_map viewed u) (option_map viewed v)
+view-over : (u v : Option Registration) → option_map viewed (or_else u v) ≡
+    over (option_map viewed u) (option_map viewed v)
 view-over u v = grind arith
 
-pub registered-step : (past : Past) (p : ℕ) (call : Call) (reply : Reply) (payload : List ℕ) → IsLegalNext past (rec p call reply payload) → (q : ℕ) →
-    registered_as (rec p call reply payload ∷ past) q ≡ after_registered (is_place q (called_queue past p call)) p call reply (registered_as past q)
+pub registered-step : (past : Past) (p : ℕ) (call : Call) (reply : Reply) (payload : List ℕ) →
+    IsLegalNext past (rec p call reply payload) → (q : ℕ) →
+    registered_as (rec p call reply payload ∷ past) q ≡
+    after_registered (is_place q (called_queue past p call)) p call reply (registered_as past q)
 registered-step past p call reply payload next q = grind (arith, view-over, rec, viewed, place-told)

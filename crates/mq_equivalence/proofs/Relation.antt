@@ -17,14 +17,15 @@ use Rattle.mq_equivalence.specs.Equivalence.{Equivalent}
 use Rattle.mq_equivalence.proofs.Correspondence.{corresponds-on, corresponds-self}
 use Rattle.mq_equivalence.proofs.Structure.{named-by, needed-in}
 
--- renumberings -------------------------------------------------------------------------------------------------------------
+-- renumberings ------------------------------------------------------------------------------------
 
 -- of the queues, the one whose number is k
 origin : (ℕ → ℕ) → List ℕ → ℕ → ℕ
 origin to [] k = 0
 origin to (j ∷ qs) k = if to j == k then j else origin to qs k
 
-origin-is : (to : ℕ → ℕ) (qs : List ℕ) → ((i j : ℕ) → is_in qs i ≡ true → is_in qs j ≡ true → to i ≡ to j → i ≡ j) → (q : ℕ) → is_in qs q ≡ true → origin to qs (to q) ≡ q
+origin-is : (to : ℕ → ℕ) (qs : List ℕ) → ((i j : ℕ) → is_in qs i ≡ true → is_in qs j ≡ true → to i ≡
+    to j → i ≡ j) → (q : ℕ) → is_in qs q ≡ true → origin to qs (to q) ≡ q
 unfolding origin
 origin-is to [] once q h = absurd (cc)
 origin-is to (j ∷ qs) once q h = split (to j == to q)
@@ -36,7 +37,7 @@ origin-is to (j ∷ qs) once q h = split (to j == to q)
     older : (i : ℕ) → is_in qs i ≡ true → is_in (j ∷ qs) i ≡ true
     older i hi = split (j == i) (λ t. rw t refl) (λ f. rw (f, hi) refl)
 
--- the relation -------------------------------------------------------------------------------------------------------------
+-- the relation ------------------------------------------------------------------------------------
 
 pub equivalent-self : (x : Past) → Legal x → Equivalent x x
 equivalent-self x legal = record {
@@ -62,28 +63,41 @@ module _ (x y : Past) (f : Equivalent x y) where
   back-is q inside = origin-is f.to (alive x) f.equivalent.structure.queues.once q inside
 
   -- queue k of y is queue `back k` of x, and has its number there
-  from : (k : ℕ) → is_in (alive y) k ≡ true → (is_in (alive x) (back k) ≡ true) × (f.to (back k) ≡ k)
+  from : (k : ℕ) → is_in (alive y) k ≡ true → (is_in (alive x) (back k) ≡ true) ×
+      (f.to (back k) ≡ k)
   from k inside =
       let n = f.equivalent.structure.queues.every k inside in
       let is : back k ≡ n.0 = ap back (sym n.2) ∙ back-is n.0 n.1 in
       (subst (λ (q : ℕ). is_in (alive x) q ≡ true) (sym is) n.1, ap f.to is ∙ n.2)
 
-  back-fact : {X : Type 0} (of_x of_y : ℕ → X) → ((q : ℕ) → is_in (alive x) q ≡ true → of_y (f.to q) ≡ of_x q) → (k : ℕ) → is_in (alive y) k ≡ true → of_x (back k) ≡ of_y k
+  back-fact : {X : Type 0} (of_x of_y : ℕ → X) →
+      ((q : ℕ) → is_in (alive x) q ≡ true → of_y (f.to q) ≡ of_x q) → (k : ℕ) → is_in (alive y) k ≡
+      true → of_x (back k) ≡ of_y k
   back-fact of_x of_y same k inside = let n = from k inside in sym (same (back k) n.0) ∙ ap of_y n.1
 
   name-back : (name : List ℕ) → bound_queue x name ≡ option_map back (bound_queue y name)
-  name-back name = by (bound_queue x name) refl ∙ sym (ap (option_map back) (f.equivalent.structure.names name))
+  name-back name = by (bound_queue x name) refl ∙
+      sym (ap (option_map back) (f.equivalent.structure.names name))
     where
       by : (o : Option ℕ) → bound_queue x name ≡ o → o ≡ option_map back (option_map f.to o)
       by None is = refl
-      by (Some q) is = ap (λ (k : ℕ). Some k) (sym (back-is q (needed-in x f.equivalent.legal.0 q (named-by x name q is))))
+      by (Some q) is = ap (λ (k : ℕ). Some k)
+          (sym (back-is q (needed-in x f.equivalent.legal.0 q (named-by x name q is))))
 
   held-back : (p d : ℕ) → held x p d ≡ option_map (renumbered back) (held y p d)
-  held-back p d = by (held x p d) refl ∙ sym (ap (option_map (renumbered back)) (f.equivalent.structure.descriptors p d))
+  held-back p d = by (held x p d) refl ∙ sym (ap (option_map (renumbered back))
+      (f.equivalent.structure.descriptors p d))
     where
-      by : (o : Option Description) → held x p d ≡ o → o ≡ option_map (renumbered back) (option_map (renumbered f.to) o)
+      by : (o : Option Description) → held x p d ≡ o →
+          o ≡ option_map (renumbered back) (option_map (renumbered f.to) o)
       by None is = refl
-      by (Some h) is = λ i. Some (record { queue = sym (back-is h.queue (held-alive x f.equivalent.legal.0 p d h is)) i; access = h.access; nonblock = h.nonblock })
+      by (Some h) is =
+          λ i. Some
+          (record {
+            queue = sym (back-is h.queue (held-alive x f.equivalent.legal.0 p d h is)) i;
+            access = h.access;
+            nonblock = h.nonblock;
+          })
 
   pub equivalent-back : Equivalent y x
   equivalent-back = record {

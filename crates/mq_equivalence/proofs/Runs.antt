@@ -18,18 +18,23 @@ use Rattle.mq_equivalence.proofs.Replies.{reply-equivalent, turn-equivalent}
 use Rattle.mq_equivalence.proofs.Going.{shape-outline}
 use Rattle.mq_equivalence.proofs.Waiting.{goes-equivalent, message-equivalent}
 
-pub payload-by : (call : Call) (a b : Reply) (payload : List ℕ) → is_refused b ≡ is_refused a → is_payload call b payload ≡ is_payload call a payload
+pub payload-by : (call : Call) (a b : Reply) (payload : List ℕ) → is_refused b ≡ is_refused a →
+    is_payload call b payload ≡ is_payload call a payload
 payload-by call a b payload e = grind arith
 
 -- an entry that may follow the one journal may follow the other
-pub next-equivalent : {received : Bool} (to : ℕ → ℕ) (x y : Past) → AgreeUnder received to x y → (p : ℕ) (call : Call) (given : List ℕ) → IsLegalNext x (record_of x p call given) → IsLegalNext y (record_of y p call given)
+pub next-equivalent : {received : Bool} (to : ℕ → ℕ) (x y : Past) → AgreeUnder received to x y →
+    (p : ℕ) (call : Call) (given : List ℕ) → IsLegalNext x (record_of x p call given) →
+    IsLegalNext y (record_of y p call given)
 next-equivalent to x y equivalent p call given next =
     let a = reply_to x p call given in
     let b = reply_to y p call given in
-    let shaped : shape b ≡ shape a = sym (shape-outline b) ∙ ap shape (reply-equivalent to x y equivalent p call given) ∙ shape-outline a in
+    let shaped : shape b ≡ shape a = sym (shape-outline b) ∙
+    ap shape (reply-equivalent to x y equivalent p call given) ∙ shape-outline a in
     grind (arith, nat_tests, payload-alike, payload-by, refused-alike, turn-equivalent)
   where
-    same-reply : (call : Call) (given : List ℕ) → reply_to y p call given ≡ reply_to y p call (payload_of call (reply_to y p call given) given)
+    same-reply : (call : Call) (given : List ℕ) → reply_to y p call given ≡
+        reply_to y p call (payload_of call (reply_to y p call given) given)
     same-reply (MqOpen flags attr) given = refl
     same-reply MqUnlink given = refl
     same-reply (MqSend d prio len) given = refl
@@ -45,7 +50,9 @@ next-equivalent to x y equivalent p call given next =
     same-reply (Withdraw now) given = refl
 
 -- one call after journals that agree
-pub steps-agree : {received : Bool} (to : ℕ → ℕ) (x y : Past) → AgreeUnder received to x y → (p : ℕ) (call : Call) (given : List ℕ) → may_come received call ≡ true → StepsAgree received to x y p call given
+pub steps-agree : {received : Bool} (to : ℕ → ℕ) (x y : Past) → AgreeUnder received to x y →
+    (p : ℕ) (call : Call) (given : List ℕ) → may_come received call ≡ true →
+    StepsAgree received to x y p call given
 steps-agree to x y equivalent p call given may =
     let a = reply_to x p call given in
     let b = reply_to y p call given in
@@ -54,18 +61,29 @@ steps-agree to x y equivalent p call given may =
     record {
       turn = turn-equivalent to x y equivalent p call;
       reply = same;
-      message = message-equivalent to x y equivalent p call may a b _ _ shaped (reply_says x p call given) (reply_says y p call given);
-      collected = collected-alike x y p call a b _ _ shaped (λ _. equivalent.answered p) (turn-equivalent to x y equivalent p call) (reply_says x p call given) (reply_says y p call given);
+      message = message-equivalent to x y equivalent p call may a b _ _ shaped
+          (reply_says x p call given) (reply_says y p call given);
+      collected = collected-alike x y p call a b _ _ shaped (λ _. equivalent.answered p)
+          (turn-equivalent to x y equivalent p call) (reply_says x p call given)
+          (reply_says y p call given);
       legal = next-equivalent to x y equivalent p call given;
-      next = λ next_x. goes-equivalent to x y equivalent p call given next_x (next-equivalent to x y equivalent p call given next_x) may;
+      next = λ next_x. goes-equivalent to x y equivalent p call given next_x
+          (next-equivalent to x y equivalent p call given next_x) may;
     }
 
-pub steps-equivalent : (to : ℕ → ℕ) (x y : Past) → EquivalentUnder to x y → (p : ℕ) (call : Call) (given : List ℕ) → StepsEquivalent to x y p call given
+pub steps-equivalent : (to : ℕ → ℕ) (x y : Past) → EquivalentUnder to x y →
+    (p : ℕ) (call : Call) (given : List ℕ) → StepsEquivalent to x y p call given
 steps-equivalent to x y equivalent p call given = steps-agree to x y equivalent p call given refl
 
-pub runs-equivalent : (x y : Past) → Equivalent x y → (calls : List Request) → Legal (after_calls x calls) → Equivalent (after_calls x calls) (after_calls y calls)
+pub runs-equivalent : (x y : Past) → Equivalent x y → (calls : List Request) →
+    Legal (after_calls x calls) → Equivalent (after_calls x calls) (after_calls y calls)
 runs-equivalent x y go [] legal = go
 runs-equivalent x y go (c ∷ calls) legal =
     let before = runs-equivalent x y go calls legal.0 in
-    let next = next-equivalent before.to (after_calls x calls) (after_calls y calls) before.equivalent c.process c.call c.given legal.1 in
-    record { to = extended before.to (length (after_calls x calls)) (length (after_calls y calls)); equivalent = goes-equivalent before.to (after_calls x calls) (after_calls y calls) before.equivalent c.process c.call c.given legal.1 next refl }
+    let next = next-equivalent before.to (after_calls x calls) (after_calls y calls)
+    before.equivalent c.process c.call c.given legal.1 in
+    record {
+      to = extended before.to (length (after_calls x calls)) (length (after_calls y calls));
+      equivalent = goes-equivalent before.to (after_calls x calls) (after_calls y calls)
+          before.equivalent c.process c.call c.given legal.1 next refl;
+    }

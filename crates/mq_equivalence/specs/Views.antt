@@ -61,7 +61,8 @@ abbrev pub seen : Bool → List (Option Message) → List (Option Message)
 seen true messages = messages
 seen false messages = map (λ m. None) messages
 
--- the processes that wait to send, with their messages, and those that wait to receive, the latest first
+-- the processes that wait to send, with their messages, and those that wait to receive, the latest
+-- first
 abbrev pub senders : Past → Queue → List (Option Sender)
 senders past q = map (at sender past) (waiting_sends past q)
 

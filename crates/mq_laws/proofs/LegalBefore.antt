@@ -13,8 +13,10 @@ use Rattle.mq_laws.proofs.AsBefore.{head, tail, replies-as}
 leb : (a b : ℕ) → a ≤ b → nat_le a b ≡ true
 leb a b le = grind (arith, nat_tests)
 
-number : (low high p : ℕ) → p ≤ high → IsTrue (nat_le 1 p && nat_le p low) → IsTrue (nat_le 1 p && nat_le p high)
-number low high p le h = let parts = and_parts (nat_le 1 p) (nat_le p low) h in rw (parts.0, leb p high le) refl
+number : (low high p : ℕ) → p ≤ high → IsTrue (nat_le 1 p && nat_le p low) →
+    IsTrue (nat_le 1 p && nat_le p high)
+number low high p le h = let parts = and_parts (nat_le 1 p) (nat_le p low) h in
+    rw (parts.0, leb p high le) refl
 
 few : (p : ℕ) → IsTrue (nat_le 1 p && nat_le p 32) → p ≤ 32
 few p h = leb-true p 32 (and_parts (nat_le 1 p) (nat_le p 32) h).1
@@ -30,7 +32,8 @@ to (r ∷ past) legal all = (
     process = number 2048 32 r.entry.process (head r past all) legal.1.process;
     turn = legal.1.turn;
     payload = legal.1.payload;
-    reply = legal.1.reply ∙ replies-as past (tail r past all) r.entry.process r.entry.call r.payload (head r past all);
+    reply = legal.1.reply ∙ replies-as past (tail r past all) r.entry.process r.entry.call r.payload
+        (head r past all);
   },
 )
 
@@ -45,7 +48,8 @@ back (r ∷ past) legal =
           process = number 32 2048 r.entry.process (wide r.entry.process le) legal.1.process;
           turn = legal.1.turn;
           payload = legal.1.payload;
-          reply = legal.1.reply ∙ sym (replies-as past older.1 r.entry.process r.entry.call r.payload le);
+          reply = legal.1.reply ∙
+              sym (replies-as past older.1 r.entry.process r.entry.call r.payload le);
         },
       ),
       All-cons (λ (r : Record). r.entry.process ≤ 32) r past le older.1,

@@ -21,21 +21,28 @@ abbrev pub IsEnough : Past → (ℕ → Type 0) → Type 0
 IsEnough past Keeps = (k : ℕ) → IsNeeded past k → Keeps k
 
 -- an entry that has not ended had not ended before the latest entry either
-pub not-before : (past : Past) (k : ℕ) → is_in (ended past) k ≡ false → is_in (ended_before past) k ≡ false
+pub not-before : (past : Past) (k : ℕ) → is_in (ended past) k ≡ false →
+    is_in (ended_before past) k ≡ false
 not-before past k e = grind arith
 
-not-last : (past : Past) (k : ℕ) → is_in (ended past) k ≡ false → is_place k (ended_last past) ≡ false
+not-last : (past : Past) (k : ℕ) → is_in (ended past) k ≡ false → is_place k (ended_last past) ≡
+    false
 not-last past k e = grind arith
 
-pub alive-created : (past : Past) (q : ℕ) → is_in (alive past) q ≡ true → is_in (created past) q ≡ true
-alive-created past q h = (is_in-filter (λ x. is_named past x || is_held past x) (created past) q h).0
+pub alive-created : (past : Past) (q : ℕ) → is_in (alive past) q ≡ true → is_in (created past) q ≡
+    true
+alive-created past q h = (is_in-filter (λ x. is_named past x || is_held past x)
+    (created past) q h).0
 
-created-older : (past : Past) (r : Record) (q : ℕ) → q < length past → is_in (created (r ∷ past)) q ≡ true → is_in (created past) q ≡ true
+created-older : (past : Past) (r : Record) (q : ℕ) → q < length past →
+    is_in (created (r ∷ past)) q ≡ true → is_in (created past) q ≡ true
 created-older past r q lt h = grind (arith, eqb-true)
 
 -- a queue that exists after an entry existed before it, or is the one that it created
-pub alive-older : (past : Past) (r : Record) → Legal (r ∷ past) → (q : ℕ) → q < length past → is_in (alive (r ∷ past)) q ≡ true → is_in (alive past) q ≡ true
-alive-older past r legal q lt now = split (is_in (alive past) q) (λ t. t) (λ f. absurd (clash (is_in (alive (r ∷ past)) q) now (gone f)))
+pub alive-older : (past : Past) (r : Record) → Legal (r ∷ past) → (q : ℕ) → q < length past →
+    is_in (alive (r ∷ past)) q ≡ true → is_in (alive past) q ≡ true
+alive-older past r legal q lt now = split (is_in (alive past) q) (λ t. t)
+    (λ f. absurd (clash (is_in (alive (r ∷ past)) q) now (gone f)))
   where
     before : first (length past) (r ∷ past) ≡ past
     before = first-older past r (length past) (omega arith) ∙ first-all past (length past) refl
@@ -47,10 +54,14 @@ alive-older past r legal q lt now = split (is_in (alive past) q) (λ t. t) (λ f
           created = rw before (created-older past r q lt (alive-created (r ∷ past) q now));
           gone = rw before f;
         } in
-        ap (λ b. is_in (alive b) q) (sym (first-all (r ∷ past) (length (r ∷ past)) refl)) ∙ never-again (r ∷ past) legal (length past) (length (r ∷ past)) q at (omega arith) (omega arith)
+        ap (λ b. is_in (alive b) q) (sym (first-all (r ∷ past) (length (r ∷ past)) refl)) ∙
+        never-again (r ∷ past) legal (length past) (length (r ∷ past)) q at
+        (omega arith) (omega arith)
 
-pub called-below : (past : Past) → Legal past → (p : ℕ) (call : Call) (q : ℕ) → called_queue past p call ≡ Some q → q < length past
-called-below past legal p call q e = created-below past q (alive-created past q (called-alive past legal p call q e))
+pub called-below : (past : Past) → Legal past → (p : ℕ) (call : Call) (q : ℕ) →
+    called_queue past p call ≡ Some q → q < length past
+called-below past legal p call q e = created-below past q
+    (alive-created past q (called-alive past legal p call q e))
 
 home-below : (past : Past) → Legal past → (k q : ℕ) → home past k ≡ Some q → q < length past
 home-below [] legal k q e = absurd (cc)
@@ -60,8 +71,10 @@ home-below (r ∷ past) legal k q e = split (k == length past)
   where
     by : (reply : Reply) → home_of past r reply ≡ Some q → q < length (r ∷ past)
     by (Opened d new) e = let same : length past ≡ q = cc in omega (arith, same)
-    by (Queued n) e = let lt = called-below past legal.0 r.entry.process r.entry.call q e in omega (arith, lt)
-    by Waits e = let lt = called-below past legal.0 r.entry.process r.entry.call q e in omega (arith, lt)
+    by (Queued n) e = let lt = called-below past legal.0 r.entry.process r.entry.call q e in
+        omega (arith, lt)
+    by Waits e = let lt = called-below past legal.0 r.entry.process r.entry.call q e in
+        omega (arith, lt)
     by reply e = absurd (cc)
 
 -- one more entry: a store that drops what the latest entry ended, and keeps the new entry if it is
@@ -70,9 +83,12 @@ pub enough-push : (past : Past) (r : Record) (Keeps Keeps' : ℕ → Type 0) →
     (is_kept r.entry.call r.entry.reply ≡ true → Keeps' (length past)) →
     ((k : ℕ) → is_place k (ended_last past) ≡ false → Keeps k → Keeps' k) →
     IsEnough past Keeps → IsEnough (r ∷ past) Keeps'
-enough-push past r Keeps Keeps' legal new old enough k needed = grind (arith, eqb-true, not-last, not-before, alive-older, home-below)
+enough-push past r Keeps Keeps' legal new old enough k needed =
+    grind (arith, eqb-true, not-last, not-before, alive-older, home-below)
 
 -- what is lost with a queue that no longer exists may be dropped
-pub enough-forget : (past : Past) (q : ℕ) (Keeps Keeps' : ℕ → Type 0) → is_in (alive past) q ≡ false →
-    ((k : ℕ) → home past k ≢ Some q → Keeps k → Keeps' k) → IsEnough past Keeps → IsEnough past Keeps'
+pub enough-forget : (past : Past) (q : ℕ) (Keeps Keeps' : ℕ → Type 0) → is_in (alive past) q ≡
+    false →
+    ((k : ℕ) → home past k ≢ Some q → Keeps k → Keeps' k) → IsEnough past Keeps →
+    IsEnough past Keeps'
 enough-forget past q Keeps Keeps' gone others enough k needed = grind (arith, clash)

@@ -20,8 +20,10 @@ second n = record { sec = pos n; nsec = pos 0 }
 abbrev send_waits : Past
 send_waits =
     made 2 (MqTimedSend 0 7 1 (second 10) (second 9)) Waits (codes "b") ∷
-    made 1 (MqTimedSend 0 1 1 (record { sec = negsuc 0; nsec = negsuc 0 }) (second 9)) (Queued None) (codes "a") ∷
-    made 1 (MqTimedReceive 0 8 (record { sec = pos 5; nsec = pos 1000000000 }) (second 0)) (Refused Invalid) [] ∷
+    made 1 (MqTimedSend 0 1 1 (record { sec = negsuc 0; nsec = negsuc 0 }) (second 9))
+    (Queued None) (codes "a") ∷
+    made 1 (MqTimedReceive 0 8 (record { sec = pos 5; nsec = pos 1000000000 }) (second 0))
+    (Refused Invalid) [] ∷
     made 1 (MqTimedReceive 0 8 (second 5) (second 5)) (Refused TimedOut) [] ∷
     made 2 (opening Both false false false) (Opened 0 false) (codes "/q") ∷
     made 1 (opening_with Both true false false (pos 1) (pos 8)) (Opened 0 true) (codes "/q") ∷
@@ -33,7 +35,12 @@ deadlines_pass =
     made 1 Collect (Collected 10) [] ∷
     made 2 (MqSend 0 0 1) (Handed 9) (codes "c") ∷
     made 1 (MqTimedReceive 0 8 (second 20) (second 10)) Waits [] ∷
-    made 2 (MqGetattr 0) (Attrs (record { nonblock = false; maxmsg = pos 1; msgsize = pos 8; curmsgs = pos 0 })) [] ∷
+    made 2 (MqGetattr 0) (Attrs (record {
+      nonblock = false;
+      maxmsg = pos 1;
+      msgsize = pos 8;
+      curmsgs = pos 0;
+    })) [] ∷
     made 1 (MqReceive 0 8) (Got 4 None None) [] ∷
     made 2 (Withdraw (second 10)) (Withdrawn 5) [] ∷
     send_waits
@@ -43,12 +50,14 @@ unfolding descriptor_numbers owner_of
 deadlines_pass-legal = legal-by-replies deadlines_pass refl refl
 
 -- a withdrawal before the deadline
-pub early_withdrawal-refused : IsLegalNext send_waits (made 2 (Withdraw (second 9)) (Withdrawn 5) []) → ⊥
+pub early_withdrawal-refused : IsLegalNext send_waits (made 2 (Withdraw (second 9))
+    (Withdrawn 5) []) → ⊥
 unfolding descriptor_numbers owner_of
 early_withdrawal-refused h = let wrong = h.turn in cc
 
 -- a withdrawal by a process that does not wait
-pub idle_withdrawal-refused : IsLegalNext send_waits (made 1 (Withdraw (second 10)) (Withdrawn 5) []) → ⊥
+pub idle_withdrawal-refused : IsLegalNext send_waits (made 1 (Withdraw (second 10))
+    (Withdrawn 5) []) → ⊥
 unfolding descriptor_numbers owner_of
 idle_withdrawal-refused h = let wrong = h.turn in cc
 
@@ -58,7 +67,8 @@ send_admitted =
     made 1 (MqReceive 0 8) (Got 4 (Some 5) None) [] ∷
     send_waits
 
-pub answered_withdrawal-refused : IsLegalNext send_admitted (made 2 (Withdraw (second 10)) (Withdrawn 5) []) → ⊥
+pub answered_withdrawal-refused : IsLegalNext send_admitted (made 2 (Withdraw (second 10))
+    (Withdrawn 5) []) → ⊥
 unfolding descriptor_numbers owner_of
 answered_withdrawal-refused h = let wrong = h.turn in cc
 

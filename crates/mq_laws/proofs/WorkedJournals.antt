@@ -15,19 +15,34 @@ use Rattle.mq_model.specs.declared.entries.Reply.{Reply}
 use Rattle.mq_model.specs.declared.entries.Reply.TheVariants.{Opened, Queued, Got, Attrs, Notice, Done, Refused}
 
 abbrev pub made : ℕ → Call → Reply → List ℕ → Record
-made p call reply payload = record { entry = record { process = p; call = call; reply = reply }; payload = payload }
+made p call reply payload = record {
+  entry = record { process = p; call = call; reply = reply };
+  payload = payload;
+}
 
 -- an open with these flags: access, create, excl, nonblock
 abbrev pub opening : Access → Bool → Bool → Bool → Call
-opening access create excl nonblock = MqOpen (record { access = access; create = create; excl = excl; nonblock = nonblock }) None
+opening access create excl nonblock = MqOpen (record {
+  access = access;
+  create = create;
+  excl = excl;
+  nonblock = nonblock;
+}) None
 
 -- the same with maxmsg and msgsize
 abbrev pub opening_with : Access → Bool → Bool → Bool → ℤ → ℤ → Call
-opening_with access create excl nonblock maxmsg msgsize = MqOpen (record { access = access; create = create; excl = excl; nonblock = nonblock }) (Some (record { maxmsg = maxmsg; msgsize = msgsize }))
+opening_with access create excl nonblock maxmsg msgsize =
+    MqOpen (record { access = access; create = create; excl = excl; nonblock = nonblock })
+    (Some (record { maxmsg = maxmsg; msgsize = msgsize }))
 
 -- attributes: nonblock, maxmsg, msgsize, messages present
 abbrev pub status : Bool → ℕ → ℕ → ℕ → Status
-status nonblock maxmsg msgsize curmsgs = record { nonblock = nonblock; maxmsg = pos maxmsg; msgsize = pos msgsize; curmsgs = pos curmsgs }
+status nonblock maxmsg msgsize curmsgs = record {
+  nonblock = nonblock;
+  maxmsg = pos maxmsg;
+  msgsize = pos msgsize;
+  curmsgs = pos curmsgs;
+}
 
 -- Legality by two computations: each record but for its reply, and the list of all replies.
 abbrev pub are_made : Past → Bool
@@ -46,16 +61,27 @@ abbrev pub due_replies : Past → List Reply
 due_replies [] = []
 due_replies (r ∷ past) = reply_to past r.entry.process r.entry.call r.payload ∷ due_replies past
 
-all-of-five : (a b c d e : Bool) → (a && b && c && d && e) ≡ true → (a ≡ true) × ((b && c) ≡ true) × (d ≡ true) × (e ≡ true)
+all-of-five : (a b c d e : Bool) → (a && b && c && d && e) ≡ true → (a ≡ true) × ((b && c) ≡ true) ×
+    (d ≡ true) × (e ≡ true)
 all-of-five a b c d e h = grind arith
 
-pub legal-by-replies : (past : Past) → are_made past ≡ true → replies past ≡ due_replies past → Legal past
+pub legal-by-replies : (past : Past) → are_made past ≡ true → replies past ≡ due_replies past →
+    Legal past
 legal-by-replies [] made due = tt
 legal-by-replies (r ∷ past) made due =
-    let all = all-of-five (are_made past) (nat_le 1 r.entry.process) (nat_le r.entry.process most_callers) (may_call past r.entry.process r.entry.call) (is_payload r.entry.call r.entry.reply r.payload) made in
+    let all = all-of-five (are_made past) (nat_le 1 r.entry.process)
+    (nat_le r.entry.process most_callers) (may_call past r.entry.process r.entry.call)
+    (is_payload r.entry.call r.entry.reply r.payload) made in
     let reply : r.entry.reply ≡ reply_to past r.entry.process r.entry.call r.payload = cc in
-    let before : replies past ≡ due_replies past = cc in
-    (legal-by-replies past all.0 before, record { process = all.1; turn = all.2; payload = all.3; reply = reply })
+    let before : replies past ≡ due_replies past = cc in (
+      legal-by-replies past all.0 before,
+      record {
+        process = all.1;
+        turn = all.2;
+        payload = all.3;
+        reply = reply;
+      },
+    )
 
 -- two messages of one priority leave in the order in which they were sent
 abbrev two_of_one_priority : Past
@@ -164,7 +190,8 @@ unlinked_queue-legal = legal-by-replies unlinked_queue refl refl
 abbrev attributes_given : Past
 attributes_given =
     made 1 (MqGetattr 3) (Attrs (status false 4096 65536 0)) [] ∷
-    made 1 (opening_with Both true false false (pos 4096) (pos 65536)) (Opened 3 true) (codes "/r") ∷
+    made 1 (opening_with Both true false false (pos 4096) (pos 65536))
+    (Opened 3 true) (codes "/r") ∷
     made 1 (opening Both false true false) (Opened 2 false) (codes "/q") ∷
     made 1 (opening Both false true false) (Refused NoEntry) (codes "/r") ∷
     made 1 (opening_with Both true false false (pos 1) (pos 65537)) (Refused Invalid) (codes "/r") ∷

@@ -18,7 +18,8 @@ exchanged_receives =
     made 1 (opening_with Both true false false (pos 2) (pos 8)) (Opened 0 true) (codes "/q") ∷
     []
 
-pub exchanged_receives-refused : IsLegalNext exchanged_receives (made 1 (MqReceive 0 8) (Got 2 None None) []) → ⊥
+pub exchanged_receives-refused : IsLegalNext exchanged_receives
+    (made 1 (MqReceive 0 8) (Got 2 None None) []) → ⊥
 unfolding descriptor_numbers owner_of
 exchanged_receives-refused h = let wrong = h.reply in cc
 
@@ -27,7 +28,8 @@ abbrev no_process_0 : Past
 no_process_0 =
     []
 
-pub no_process_0-refused : IsLegalNext no_process_0 (made 0 (opening_with Both true false false (pos 2) (pos 8)) (Opened 0 true) (codes "/q")) → ⊥
+pub no_process_0-refused : IsLegalNext no_process_0
+    (made 0 (opening_with Both true false false (pos 2) (pos 8)) (Opened 0 true) (codes "/q")) → ⊥
 unfolding descriptor_numbers owner_of
 no_process_0-refused h = let wrong = h.process in cc
 
@@ -36,7 +38,8 @@ abbrev malformed_name : Past
 malformed_name =
     []
 
-pub malformed_name-refused : IsLegalNext malformed_name (made 1 (opening_with Both true false false (pos 2) (pos 8)) (Opened 0 true) (codes "/a/b")) → ⊥
+pub malformed_name-refused : IsLegalNext malformed_name
+    (made 1 (opening_with Both true false false (pos 2) (pos 8)) (Opened 0 true) (codes "/a/b")) → ⊥
 unfolding descriptor_numbers owner_of
 malformed_name-refused h = let wrong = h.payload in cc
 
@@ -46,12 +49,14 @@ want_of_memory =
     made 1 (opening_with Both true false false (pos 2) (pos 8)) (Opened 0 true) (codes "/q") ∷
     []
 
-pub want_of_memory-refused : IsLegalNext want_of_memory (made 1 (MqSend 0 1 1) (Refused NoMemory) []) → ⊥
+pub want_of_memory-refused : IsLegalNext want_of_memory
+    (made 1 (MqSend 0 1 1) (Refused NoMemory) []) → ⊥
 unfolding descriptor_numbers owner_of
 want_of_memory-refused h = let wrong = h.reply in cc
 
 -- JournalFull has no entry
-pub full_journal-refused : IsLegalNext want_of_memory (made 1 (MqSend 0 1 1) (Refused JournalFull) []) → ⊥
+pub full_journal-refused : IsLegalNext want_of_memory
+    (made 1 (MqSend 0 1 1) (Refused JournalFull) []) → ⊥
 unfolding descriptor_numbers owner_of
 full_journal-refused h = let wrong = h.reply in cc
 
@@ -94,7 +99,8 @@ collect_of_another =
     made 1 (opening_with Both true false false (pos 2) (pos 8)) (Opened 0 true) (codes "/q") ∷
     []
 
-pub collect_of_another-refused : IsLegalNext collect_of_another (made 1 Collect (Collected 7) []) → ⊥
+pub collect_of_another-refused : IsLegalNext collect_of_another (made 1 Collect (Collected 7) []) →
+    ⊥
 unfolding descriptor_numbers owner_of
 collect_of_another-refused h = let wrong = h.reply in cc
 
@@ -108,7 +114,8 @@ send_while_waiting =
     made 1 (opening_with Both true false false (pos 2) (pos 8)) (Opened 0 true) (codes "/q") ∷
     []
 
-pub send_while_waiting-refused : IsLegalNext send_while_waiting (made 1 (MqSend 0 0 1) (Queued None) (codes "a")) → ⊥
+pub send_while_waiting-refused : IsLegalNext send_while_waiting (made 1 (MqSend 0 0 1) (Queued None)
+    (codes "a")) → ⊥
 unfolding descriptor_numbers owner_of
 send_while_waiting-refused h = let wrong = h.turn in cc
 
@@ -117,7 +124,8 @@ abbrev malformed_unlink : Past
 malformed_unlink =
     []
 
-pub malformed_unlink-refused : IsLegalNext malformed_unlink (made 1 MqUnlink (Refused NoEntry) (codes "/a/b")) → ⊥
+pub malformed_unlink-refused : IsLegalNext malformed_unlink (made 1 MqUnlink (Refused NoEntry)
+    (codes "/a/b")) → ⊥
 unfolding descriptor_numbers owner_of
 malformed_unlink-refused h = let wrong = h.payload in cc
 
@@ -126,7 +134,8 @@ abbrev name_too_long : Past
 name_too_long =
     []
 
-pub name_too_long-refused : IsLegalNext name_too_long (made 1 (opening Both true false false) (Opened 0 true) (47 ∷ replicate 256 97)) → ⊥
+pub name_too_long-refused : IsLegalNext name_too_long (made 1 (opening Both true false false)
+    (Opened 0 true) (47 ∷ replicate 256 97)) → ⊥
 unfolding descriptor_numbers owner_of
 name_too_long-refused h = let wrong = h.payload in cc
 
@@ -135,7 +144,8 @@ abbrev caller_2049 : Past
 caller_2049 =
     []
 
-pub caller_2049-refused : IsLegalNext caller_2049 (made 2049 (opening Both true false false) (Opened 0 true) (codes "/q")) → ⊥
+pub caller_2049-refused : IsLegalNext caller_2049 (made 2049 (opening Both true false false)
+    (Opened 0 true) (codes "/q")) → ⊥
 unfolding descriptor_numbers owner_of
 caller_2049-refused h = let wrong = h.process in cc
 
@@ -144,7 +154,8 @@ abbrev highest_number : Past
 highest_number =
     []
 
-pub highest_number-refused : IsLegalNext highest_number (made 1 (opening Both true false false) (Opened 15 true) (codes "/q")) → ⊥
+pub highest_number-refused : IsLegalNext highest_number (made 1 (opening Both true false false)
+    (Opened 15 true) (codes "/q")) → ⊥
 unfolding descriptor_numbers owner_of
 highest_number-refused h = let wrong = h.reply in cc
 
@@ -156,7 +167,8 @@ queued_past_receive =
     made 1 (opening_with Both true false false (pos 2) (pos 8)) (Opened 0 true) (codes "/q") ∷
     []
 
-pub queued_past_receive-refused : IsLegalNext queued_past_receive (made 2 (MqSend 0 0 1) (Queued None) (codes "a")) → ⊥
+pub queued_past_receive-refused : IsLegalNext queued_past_receive
+    (made 2 (MqSend 0 0 1) (Queued None) (codes "a")) → ⊥
 unfolding descriptor_numbers owner_of
 queued_past_receive-refused h = let wrong = h.reply in cc
 
@@ -168,7 +180,8 @@ notified_while_occupied =
     made 1 (opening Both true false false) (Opened 0 true) (codes "/q") ∷
     []
 
-pub notified_while_occupied-refused : IsLegalNext notified_while_occupied (made 1 (MqSend 0 0 1) (Queued (Some 2)) (codes "b")) → ⊥
+pub notified_while_occupied-refused : IsLegalNext notified_while_occupied
+    (made 1 (MqSend 0 0 1) (Queued (Some 2)) (codes "b")) → ⊥
 unfolding descriptor_numbers owner_of
 notified_while_occupied-refused h = let wrong = h.reply in cc
 
@@ -181,6 +194,7 @@ closed_registration =
     made 1 (opening Both true false false) (Opened 0 true) (codes "/q") ∷
     []
 
-pub closed_registration-refused : IsLegalNext closed_registration (made 1 (MqSend 1 0 1) (Queued (Some 2)) (codes "a")) → ⊥
+pub closed_registration-refused : IsLegalNext closed_registration
+    (made 1 (MqSend 1 0 1) (Queued (Some 2)) (codes "a")) → ⊥
 unfolding descriptor_numbers owner_of
 closed_registration-refused h = let wrong = h.reply in cc

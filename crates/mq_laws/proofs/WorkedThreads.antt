@@ -60,12 +60,14 @@ unfolding descriptor_numbers owner_of
 threads_share_descriptors-legal = legal-by-replies threads_share_descriptors refl refl
 
 -- a thread that waits makes no other call
-pub call_of_waiting_thread-refused : IsLegalNext two_threads_wait (made 33 NextNotice (Notice None) []) → ⊥
+pub call_of_waiting_thread-refused : IsLegalNext two_threads_wait
+    (made 33 NextNotice (Notice None) []) → ⊥
 unfolding descriptor_numbers owner_of
 call_of_waiting_thread-refused h = let wrong = h.turn in cc
 
 -- a message goes to the oldest wait, though a first thread has a newer one
-pub newer_wait-refused : IsLegalNext two_threads_wait (made 2 (MqSend 0 0 1) (Handed 3) (codes "a")) → ⊥
+pub newer_wait-refused : IsLegalNext two_threads_wait (made 2 (MqSend 0 0 1) (Handed 3)
+    (codes "a")) → ⊥
 unfolding descriptor_numbers owner_of
 newer_wait-refused h = let wrong = h.reply in cc
 
@@ -75,7 +77,8 @@ one_answered =
     made 2 (MqSend 0 0 1) (Handed 2) (codes "a") ∷
     two_threads_wait
 
-pub collect_for_another_thread-refused : IsLegalNext one_answered (made 1 Collect (Collected 5) []) → ⊥
+pub collect_for_another_thread-refused : IsLegalNext one_answered
+    (made 1 Collect (Collected 5) []) → ⊥
 unfolding descriptor_numbers owner_of
 collect_for_another_thread-refused h = let wrong = h.turn in cc
 

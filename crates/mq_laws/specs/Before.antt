@@ -34,7 +34,8 @@ use Rattle.mq_model.specs.declared.entries.Reply.TheVariants.{Collected, Withdra
 -- with the flag of the latest setattr after it; none if d was closed since.
 abbrev pub held : Past → Process → Descriptor → Option Description
 held [] p d = None
-held (r ∷ past) p d = if r.entry.process == p then held_after past r.entry.call r.payload r.entry.reply d (held past p d) else held past p d
+held (r ∷ past) p d = if r.entry.process == p then held_after past r.entry.call r.payload
+    r.entry.reply d (held past p d) else held past p d
 
 -- the lowest descriptor that process p does not hold
 abbrev pub lowest_free : Past → Process → Option Descriptor
@@ -46,7 +47,8 @@ lowest_held past p = find (λ d. is_some (held past p d)) descriptor_numbers
 
 -- the queue that a call is made on, through the descriptor that it names
 abbrev pub called_queue : Past → Process → Call → Option Queue
-called_queue past p call = option_map (λ h. h.queue) (option_and_then (held past p) (descriptor_of call))
+called_queue past p call = option_map (λ h. h.queue) (option_and_then (held past p)
+    (descriptor_of call))
 
 -- the entry's call is made on queue q
 abbrev pub is_on : Past → Entry → Queue → Bool
@@ -54,7 +56,8 @@ is_on past e q = is_place q (called_queue past e.process e.call)
 
 -- some process holds a descriptor of the queue
 abbrev pub is_held : Past → Queue → Bool
-is_held past q = list_any (λ x. is_place q (option_map (λ h. h.queue) (held past x.process x.d))) (openers past)
+is_held past q = list_any (λ x. is_place q (option_map (λ h. h.queue) (held past x.process x.d)))
+    (openers past)
 
 -- the queues that exist: those that are still bound to their names or are held by some process
 abbrev pub alive : Past → List Queue
@@ -63,18 +66,21 @@ alive past = filter (λ q. is_named past q || is_held past q) (created past)
 -- the sends to a queue that began to wait, and the receives, the latest first
 abbrev pub blocked_sends : Past → Queue → List Place
 blocked_sends [] q = []
-blocked_sends (r ∷ past) q = if blocks_send r.entry.call r.entry.reply && is_on past r.entry q then length past ∷ blocked_sends past q else blocked_sends past q
+blocked_sends (r ∷ past) q = if blocks_send r.entry.call r.entry.reply && is_on past r.entry q then
+    length past ∷ blocked_sends past q else blocked_sends past q
 
 abbrev pub blocked_receives : Past → Queue → List Place
 blocked_receives [] q = []
-blocked_receives (r ∷ past) q = if blocks_receive r.entry.call r.entry.reply && is_on past r.entry q then length past ∷ blocked_receives past q else blocked_receives past q
+blocked_receives (r ∷ past) q = if blocks_receive r.entry.call r.entry.reply && is_on past r.entry q
+    then length past ∷ blocked_receives past q else blocked_receives past q
 
 -- the sends that wait for room in the queue, and the receives that wait for a message
 abbrev pub waiting_sends : Past → Queue → List Place
 waiting_sends past q = filter (λ w. not (is_in (ended_sends past) w)) (blocked_sends past q)
 
 abbrev pub waiting_receives : Past → Queue → List Place
-waiting_receives past q = filter (λ w. not (is_in (ended_receives past) w)) (blocked_receives past q)
+waiting_receives past q = filter (λ w. not (is_in (ended_receives past) w))
+    (blocked_receives past q)
 
 -- the message that enters queue q by an entry: that of a send queued at once, or of a waiting send
 -- that a receive admits
@@ -92,7 +98,8 @@ admitted (r ∷ past) q = with_place (entered past r.entry q) (admitted past q)
 -- the messages that were handed to a receive that waited on the queue
 abbrev pub handed : Past → Queue → List Message
 handed [] q = []
-handed (r ∷ past) q = if hands_over r.entry.call r.entry.reply && is_on past r.entry q then length past ∷ handed past q else handed past q
+handed (r ∷ past) q = if hands_over r.entry.call r.entry.reply && is_on past r.entry q then length
+    past ∷ handed past q else handed past q
 
 -- the message was accepted: it entered the queue, or was handed over
 abbrev pub is_accepted : Past → Queue → Message → Bool
@@ -121,12 +128,14 @@ ends on e n =
 -- `on` says whether the entry's call is made on the queue. It is the one that the entry makes
 -- there, else the one before unless the entry ended it.
 abbrev pub registration_after : Bool → Place → Entry → Option Registration → Option Registration
-registration_after on here e before = or_else (only_if on (registration_of here e.process e.call e.reply)) (unless (ends on e) before)
+registration_after on here e before =
+    or_else (only_if on (registration_of here e.process e.call e.reply)) (unless (ends on e) before)
 
 -- the registration on a queue: the latest one made there, unless a later entry ended it
 abbrev pub registered : Past → Queue → Option Registration
 registered [] q = None
-registered (r ∷ past) q = registration_after (is_on past r.entry q) (length past) r.entry (registered past q)
+registered (r ∷ past) q = registration_after (is_on past r.entry q) (length past) r.entry
+    (registered past q)
 
 -- the place of the registration on a queue
 abbrev pub registered_place : Past → Queue → Option Place
@@ -144,12 +153,14 @@ value_notified past p (Some k) = value_given p (record_at past k)
 -- the values of the registrations of process p that were notified, in the order of those replies
 abbrev pub values_notified : Past → Process → List ℕ
 values_notified [] p = []
-values_notified (r ∷ past) p = values_notified past p ++ option_to_list (value_notified past p (notified r.entry.reply))
+values_notified (r ∷ past) p = values_notified past p ++ option_to_list
+    (value_notified past p (notified r.entry.reply))
 
 -- how many notices process p has taken
 abbrev pub notices_given : Past → Process → ℕ
 notices_given [] p = 0
-notices_given (r ∷ past) p = if gives_notice r.entry.reply && r.entry.process == p then notices_given past p + 1 else notices_given past p
+notices_given (r ∷ past) p = if gives_notice r.entry.reply && r.entry.process == p then
+    notices_given past p + 1 else notices_given past p
 
 -- the notices that process p has not yet taken, the oldest first
 abbrev pub notices : Past → Process → List ℕ
@@ -167,7 +178,11 @@ notify_reply p (Some v) (Some facts) = if is_some facts.registered then Refused 
 notify_reply p None (Some facts) = if is_of p facts.registered then Done else Refused Invalid
 
 abbrev pub open_facts : Past → Process → List ℕ → OpenFacts
-open_facts past p name = record { bound = is_some (bound_queue past name); free = lowest_free past p; queues = length (alive past) }
+open_facts past p name = record {
+  bound = is_some (bound_queue past name);
+  free = lowest_free past p;
+  queues = length (alive past);
+}
 
 -- a send depends on the receive that has waited longest, and a receive on the send
 abbrev pub send_facts : Past → Description → SendFacts
@@ -190,7 +205,11 @@ receive_facts past h = record {
 }
 
 abbrev pub status_facts : Past → Description → StatusFacts
-status_facts past h = record { description = h; attributes = attributes past h.queue; count = length (present past h.queue) }
+status_facts past h = record {
+  description = h;
+  attributes = attributes past h.queue;
+  count = length (present past h.queue);
+}
 
 abbrev pub notify_facts : Past → Description → NotifyFacts
 notify_facts past h = record { registered = registered past h.queue }
@@ -224,8 +243,10 @@ reply_to past p (MqClose d) name = close_reply (held past p d)
 reply_to past p MqUnlink name = unlink_reply (bound_queue past name)
 reply_to past p (MqSend d prio len) name = reply_to_send past (held past p d) prio len
 reply_to past p (MqReceive d room) name = reply_to_receive past (held past p d) room
-reply_to past p (MqTimedSend d prio len until now) name = timed_reply until now (reply_to_send past (held past p d) prio len)
-reply_to past p (MqTimedReceive d room until now) name = timed_reply until now (reply_to_receive past (held past p d) room)
+reply_to past p (MqTimedSend d prio len until now) name = timed_reply until now
+    (reply_to_send past (held past p d) prio len)
+reply_to past p (MqTimedReceive d room until now) name = timed_reply until now
+    (reply_to_receive past (held past p d) room)
 reply_to past p (MqGetattr d) name = reply_to_attributes past (held past p d)
 reply_to past p (MqSetattr d nonblock) name = reply_to_attributes past (held past p d)
 reply_to past p (MqNotify d value) name = reply_to_notify past p (held past p d) value

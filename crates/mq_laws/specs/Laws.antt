@@ -69,7 +69,8 @@ pub record IsReceivedAt (past : Past) (k q m : ℕ) : Type 0 where
 
 -- the message that a receive got was the best one of its queue before it
 abbrev pub GivesBest : Past → Type 0
-GivesBest past = (k m : ℕ) → Has message_given past k m → (q : ℕ) × IsReceivedAt past k q m × (best (first k past) q ≡ Some m)
+GivesBest past = (k m : ℕ) → Has message_given past k m → (q : ℕ) × IsReceivedAt past k q m ×
+    (best (first k past) q ≡ Some m)
 
 -- the entry at place k takes message m: it returns it to its caller, or hands it over
 abbrev pub IsTakenAt : Past → ℕ → ℕ → Type 0
@@ -78,9 +79,12 @@ IsTakenAt past m k = option_and_then (taken_by k) (reply_at past k) ≡ Some m
 -- Of two accepted messages of the same queue and priority, the earlier one is taken first. So what
 -- one process sends with one priority leaves the queue in the order in which it was sent.
 abbrev pub LeavesInOrder : Past → Type 0
-LeavesInOrder past = (q m n k : ℕ) → is_accepted past q m ≡ true → is_accepted past q n ≡ true → m < n → priority past m ≡ priority past n → IsTakenAt past n k → (j : ℕ) × (j < k) × IsTakenAt past m j
+LeavesInOrder past = (q m n k : ℕ) → is_accepted past q m ≡ true → is_accepted past q n ≡ true →
+    m < n → priority past m ≡ priority past n → IsTakenAt past n k →
+    (j : ℕ) × (j < k) × IsTakenAt past m j
 
--- the process of caller p held descriptor d before place k, with a description that passes this test
+-- the process of caller p held descriptor d before place k, with a description that passes this
+-- test
 pub record IsHeldAt (past : Past) (k p d : ℕ) (passes : Description → Bool) : Type 0 where
   pub h : Description
   pub held : held (first k past) p d ≡ Some h
@@ -94,10 +98,20 @@ is_lone past p = list_all (λ r. not (shares r.entry.process p) || r.entry.proce
 -- descriptor with the access mode that the call needs. When a wait of a process with one thread is
 -- collected or withdrawn, the process holds what it held when the wait began.
 pub record HoldsDescriptors (past : Past) : Type 0 where
-  pub sends : (k d : ℕ) (r : Record) → record_at past k ≡ Some r → is_send r.entry.call ≡ true → descriptor_of r.entry.call ≡ Some d → is_refused r.entry.reply ≡ false → IsHeldAt past k r.entry.process d (λ h. not (is_read_only h.access))
-  pub receives : (k d : ℕ) (r : Record) → record_at past k ≡ Some r → is_receive r.entry.call ≡ true → descriptor_of r.entry.call ≡ Some d → is_refused r.entry.reply ≡ false → IsHeldAt past k r.entry.process d (λ h. not (is_write_only h.access))
-  pub collects : (k : ℕ) (r : Record) → record_at past k ≡ Some r → r.entry.call ≡ Collect → (w : ℕ) × (open_wait (first k past) r.entry.process ≡ Some w) × (is_lone (first k past) r.entry.process ≡ true → (d : ℕ) → held (first k past) r.entry.process d ≡ held (first w past) r.entry.process d)
-  pub withdrawals : (k : ℕ) (now : Deadline) (r : Record) → record_at past k ≡ Some r → r.entry.call ≡ Withdraw now → (w : ℕ) × (open_wait (first k past) r.entry.process ≡ Some w) × (is_lone (first k past) r.entry.process ≡ true → (d : ℕ) → held (first k past) r.entry.process d ≡ held (first w past) r.entry.process d)
+  pub sends : (k d : ℕ) (r : Record) → record_at past k ≡ Some r → is_send r.entry.call ≡ true →
+      descriptor_of r.entry.call ≡ Some d → is_refused r.entry.reply ≡ false →
+      IsHeldAt past k r.entry.process d (λ h. not (is_read_only h.access))
+  pub receives : (k d : ℕ) (r : Record) → record_at past k ≡ Some r → is_receive r.entry.call ≡
+      true → descriptor_of r.entry.call ≡ Some d → is_refused r.entry.reply ≡ false →
+      IsHeldAt past k r.entry.process d (λ h. not (is_write_only h.access))
+  pub collects : (k : ℕ) (r : Record) → record_at past k ≡ Some r → r.entry.call ≡ Collect →
+      (w : ℕ) × (open_wait (first k past) r.entry.process ≡ Some w) ×
+      (is_lone (first k past) r.entry.process ≡ true → (d : ℕ) → held (first k past) r.entry.process
+      d ≡ held (first w past) r.entry.process d)
+  pub withdrawals : (k : ℕ) (now : Deadline) (r : Record) → record_at past k ≡ Some r →
+      r.entry.call ≡ Withdraw now → (w : ℕ) × (open_wait (first k past) r.entry.process ≡ Some w) ×
+      (is_lone (first k past) r.entry.process ≡ true → (d : ℕ) → held (first k past) r.entry.process
+      d ≡ held (first w past) r.entry.process d)
 
 -- before place k queue q had been created and no longer existed
 pub record IsGoneAt (past : Past) (k q : ℕ) : Type 0 where
@@ -109,15 +123,20 @@ pub record IsGoneAt (past : Past) (k q : ℕ) : Type 0 where
 -- So each accepted message was taken, or is present in its queue only, which exists, or was lost
 -- with it.
 pub record EndsForGood (past : Past) : Type 0 where
-  pub never_again : (j k q : ℕ) → IsGoneAt past j q → j ≤ k → k ≤ length past → is_in (alive (first k past)) q ≡ false
-  pub none_taken : (j k q m : ℕ) → IsGoneAt past j q → j ≤ k → is_accepted past q m ≡ true → IsTakenAt past m k → ⊥
-  pub present_or_taken : (q m : ℕ) → is_accepted past q m ≡ true → is_in (present past q) m ≡ not (is_in (taken past) m)
-  pub in_one_queue : (q k m : ℕ) → is_accepted past q m ≡ true → is_in (present past k) m ≡ true → k ≡ q
+  pub never_again : (j k q : ℕ) → IsGoneAt past j q → j ≤ k → k ≤ length past →
+      is_in (alive (first k past)) q ≡ false
+  pub none_taken : (j k q m : ℕ) → IsGoneAt past j q → j ≤ k → is_accepted past q m ≡ true →
+      IsTakenAt past m k → ⊥
+  pub present_or_taken : (q m : ℕ) → is_accepted past q m ≡ true → is_in (present past q) m ≡
+      not (is_in (taken past) m)
+  pub in_one_queue : (q k m : ℕ) → is_accepted past q m ≡ true → is_in (present past k) m ≡ true →
+      k ≡ q
 
 -- If a receive waits, the queue is empty. If a send waits, the queue holds mq_maxmsg messages.
 pub record WaitsForCause (past : Past) : Type 0 where
   pub receives : (q w : ℕ) → is_in (waiting_receives past q) w ≡ true → present past q ≡ []
-  pub sends : (q w : ℕ) → is_in (waiting_sends past q) w ≡ true → pos (length (present past q)) ≡ (attributes past q).maxmsg
+  pub sends : (q w : ℕ) → is_in (waiting_sends past q) w ≡ true → pos (length (present past q)) ≡
+      (attributes past q).maxmsg
 
 -- a call that ends a wait of its caller
 abbrev pub ends_wait : Call → Bool
@@ -143,6 +162,12 @@ pub record IsEndAt (past : Past) (k p : ℕ) : Type 0 where
 -- the one that ends it, and then it has none. So after an entry that waits, each later entry of the
 -- same caller ends that wait or follows its end.
 pub record WaitsOneAtATime (past : Past) : Type 0 where
-  pub only_ends : (k w : ℕ) (r : Record) → record_at past k ≡ Some r → open_wait (first k past) r.entry.process ≡ Some w → EndsWait (first k past) r.entry.process w r.entry.call r.entry.reply
-  pub none_after : (k w : ℕ) (r : Record) → record_at past k ≡ Some r → open_wait (first k past) r.entry.process ≡ Some w → open_wait (first (k + 1) past) r.entry.process ≡ None
-  pub between : (j k : ℕ) (r s : Record) → j < k → record_at past j ≡ Some r → r.entry.reply ≡ Waits → record_at past k ≡ Some s → s.entry.process ≡ r.entry.process → (m : ℕ) × (j < m) × (m ≤ k) × IsEndAt past m r.entry.process
+  pub only_ends : (k w : ℕ) (r : Record) → record_at past k ≡ Some r →
+      open_wait (first k past) r.entry.process ≡ Some w →
+      EndsWait (first k past) r.entry.process w r.entry.call r.entry.reply
+  pub none_after : (k w : ℕ) (r : Record) → record_at past k ≡ Some r →
+      open_wait (first k past) r.entry.process ≡ Some w →
+      open_wait (first (k + 1) past) r.entry.process ≡ None
+  pub between : (j k : ℕ) (r s : Record) → j < k → record_at past j ≡ Some r → r.entry.reply ≡
+      Waits → record_at past k ≡ Some s → s.entry.process ≡ r.entry.process →
+      (m : ℕ) × (j < m) × (m ≤ k) × IsEndAt past m r.entry.process

@@ -84,9 +84,12 @@ pub record IsNeeded (past : Past) (k : Place) : Type 0 where
 -- yet collected.
 pub record NeedsWhatIsAsked (past : Past) : Type 0 where
   pub names : (q : Place) → is_in (alive past) q ≡ true → IsNeeded past q
-  pub messages : (q m : Place) → is_in (alive past) q ≡ true → is_in (present past q) m ≡ true → IsNeeded past m
-  pub sends : (q w : Place) → is_in (alive past) q ≡ true → is_in (waiting_sends past q) w ≡ true → IsNeeded past w
-  pub handed : (p by w : Place) → answered_by past p ≡ Some by → reply_at past by ≡ Some (Handed w) → IsNeeded past by
+  pub messages : (q m : Place) → is_in (alive past) q ≡ true → is_in (present past q) m ≡ true →
+      IsNeeded past m
+  pub sends : (q w : Place) → is_in (alive past) q ≡ true → is_in (waiting_sends past q) w ≡ true →
+      IsNeeded past w
+  pub handed : (p by w : Place) → answered_by past p ≡ Some by → reply_at past by ≡
+      Some (Handed w) → IsNeeded past by
 
 -- everything that is needed passes a test
 abbrev pub HasNeeded : Past → (Place → Bool) → Type 0
@@ -96,6 +99,10 @@ HasNeeded past has = (k : Place) → IsNeeded past k → has k ≡ true
 -- and adds a new entry of a kind that is kept, or if it drops what is lost with a queue that no
 -- longer exists.
 pub record StaysEnough (past : Past) : Type 0 where
-  pub added : (r : Record) (has after : Place → Bool) → IsLegalNext past r → (is_kept r.entry.call r.entry.reply ≡ true → after (length past) ≡ true) →
-      ((k : Place) → is_place k (ended_last past) ≡ false → has k ≡ true → after k ≡ true) → HasNeeded past has → HasNeeded (r ∷ past) after
-  pub dropped : (q : Place) (has after : Place → Bool) → is_in (alive past) q ≡ false → ((k : Place) → home past k ≢ Some q → has k ≡ true → after k ≡ true) → HasNeeded past has → HasNeeded past after
+  pub added : (r : Record) (has after : Place → Bool) → IsLegalNext past r →
+      (is_kept r.entry.call r.entry.reply ≡ true → after (length past) ≡ true) →
+      ((k : Place) → is_place k (ended_last past) ≡ false → has k ≡ true → after k ≡ true) →
+      HasNeeded past has → HasNeeded (r ∷ past) after
+  pub dropped : (q : Place) (has after : Place → Bool) → is_in (alive past) q ≡ false →
+      ((k : Place) → home past k ≢ Some q → has k ≡ true → after k ≡ true) → HasNeeded past has →
+      HasNeeded past after

@@ -36,4 +36,5 @@ pub record IsUnchanged (old new : Past) : Type 0 where
 
 -- no entry with an error changes anything
 abbrev pub RefusalsChangeNothing : Past → Type 0
-RefusalsChangeNothing past = (k : ℕ) (r : Record) (fault : Fault) → record_at past k ≡ Some r → r.entry.reply ≡ Refused fault → IsUnchanged (first k past) (first (k + 1) past)
+RefusalsChangeNothing past = (k : ℕ) (r : Record) (fault : Fault) → record_at past k ≡ Some r →
+    r.entry.reply ≡ Refused fault → IsUnchanged (first k past) (first (k + 1) past)

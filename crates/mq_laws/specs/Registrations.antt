@@ -26,7 +26,8 @@ pub record IsClose (r : Record) (p d : ℕ) : Type 0 where
 -- the record notifies the registration, or its process removes it on queue q, or closes the
 -- descriptor that it used
 abbrev pub IsEndedBy : Past → ℕ → Registration → Record → Type 0
-IsEndedBy before q n r = (notified r.entry.reply ≡ Some n.place) ⊎ (IsRemoval before r q n.process ⊎ IsClose r n.process n.d)
+IsEndedBy before q n r = (notified r.entry.reply ≡ Some n.place) ⊎ (IsRemoval before r q n.process ⊎
+    IsClose r n.process n.d)
 
 -- a successful notify on queue q made the registration, and no later record ended it
 pub record Stands (past : Past) (q : ℕ) (n : Registration) : Type 0 where
@@ -36,12 +37,14 @@ pub record Stands (past : Past) (q : ℕ) (n : Registration) : Type 0 where
   pub call : r.entry.call ≡ MqNotify n.d (Some n.value)
   pub reply : r.entry.reply ≡ Done
   pub on : called_queue (first n.place past) r.entry.process r.entry.call ≡ Some q
-  pub left : (j : ℕ) (s : Record) → n.place < j → record_at past j ≡ Some s → IsEndedBy (first j past) q n s → ⊥
+  pub left : (j : ℕ) (s : Record) → n.place < j → record_at past j ≡ Some s →
+      IsEndedBy (first j past) q n s → ⊥
 
 -- it is the latest such registration, or there is none
 abbrev pub IsLatest : Past → ℕ → Option Registration → Type 0
 IsLatest past q None = (n : Registration) → Stands past q n → ⊥
-IsLatest past q (Some n) = Stands past q n × ((m : Registration) → Stands past q m → m.place ≤ n.place)
+IsLatest past q (Some n) = Stands past q n × ((m : Registration) → Stands past q m →
+    m.place ≤ n.place)
 
 -- on each queue the definition gives the latest such registration
 abbrev pub RegistersLatest : Past → Type 0

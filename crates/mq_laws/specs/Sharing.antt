@@ -31,7 +31,8 @@ pub record IsAsBefore (past : Past) : Type 0 where
   pub receives : (q : ℕ) → waiting_receives past q ≡ before.waiting_receives past q
   pub registrations : (q : ℕ) → registered past q ≡ before.registered past q
   pub pending : (p : ℕ) → p ≤ most_processes → notices past p ≡ before.notices past p
-  pub replies : (p : ℕ) (call : Call) (name : List ℕ) → p ≤ most_processes → reply_to past p call name ≡ before.reply_to past p call name
+  pub replies : (p : ℕ) (call : Call) (name : List ℕ) → p ≤ most_processes →
+      reply_to past p call name ≡ before.reply_to past p call name
 
 -- The legal journals of first threads are exactly the legal ones of processes with one thread.
 pub record AreThoseBefore (past : Past) : Type 0 where
@@ -47,8 +48,10 @@ pub record ThreadsShare (past : Past) : Type 0 where
 
 -- the only thread of a process holds, as long as it waits, what it held when its wait began
 abbrev pub HoldsAlone : Past → Type 0
-HoldsAlone past = (p w : ℕ) → open_wait past p ≡ Some w → is_lone past p ≡ true → (d : ℕ) → held past p d ≡ held (first w past) p d
+HoldsAlone past = (p w : ℕ) → open_wait past p ≡ Some w → is_lone past p ≡ true → (d : ℕ) →
+    held past p d ≡ held (first w past) p d
 
 -- the same of each first thread in a journal of first threads
 abbrev pub HoldsFirst : Past → Type 0
-HoldsFirst past = (p w : ℕ) → p ≤ most_processes → open_wait past p ≡ Some w → (d : ℕ) → held past p d ≡ held (first w past) p d
+HoldsFirst past = (p w : ℕ) → p ≤ most_processes → open_wait past p ≡ Some w → (d : ℕ) →
+    held past p d ≡ held (first w past) p d

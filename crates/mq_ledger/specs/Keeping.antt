@@ -29,7 +29,8 @@ shown a = record {
 
 -- what is kept equals what the history has for that entry
 abbrev pub Says : Past → Kept → Type 0
-Says past x = (option_map (λ r. r.payload) (record_at past x.place) ≡ Some x.bytes) × (priority past x.place ≡ x.prio) × (home past x.place ≡ x.home)
+Says past x = (option_map (λ r. r.payload) (record_at past x.place) ≡ Some x.bytes) ×
+    (priority past x.place ≡ x.prio) × (home past x.place ≡ x.home)
 
 abbrev pub AreTrue : Past → List (Option Kept) → Type 0
 AreTrue past slots = (key : ℕ) (x : Kept) → slice_index_or slots key None ≡ Some x → Says past x
@@ -47,7 +48,8 @@ pub record Forgets (queue : ℕ) (old new : List (Option Kept)) (vacant vacant' 
   pub count : vacant' ≡ vacant_in new
   pub more : vacant ≤ vacant'
   pub are_true : (past : Past) → AreTrue past old → AreTrue past new
-  pub keeps : (past : Past) (k : ℕ) → AreTrue past old → home past k ≢ Some queue → HasPlace (places_of old) k → HasPlace (places_of new) k
+  pub keeps : (past : Past) (k : ℕ) → AreTrue past old → home past k ≢ Some queue →
+      HasPlace (places_of old) k → HasPlace (places_of new) k
 
 pub record IsSound (a : Inside) : Type 0 where
   pub count : a.len ≡ length a.past.past

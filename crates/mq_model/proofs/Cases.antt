@@ -21,7 +21,8 @@ use Rattle.mq_model.specs.declared.entries.Reply.{Reply}
 use Rattle.mq_model.specs.declared.entries.Reply.TheVariants.{Opened, Queued, Handed, Waits, Got, Collected, Attrs, Notice, Done, Refused, Withdrawn}
 
 -- a fact on both branches
-pub either : (P : Reply → Type 0) (b : Bool) (x y : Reply) → (b ≡ true → P x) → (b ≡ false → P y) → P (if b then x else y)
+pub either : (P : Reply → Type 0) (b : Bool) (x y : Reply) → (b ≡ true → P x) → (b ≡ false → P y) →
+    P (if b then x else y)
 either P b x y p q = grind arith
 
 -- what a reply says of the descriptor o that the call was made on
@@ -37,13 +38,19 @@ pub record MayReceive (past : Past) (h : Description) (room : ℕ) : Type 0 wher
 -- what each reply of a send says
 abbrev pub MessageReply : Past → Description → Reply → Type 0
 MessageReply past h (Handed w) = least (waiting_receives past h.queue) ≡ Some w
-MessageReply past h Waits = (least (waiting_receives past h.queue) ≡ None) × (is_full past h.queue ≡ true) × (h.nonblock ≡ false)
-MessageReply past h (Queued n) = (least (waiting_receives past h.queue) ≡ None) × (is_full past h.queue ≡ false) × (n ≡ (if length (present past h.queue) == 0 then registered_place past h.queue else None))
+MessageReply past h Waits = (least (waiting_receives past h.queue) ≡ None) ×
+    (is_full past h.queue ≡ true) × (h.nonblock ≡ false)
+MessageReply past h (Queued n) = (least (waiting_receives past h.queue) ≡ None) ×
+    (is_full past h.queue ≡ false) ×
+    (n ≡ (if length (present past h.queue) == 0 then registered_place past h.queue else None))
 MessageReply past h reply = ⊥
 
 -- what each reply of a receive says
 abbrev pub BestReply : Past → Description → Reply → Type 0
-BestReply past h (Got m a n) = (best past h.queue ≡ Some m) × (a ≡ least (waiting_sends past h.queue)) × (n ≡ (if is_some a && length (present past h.queue) == 1 then registered_place past h.queue else None))
+BestReply past h (Got m a n) = (best past h.queue ≡ Some m) ×
+    (a ≡ least (waiting_sends past h.queue)) ×
+    (n ≡ (if is_some a && length (present past h.queue) == 1 then registered_place past
+    h.queue else None))
 BestReply past h Waits = (best past h.queue ≡ None) × (h.nonblock ≡ false)
 BestReply past h reply = ⊥
 
@@ -68,10 +75,12 @@ AttrsReply (Refused fault) = Unit {0}
 AttrsReply reply = ⊥
 
 abbrev pub SendSays : Past → Option Description → ℕ → ℕ → Reply → Type 0
-SendSays past o prio len reply = Unless reply ((h : Description) × (o ≡ Some h) × MaySend past h prio len × MessageReply past h reply)
+SendSays past o prio len reply = Unless reply ((h : Description) × (o ≡ Some h) ×
+    MaySend past h prio len × MessageReply past h reply)
 
 abbrev pub ReceiveSays : Past → Option Description → ℕ → Reply → Type 0
-ReceiveSays past o room reply = Unless reply ((h : Description) × (o ≡ Some h) × MayReceive past h room × BestReply past h reply)
+ReceiveSays past o room reply = Unless reply ((h : Description) × (o ≡ Some h) ×
+    MayReceive past h room × BestReply past h reply)
 
 abbrev pub CloseSays : Option Description → Reply → Type 0
 CloseSays o reply = DoneReply reply × Unless reply ((h : Description) × (o ≡ Some h))
@@ -91,17 +100,21 @@ Says past p Collect reply = reply ≡ Collected (unwrap_or (answered_by past p) 
 Says past p (Withdraw now) reply = reply ≡ Withdrawn (unwrap_or (open_wait past p) 0)
 Says past p call reply = DoneReply reply
 
-send_says : (past : Past) (o : Option Description) (prio len : ℕ) → SendSays past o prio len (reply_to_send past o prio len)
+send_says : (past : Past) (o : Option Description) (prio len : ℕ) →
+    SendSays past o prio len (reply_to_send past o prio len)
 send_says past o prio len = grind (arith, nat_tests)
 
-receive_says : (past : Past) (o : Option Description) (room : ℕ) → ReceiveSays past o room (reply_to_receive past o room)
+receive_says : (past : Past) (o : Option Description) (room : ℕ) →
+    ReceiveSays past o room (reply_to_receive past o room)
 receive_says past o room = grind arith
 
 -- what holds of each error and of a reply holds of that reply with a deadline
-timed_says : (P : Reply → Type 0) (until now : Deadline) (reply : Reply) → ((f : Fault) → P (Refused f)) → P reply → P (timed_reply until now reply)
+timed_says : (P : Reply → Type 0) (until now : Deadline) (reply : Reply) →
+    ((f : Fault) → P (Refused f)) → P reply → P (timed_reply until now reply)
 timed_says P until now reply refused says = grind arith
 
-open_says : (past : Past) (p : ℕ) (flags : OpenFlags) (attr : Option Attr) (name : List ℕ) → OpenReply (reply_to_open past p flags attr name)
+open_says : (past : Past) (p : ℕ) (flags : OpenFlags) (attr : Option Attr) (name : List ℕ) →
+    OpenReply (reply_to_open past p flags attr name)
 open_says past p flags attr name = grind arith
 
 close_says : (o : Option Description) → CloseSays o (close_reply o)
@@ -110,17 +123,24 @@ close_says o = grind arith
 attributes_says : (past : Past) (o : Option Description) → AttrsReply (reply_to_attributes past o)
 attributes_says past o = grind arith
 
-notify_says : (past : Past) (p : ℕ) (o : Option Description) (value : Option ℕ) → DoneReply (reply_to_notify past p o value)
+notify_says : (past : Past) (p : ℕ) (o : Option Description) (value : Option ℕ) →
+    DoneReply (reply_to_notify past p o value)
 notify_says past p o value = grind arith
 
-pub reply_says : (past : Past) (p : ℕ) (call : Call) (name : List ℕ) → Says past p call (reply_to past p call name)
+pub reply_says : (past : Past) (p : ℕ) (call : Call) (name : List ℕ) →
+    Says past p call (reply_to past p call name)
 reply_says past p (MqOpen flags attr) name = open_says past p flags attr name
 reply_says past p (MqClose d) name = close_says (held past p d)
-reply_says past p MqUnlink name = either DoneReply (is_some (bound_queue past name)) _ _ (λ _. tt) (λ _. tt)
+reply_says past p MqUnlink name = either DoneReply (is_some (bound_queue past name)) _ _
+    (λ _. tt) (λ _. tt)
 reply_says past p (MqSend d prio len) name = send_says past (held past p d) prio len
-reply_says past p (MqTimedSend d prio len until now) name = timed_says (SendSays past (held past p d) prio len) until now _ (λ f. tt) (send_says past (held past p d) prio len)
+reply_says past p (MqTimedSend d prio len until now) name =
+    timed_says (SendSays past (held past p d) prio len) until now _ (λ f. tt)
+    (send_says past (held past p d) prio len)
 reply_says past p (MqReceive d room) name = receive_says past (held past p d) room
-reply_says past p (MqTimedReceive d room until now) name = timed_says (ReceiveSays past (held past p d) room) until now _ (λ f. tt) (receive_says past (held past p d) room)
+reply_says past p (MqTimedReceive d room until now) name =
+    timed_says (ReceiveSays past (held past p d) room) until now _ (λ f. tt)
+    (receive_says past (held past p d) room)
 reply_says past p (MqGetattr d) name = attributes_says past (held past p d)
 reply_says past p (MqSetattr d nonblock) name = attributes_says past (held past p d)
 reply_says past p (MqNotify d value) name = notify_says past p (held past p d) value

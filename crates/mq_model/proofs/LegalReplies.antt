@@ -11,14 +11,18 @@ use Rattle.mq_model.specs.declared.entries.Reply.{Reply}
 use Rattle.mq_model.specs.declared.entries.Reply.TheVariants.{Got}
 
 -- what the reply of a legal record says
-pub legal_says : (past : Past) (r : Record) → IsLegalNext past r → Says past r.entry.process r.entry.call r.entry.reply
-legal_says past r legal = let P = λ (y : Reply). Says past r.entry.process r.entry.call y in subst P (sym legal.reply) (reply_says past r.entry.process r.entry.call r.payload)
+pub legal_says : (past : Past) (r : Record) → IsLegalNext past r →
+    Says past r.entry.process r.entry.call r.entry.reply
+legal_says past r legal = let P = λ (y : Reply). Says past r.entry.process r.entry.call y in
+    subst P (sym legal.reply) (reply_says past r.entry.process r.entry.call r.payload)
 
 -- a call by which a process receives with descriptor d
 abbrev pub Receives : Call → ℕ → Type 0
 Receives call d = (is_receive call ≡ true) × (descriptor_of call ≡ Some d)
 
 -- a Got is the reply of a receive, and the message is the best of its queue
-pub got_says : (past : Past) (p : ℕ) (call : Call) (m : ℕ) (a n : Option ℕ) → Says past p call (Got m a n) →
-    (d : ℕ) × (room : ℕ) × (h : Description) × Receives call d × (held past p d ≡ Some h) × MayReceive past h room × (best past h.queue ≡ Some m)
+pub got_says : (past : Past) (p : ℕ) (call : Call) (m : ℕ) (a n : Option ℕ) →
+    Says past p call (Got m a n) →
+    (d : ℕ) × (room : ℕ) × (h : Description) × Receives call d × (held past p d ≡ Some h) ×
+    MayReceive past h room × (best past h.queue ≡ Some m)
 got_says past p call m a n says = grind arith

@@ -22,19 +22,26 @@ abbrev OpenedSays : Past → ℕ → List ℕ → Reply → Type 0
 OpenedSays past p name (Opened d created) = OpenedFacts past p name d created
 OpenedSays past p name reply = Unit {0}
 
-opened-reply : (past : Past) (p : ℕ) (flags : OpenFlags) (attr : Option Attr) (name : List ℕ) → OpenedSays past p name (reply_to_open past p flags attr name)
+opened-reply : (past : Past) (p : ℕ) (flags : OpenFlags) (attr : Option Attr) (name : List ℕ) →
+    OpenedSays past p name (reply_to_open past p flags attr name)
 opened-reply past p flags attr name = grind arith
 
-pub opened-says : (past : Past) (p : ℕ) (flags : OpenFlags) (attr : Option Attr) (name : List ℕ) (d : ℕ) (created : Bool) → Opened d created ≡ reply_to_open past p flags attr name → OpenedFacts past p name d created
+pub opened-says : (past : Past) (p : ℕ) (flags : OpenFlags) (attr : Option Attr) (name : List ℕ)
+    (d : ℕ) (created : Bool) → Opened d created ≡ reply_to_open past p flags attr name →
+    OpenedFacts past p name d created
 opened-says past p flags attr name d created e = rw (← e) at (opened-reply past p flags attr name)
 
-find-below : (t : ℕ → Bool) (low n d : ℕ) → find t (numbers_from low n) ≡ Some d → (t d ≡ true) × (d < low + n)
+find-below : (t : ℕ → Bool) (low n d : ℕ) → find t (numbers_from low n) ≡ Some d →
+    (t d ≡ true) × (d < low + n)
 find-below t low zero d e = absurd (cc)
 find-below t low (suc n) d e = split (t low)
-    (λ y. let is : Some low ≡ Some d = rw y at e in let same : low ≡ d = cc in (rw (← same) y, omega arith))
-    (λ n'. let rest : find t (numbers_from (low + 1) n) ≡ Some d = rw n' at e in let x = find-below t (low + 1) n d rest in (x.0, let lt = x.1 in omega (arith, lt)))
+    (λ y. let is : Some low ≡ Some d = rw y at e in let same : low ≡ d = cc in
+    (rw (← same) y, omega arith))
+    (λ n'. let rest : find t (numbers_from (low + 1) n) ≡ Some d = rw n' at e in
+    let x = find-below t (low + 1) n d rest in (x.0, let lt = x.1 in omega (arith, lt)))
 
 -- the lowest free number is not held, and below sixteen
-pub lowest_free-is : (past : Past) (p d : ℕ) → lowest_free past p ≡ Some d → (is_none (held past p d) ≡ true) × (d < 16)
+pub lowest_free-is : (past : Past) (p d : ℕ) → lowest_free past p ≡ Some d →
+    (is_none (held past p d) ≡ true) × (d < 16)
 unfolding descriptor_numbers
 lowest_free-is past p d e = find-below (λ d. is_none (held past p d)) 0 16 d e

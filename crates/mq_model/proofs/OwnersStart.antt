@@ -9,11 +9,13 @@ use Rattle.mq_model.specs.declared.callers.Caller.{Caller}
 use Rattle.mq_model.specs.declared.entries.Description.{Description}
 use Rattle.mq_model.specs.declared.owners.Owner.{Owner}
 
-none-there : (m d : ℕ) → unwrap_or (slice_get (replicate {A = Option Description} m None) d) None ≡ None
+none-there : (m d : ℕ) → unwrap_or (slice_get (replicate {A = Option Description} m None) d) None ≡
+    None
 none-there (suc m) (suc d) = none-there m d
 none-there _ _ = refl
 
-read-free : {A X : Type 0} (g : A → Option X) (free : A) → g free ≡ None → (m p : ℕ) → option_and_then g (slice_get (replicate m free) p) ≡ None
+read-free : {A X : Type 0} (g : A → Option X) (free : A) → g free ≡ None → (m p : ℕ) →
+    option_and_then g (slice_get (replicate m free) p) ≡ None
 read-free g free e zero p = refl
 read-free g free e (suc m) zero = e
 read-free g free e (suc m) (suc p) = read-free g free e m p
@@ -30,9 +32,11 @@ answer-free : (m p : ℕ) → answer_in (replicate m free_caller) p ≡ None
 unfolding answer_in
 answer-free m p = read-free (λ (x : Caller). x.answer) free_caller refl m p
 
-slots-free : (m p : ℕ) (o : Owner) → slice_get (replicate m free_owner) p ≡ Some o → length o.descriptors ≡ 16
+slots-free : (m p : ℕ) (o : Owner) → slice_get (replicate m free_owner) p ≡ Some o →
+    length o.descriptors ≡ 16
 slots-free zero p o e = absurd (cc)
-slots-free (suc m) zero o e = let same : free_owner ≡ o = cc in ap (λ (x : Owner). length x.descriptors) (sym same)
+slots-free (suc m) zero o e = let same : free_owner ≡ o =
+    cc in ap (λ (x : Owner). length x.descriptors) (sym same)
 slots-free (suc m) (suc p) o e = slots-free m p o e
 
 long : (m : ℕ) → m ≤ 33 → length (replicate m free_owner) ≤ 33

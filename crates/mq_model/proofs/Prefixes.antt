@@ -16,14 +16,17 @@ length-first k past le = omega (arith, length-drop (length past - k) past)
 pub first-none : (past : Past) → first 0 past ≡ []
 first-none past = drop_all (length past - 0) past (omega arith)
 
-pub record_at-below : (past : Past) (k : ℕ) (r : Record) → record_at past k ≡ Some r → k < length past
+pub record_at-below : (past : Past) (k : ℕ) (r : Record) → record_at past k ≡ Some r →
+    k < length past
 record_at-below [] k r h = absurd (cc)
 record_at-below (s ∷ past) k r h =
     split (k == length past)
     (λ t. let e : k ≡ length past = eqb-true _ _ t in omega arith)
-    (λ f. let old : record_at past k ≡ Some r = rw f at h in omega (arith, record_at-below past k r old))
+    (λ f. let old : record_at past k ≡ Some r = rw f at h in
+    omega (arith, record_at-below past k r old))
 
-pub first-more : (past : Past) (k : ℕ) (r : Record) → record_at past k ≡ Some r → first (k + 1) past ≡ r ∷ first k past
+pub first-more : (past : Past) (k : ℕ) (r : Record) → record_at past k ≡ Some r →
+    first (k + 1) past ≡ r ∷ first k past
 first-more [] k r h = absurd (cc)
 first-more (s ∷ past) k r h =
     split (k == length past)
@@ -36,20 +39,25 @@ first-more (s ∷ past) k r h =
 
 pub ruleset prefixes = (length-first, first-none)
 
-pub record_at-first : (past : Past) (k q : ℕ) → q < k → k ≤ length past → record_at (first k past) q ≡ record_at past q
+pub record_at-first : (past : Past) (k q : ℕ) → q < k → k ≤ length past →
+    record_at (first k past) q ≡ record_at past q
 record_at-first [] k q lt le = absurd (omega arith)
 record_at-first (s ∷ past) k q lt le =
     split (k == suc (length past))
-    (λ all. let e : k ≡ suc (length past) = eqb-true _ _ all in let none : suc (length past) - k ≡ 0 = omega arith in rw none refl)
+    (λ all. let e : k ≡ suc (length past) = eqb-true _ _ all in let none : suc (length past) - k ≡
+    0 = omega arith in rw none refl)
     (λ some. let ne : k ≡ suc (length past) → ⊥ = eqb-false _ _ some in
     let less : suc (length past) - k ≡ suc (length past - k) = omega arith in
     let other : (q == length past) ≡ false = ne_eqb _ _ (λ e. omega arith) in
     rw (less, other) (record_at-first past k q lt (omega arith)))
 
-pub record_at-of_first : (past : Past) (k q : ℕ) (r : Record) → first (q + 1) past ≡ r ∷ first q past → q < k → k ≤ length past → record_at (first k past) q ≡ Some r
+pub record_at-of_first : (past : Past) (k q : ℕ) (r : Record) → first (q + 1) past ≡
+    r ∷ first q past → q < k → k ≤ length past → record_at (first k past) q ≡ Some r
 record_at-of_first past k q r is lt le = grind (arith, common_steps, first-more, record_at-first)
 
-pub named_is : (past : Past) (k q : ℕ) (r : Record) (o : Option ℕ) → first (q + 1) past ≡ r ∷ first q past → q < k → k ≤ length past → o ≡ bound_queue (first k past) r.payload → is_place q o ≡ is_named (first k past) q
+pub named_is : (past : Past) (k q : ℕ) (r : Record) (o : Option ℕ) → first (q + 1) past ≡
+    r ∷ first q past → q < k → k ≤ length past → o ≡ bound_queue (first k past) r.payload →
+    is_place q o ≡ is_named (first k past) q
 named_is past k q r o is lt le e = grind (arith, record_at-of_first)
 
 -- the first records, as many as there are, are all of them
@@ -61,4 +69,5 @@ pub legal-first : (past : Past) (k : ℕ) → Legal past → Legal (first k past
 legal-first [] k legal = let none : 0 - k ≡ 0 = omega arith in rw none legal
 legal-first (r ∷ past) k legal = split (nat_le (suc (length past)) k)
     (λ all. let none : suc (length past) - k ≡ 0 = omega (arith, leb-true _ _ all) in rw none legal)
-    (λ some. let less : suc (length past) - k ≡ suc (length past - k) = omega (arith, leb-false _ _ some) in rw less (legal-first past k legal.0))
+    (λ some. let less : suc (length past) - k ≡ suc (length past - k) = omega
+    (arith, leb-false _ _ some) in rw less (legal-first past k legal.0))

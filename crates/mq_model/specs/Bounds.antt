@@ -38,15 +38,18 @@ entries_needed _ = 1
 abbrev pub bytes_needed : Past → Process → Call → List ℕ → ℕ
 bytes_needed past p (MqOpen flags attr) given = length given
 bytes_needed past p MqUnlink given = length given
-bytes_needed past p (MqSend d prio len) given = if is_refused (reply_to_send past (held past p d) prio len) then 0 else length given
-bytes_needed past p (MqTimedSend d prio len until now) given = if is_refused (reply_to_send past (held past p d) prio len) then 0 else length given
+bytes_needed past p (MqSend d prio len) given =
+    if is_refused (reply_to_send past (held past p d) prio len) then 0 else length given
+bytes_needed past p (MqTimedSend d prio len until now) given =
+    if is_refused (reply_to_send past (held past p d) prio len) then 0 else length given
 bytes_needed past p call given = 0
 
 -- A call of process p with these bytes, a name or a message, finds the journal full: with what the
 -- call needs, and with the entries that end the open waits, there would be more than the journal
 -- may hold.
 abbrev pub finds_full : Option Bounds → Past → Process → Call → List ℕ → Bool
-finds_full bounds past p call given = exceeds bounds (length past + open_waits past + entries_needed call) (payload_bytes past + bytes_needed past p call given)
+finds_full bounds past p call given = exceeds bounds (length past + open_waits past + entries_needed
+    call) (payload_bytes past + bytes_needed past p call given)
 
 -- false for the two replies without an entry: memory was refused, or the journal is full
 abbrev pub has_entry : Reply → Bool
@@ -56,6 +59,7 @@ has_entry _ = true
 
 -- The reply to a call respects the bounds: it is `JournalFull` if and only if the call finds the
 -- journal full, and never `NoMemory` with bounds.
-pub record HeedsBounds (bounds : Option Bounds) (past : Past) (p : Process) (call : Call) (given : List ℕ) (reply : Reply) : Type 0 where
+pub record HeedsBounds (bounds : Option Bounds) (past : Past) (p : Process) (call : Call)
+    (given : List ℕ) (reply : Reply) : Type 0 where
   pub full : (reply ≡ Refused JournalFull) ↔ (finds_full bounds past p call given ≡ true)
   pub memory : is_some bounds ≡ true → reply ≢ Refused NoMemory

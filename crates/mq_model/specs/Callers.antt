@@ -41,7 +41,8 @@ unfoldable pub pending_in : List Caller → ℕ → ℕ → WaitKind → Option 
 pending_in callers p q kind = pending (wait_in callers p) (answer_in callers p) q kind
 
 -- Caller p has waited on queue q since this place, and no caller since an earlier one.
-pub record IsFirstWait (callers : List Caller) (q : ℕ) (kind : WaitKind) (p place : ℕ) : Type 0 where
+pub record IsFirstWait (callers : List Caller) (q : ℕ) (kind : WaitKind)
+    (p place : ℕ) : Type 0 where
   pub waits : pending_in callers p q kind ≡ Some place
   pub least : (k w : ℕ) → pending_in callers k q kind ≡ Some w → place ≤ w
 
@@ -75,6 +76,8 @@ waiting past Receive q = waiting_receives past q
 -- the table says what the definitions say about the journal
 pub record CallersMirror (past : Past) (callers : List Caller) : Type 0 where
   pub waits : (p : ℕ) → option_map (λ w. w.place) (wait_in callers p) ≡ open_wait past p
-  pub blocked : (p : ℕ) (w : OpenWait) → wait_in callers p ≡ Some w → is_in (blocked past w.kind w.queue) w.place ≡ true
-  pub deadlines : (p : ℕ) → option_and_then (λ w. w.until) (wait_in callers p) ≡ wait_deadline past p
+  pub blocked : (p : ℕ) (w : OpenWait) → wait_in callers p ≡ Some w →
+      is_in (blocked past w.kind w.queue) w.place ≡ true
+  pub deadlines : (p : ℕ) → option_and_then (λ w. w.until) (wait_in callers p) ≡
+      wait_deadline past p
   pub answers : (p : ℕ) → answer_in callers p ≡ answered_by past p

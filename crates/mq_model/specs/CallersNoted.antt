@@ -19,18 +19,28 @@ with_answer_at callers (Some p) here = with_answer callers p here
 -- The table after the entry of caller p at place `here`. It is a call on a descriptor of queue q,
 -- or any other call.
 abbrev pub noted_waits : List Caller → ℕ → ℕ → Call → Reply → ℕ → List Caller
-noted_waits callers here p call Waits q = with_wait callers p (Some (record { place = here; queue = q; kind = wait_kind call; until = deadline_of call }))
+noted_waits callers here p call Waits q =
+    with_wait callers p (Some (record {
+      place = here;
+      queue = q;
+      kind = wait_kind call;
+      until = deadline_of call;
+    }))
 noted_waits callers here p call (Collected by) q = with_wait callers p None
 noted_waits callers here p call (Withdrawn wait) q = with_wait callers p None
-noted_waits callers here p call (Handed wait) q = with_answer_at callers (waiter_in callers wait) here
-noted_waits callers here p call (Got place admitted notified) q = with_answer_at callers (option_and_then (waiter_in callers) admitted) here
+noted_waits callers here p call (Handed wait) q = with_answer_at callers
+    (waiter_in callers wait) here
+noted_waits callers here p call (Got place admitted notified) q = with_answer_at callers
+    (option_and_then (waiter_in callers) admitted) here
 noted_waits callers here p call _ q = callers
 
 -- If the old table is that of a journal after which the entry may follow, the new one is that of
 -- the journal with the entry.
 abbrev pub KeepsCallers : List Caller → ℕ → Entry → ℕ → List Caller → Type 0
 KeepsCallers old here entry q new =
-    (past : Past) (payload : List ℕ) → length past ≡ here → CallersMirror past old → Legal past → IsLegalNext past (record { entry = entry; payload = payload }) → EntryQueue past entry.process entry.call payload entry.reply q →
+    (past : Past) (payload : List ℕ) → length past ≡ here → CallersMirror past old → Legal past →
+    IsLegalNext past (record { entry = entry; payload = payload }) →
+    EntryQueue past entry.process entry.call payload entry.reply q →
     CallersMirror (record { entry = entry; payload = payload } ∷ past) new
 
 -- a table with only such rows, of any number, is that of the empty journal

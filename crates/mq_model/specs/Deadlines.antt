@@ -12,7 +12,8 @@ is_moment moment = int_le (pos 0) moment.nsec && int_lt moment.nsec (pos nanosec
 
 -- the deadline has passed at the time `now`: it is that time or an earlier one
 abbrev pub has_passed : Deadline → Deadline → Bool
-has_passed until now = int_lt until.sec now.sec || (int_eq until.sec now.sec && int_le until.nsec now.nsec)
+has_passed until now = int_lt until.sec now.sec ||
+    (int_eq until.sec now.sec && int_le until.nsec now.nsec)
 
 -- the same for a wait, which may have no deadline
 abbrev pub is_over : Option Deadline → Deadline → Bool

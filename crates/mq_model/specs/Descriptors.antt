@@ -1,4 +1,5 @@
--- Which descriptors the processes hold, and which queues exist (mq_open, mq_close, mq_setattr, mq_unlink).
+-- Which descriptors the processes hold, and which queues exist (mq_open, mq_close, mq_setattr,
+-- mq_unlink).
 use Rattle.std.specs.Prelude.{ℕ, zero, suc, ◌+◌, Bool, false, ◌||◌, ◌==◌, List, [], ◌∷◌, length, Option, Some, None, is_none, is_some, if◌then◌else◌}
 use Rattle.std.specs.List.{list_any, filter, find}
 use Rattle.std.specs.Option.{option_map, option_and_then, unwrap_or}
@@ -23,11 +24,14 @@ with_nonblock nonblock h = record { queue = h.queue; access = h.access; nonblock
 -- The queue that a successful open opened: a new one, or the one that the name was bound to. In a
 -- legal journal the 0 is never used, since an open that creates nothing found its name bound.
 abbrev pub opened_queue : Past → List ℕ → Bool → Queue
-opened_queue past name created = if created then length past else unwrap_or (bound_queue past name) 0
+opened_queue past name created = if created then length past else unwrap_or
+    (bound_queue past name) 0
 
 -- what descriptor d stands for after an open that returned e
-abbrev pub after_open : Past → Call → List ℕ → Descriptor → Bool → Descriptor → Option Description → Option Description
-after_open past (MqOpen flags attr) name e created d before = if e == d then Some (description (opened_queue past name created) flags) else before
+abbrev pub after_open : Past → Call → List ℕ → Descriptor → Bool → Descriptor → Option Description →
+    Option Description
+after_open past (MqOpen flags attr) name e created d before =
+    if e == d then Some (description (opened_queue past name created) flags) else before
 after_open past _ name e created d before = before
 
 -- what descriptor d stands for after a close
@@ -37,12 +41,14 @@ after_close _ d before = before
 
 -- what descriptor d stands for after a setattr
 abbrev pub after_setattr : Call → Descriptor → Option Description → Option Description
-after_setattr (MqSetattr e nonblock) d before = if e == d then option_map (with_nonblock nonblock) before else before
+after_setattr (MqSetattr e nonblock) d before = if e == d then option_map (with_nonblock nonblock)
+    before else before
 after_setattr _ d before = before
 
 -- what descriptor d of a process stands for after an entry of that process, given what it stood for
 -- before
-abbrev pub held_after : Past → Call → List ℕ → Reply → Descriptor → Option Description → Option Description
+abbrev pub held_after : Past → Call → List ℕ → Reply → Descriptor → Option Description →
+    Option Description
 held_after past call name (Opened e created) d before = after_open past call name e created d before
 held_after past call name Done d before = after_close call d before
 held_after past call name (Attrs status) d before = after_setattr call d before
@@ -52,7 +58,8 @@ held_after past call name _ d before = before
 -- with the flag of the latest setattr after it; none if d was closed since.
 abbrev pub held : Past → Process → Descriptor → Option Description
 held [] p d = None
-held (r ∷ past) p d = if shares r.entry.process p then held_after past r.entry.call r.payload r.entry.reply d (held past p d) else held past p d
+held (r ∷ past) p d = if shares r.entry.process p then held_after past r.entry.call r.payload
+    r.entry.reply d (held past p d) else held past p d
 
 abbrev pub numbers_from : ℕ → ℕ → List ℕ
 numbers_from low zero = []
@@ -93,7 +100,8 @@ descriptor_of (Withdraw now) = None
 
 -- the queue that a call is made on, through the descriptor that it names
 abbrev pub called_queue : Past → Process → Call → Option Queue
-called_queue past p call = option_map (λ h. h.queue) (option_and_then (held past p) (descriptor_of call))
+called_queue past p call = option_map (λ h. h.queue) (option_and_then (held past p)
+    (descriptor_of call))
 
 -- the entry's call is made on queue q
 abbrev pub is_on : Past → Entry → Queue → Bool
@@ -102,7 +110,8 @@ is_on past e q = is_place q (called_queue past e.process e.call)
 -- the queues created so far, the latest first
 abbrev pub created : Past → List Queue
 created [] = []
-created (r ∷ past) = if creates r.entry.call r.entry.reply then length past ∷ created past else created past
+created (r ∷ past) = if creates r.entry.call r.entry.reply then length past ∷
+    created past else created past
 
 -- a process with a descriptor that it was given
 pub record Holder : Type 0 where
@@ -125,11 +134,13 @@ with_holder p (Some d) before = record { process = p; d = d } ∷ before
 -- the processes that opened a queue, with the descriptors that they were given
 abbrev pub openers : Past → List Holder
 openers [] = []
-openers (r ∷ past) = with_holder r.entry.process (opened_number r.entry.call r.entry.reply) (openers past)
+openers (r ∷ past) = with_holder r.entry.process (opened_number r.entry.call r.entry.reply)
+    (openers past)
 
 -- some process holds a descriptor of the queue
 abbrev pub is_held : Past → Queue → Bool
-is_held past q = list_any (λ x. is_place q (option_map (λ h. h.queue) (held past x.process x.d))) (openers past)
+is_held past q = list_any (λ x. is_place q (option_map (λ h. h.queue) (held past x.process x.d)))
+    (openers past)
 
 -- the queue is still bound to its name
 abbrev pub is_named : Past → Queue → Bool

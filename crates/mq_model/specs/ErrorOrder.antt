@@ -68,8 +68,10 @@ send_reply prio len (Some facts) =
     if is_read_only facts.description.access then Refused BadDescriptor
     else (if nat_le most_priorities prio then Refused Invalid
     else (if int_lt facts.attributes.msgsize (pos len) then Refused MessageSize
-    else (if is_full_with facts.attributes facts.count && facts.description.nonblock then Refused Again
-    else accepted_reply facts.waiting (is_full_with facts.attributes facts.count) (if facts.count == 0 then facts.registered else None))))
+    else (if is_full_with facts.attributes facts.count && facts.description.nonblock
+    then Refused Again
+    else accepted_reply facts.waiting (is_full_with facts.attributes facts.count)
+    (if facts.count == 0 then facts.registered else None))))
 
 -- A receive without an earlier error, given the descriptor's flag, the best message, the send that
 -- has waited longest, and the registration that is notified. Without a message it fails or waits;
@@ -85,7 +87,8 @@ receive_reply room None = Refused BadDescriptor
 receive_reply room (Some facts) =
     if is_write_only facts.description.access then Refused BadDescriptor
     else (if int_lt (pos room) facts.attributes.msgsize then Refused MessageSize
-    else found_reply facts.description.nonblock facts.best facts.waiting (if is_some facts.waiting && facts.count == 1 then facts.registered else None))
+    else found_reply facts.description.nonblock facts.best facts.waiting
+    (if is_some facts.waiting && facts.count == 1 then facts.registered else None))
 
 -- mq_timedsend and mq_timedreceive, given the reply to the same call without a deadline. The
 -- deadline matters only if that would wait.

@@ -28,7 +28,11 @@ use Rattle.mq_model.specs.declared.entries.Reply.TheVariants.{Collected, Withdra
 -- ----------------------------
 
 abbrev pub open_facts : Past → Process → List ℕ → OpenFacts
-open_facts past p name = record { bound = is_some (bound_queue past name); free = lowest_free past p; queues = length (alive past) }
+open_facts past p name = record {
+  bound = is_some (bound_queue past name);
+  free = lowest_free past p;
+  queues = length (alive past);
+}
 
 -- a send depends on the receive that has waited longest, and a receive on the send
 abbrev pub send_facts : Past → Description → SendFacts
@@ -51,7 +55,11 @@ receive_facts past h = record {
 }
 
 abbrev pub status_facts : Past → Description → StatusFacts
-status_facts past h = record { description = h; attributes = attributes past h.queue; count = length (present past h.queue) }
+status_facts past h = record {
+  description = h;
+  attributes = attributes past h.queue;
+  count = length (present past h.queue);
+}
 
 abbrev pub notify_facts : Past → Description → NotifyFacts
 notify_facts past h = record { registered = registered past h.queue }
@@ -85,8 +93,10 @@ reply_to past p (MqClose d) name = close_reply (held past p d)
 reply_to past p MqUnlink name = unlink_reply (bound_queue past name)
 reply_to past p (MqSend d prio len) name = reply_to_send past (held past p d) prio len
 reply_to past p (MqReceive d room) name = reply_to_receive past (held past p d) room
-reply_to past p (MqTimedSend d prio len until now) name = timed_reply until now (reply_to_send past (held past p d) prio len)
-reply_to past p (MqTimedReceive d room until now) name = timed_reply until now (reply_to_receive past (held past p d) room)
+reply_to past p (MqTimedSend d prio len until now) name = timed_reply until now
+    (reply_to_send past (held past p d) prio len)
+reply_to past p (MqTimedReceive d room until now) name = timed_reply until now
+    (reply_to_receive past (held past p d) room)
 reply_to past p (MqGetattr d) name = reply_to_attributes past (held past p d)
 reply_to past p (MqSetattr d nonblock) name = reply_to_attributes past (held past p d)
 reply_to past p (MqNotify d value) name = reply_to_notify past p (held past p d) value
@@ -103,11 +113,14 @@ is_refused _ = false
 abbrev pub is_payload : Call → Reply → List ℕ → Bool
 is_payload (MqOpen flags attr) reply payload = is_name payload
 is_payload MqUnlink reply payload = is_name payload
-is_payload (MqSend d prio len) reply payload = length payload == (if is_refused reply then 0 else len)
-is_payload (MqTimedSend d prio len until now) reply payload = length payload == (if is_refused reply then 0 else len)
+is_payload (MqSend d prio len) reply payload =
+    length payload == (if is_refused reply then 0 else len)
+is_payload (MqTimedSend d prio len until now) reply payload =
+    length payload == (if is_refused reply then 0 else len)
 is_payload _ reply payload = length payload == 0
 
--- A caller with an open wait may only collect, if the wait is answered, or withdraw, if its deadline
+-- A caller with an open wait may only collect, if the wait is answered, or withdraw, if its
+-- deadline
 -- has passed and it is not answered. Any other caller may make any call but these two.
 abbrev pub may_call : Past → Process → Call → Bool
 may_call past p Collect = is_some (answered_by past p)
@@ -142,6 +155,10 @@ payload_of _ reply given = []
 
 -- One record was added: this call of process p with its reply, and with the payload that the given
 -- bytes make.
-pub record Appends (old new : Past) (p : Process) (call : Call) (given : List ℕ) (reply : Reply) : Type 0 where
+pub record Appends (old new : Past) (p : Process) (call : Call) (given : List ℕ)
+    (reply : Reply) : Type 0 where
   pub replies : reply ≡ reply_to old p call given
-  pub records : new ≡ record { entry = record { process = p; call = call; reply = reply }; payload = payload_of call reply given } ∷ old
+  pub records : new ≡ record {
+    entry = record { process = p; call = call; reply = reply };
+    payload = payload_of call reply given;
+  } ∷ old

@@ -81,18 +81,21 @@ ended_receives (r ∷ past) = with_place (ends_receive r.entry.reply) (ended_rec
 -- the sends to a queue that began to wait, and the receives, the latest first
 abbrev pub blocked_sends : Past → Queue → List Place
 blocked_sends [] q = []
-blocked_sends (r ∷ past) q = if blocks_send r.entry.call r.entry.reply && is_on past r.entry q then length past ∷ blocked_sends past q else blocked_sends past q
+blocked_sends (r ∷ past) q = if blocks_send r.entry.call r.entry.reply && is_on past r.entry q then
+    length past ∷ blocked_sends past q else blocked_sends past q
 
 abbrev pub blocked_receives : Past → Queue → List Place
 blocked_receives [] q = []
-blocked_receives (r ∷ past) q = if blocks_receive r.entry.call r.entry.reply && is_on past r.entry q then length past ∷ blocked_receives past q else blocked_receives past q
+blocked_receives (r ∷ past) q = if blocks_receive r.entry.call r.entry.reply && is_on past r.entry q
+    then length past ∷ blocked_receives past q else blocked_receives past q
 
 -- the sends that wait for room in the queue, and the receives that wait for a message
 abbrev pub waiting_sends : Past → Queue → List Place
 waiting_sends past q = filter (λ w. not (is_in (ended_sends past) w)) (blocked_sends past q)
 
 abbrev pub waiting_receives : Past → Queue → List Place
-waiting_receives past q = filter (λ w. not (is_in (ended_receives past) w)) (blocked_receives past q)
+waiting_receives past q = filter (λ w. not (is_in (ended_receives past) w))
+    (blocked_receives past q)
 
 -- the place, if it is in the list
 abbrev pub if_in : List Place → Option Place → Option Place
@@ -115,7 +118,8 @@ admitted (r ∷ past) q = with_place (entered past r.entry q) (admitted past q)
 -- the messages that were handed to a receive that waited on the queue
 abbrev pub handed : Past → Queue → List Message
 handed [] q = []
-handed (r ∷ past) q = if hands_over r.entry.call r.entry.reply && is_on past r.entry q then length past ∷ handed past q else handed past q
+handed (r ∷ past) q = if hands_over r.entry.call r.entry.reply && is_on past r.entry q then length
+    past ∷ handed past q else handed past q
 
 -- the message was accepted: it entered the queue, or was handed over
 abbrev pub is_accepted : Past → Queue → Message → Bool
@@ -152,7 +156,8 @@ priority past m = unwrap_or (option_map (λ r. priority_given r.entry.call) (rec
 -- Of these two messages m is received first, or they are the same: its priority is higher, or equal
 -- and m is older.
 abbrev pub goes_first : Past → Message → Message → Bool
-goes_first past m n = nat_lt (priority past n) (priority past m) || (priority past m == priority past n && nat_le m n)
+goes_first past m n = nat_lt (priority past n) (priority past m) ||
+    (priority past m == priority past n && nat_le m n)
 
 -- the oldest message of the highest priority in the queue
 abbrev pub best : Past → Queue → Option Message

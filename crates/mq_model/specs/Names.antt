@@ -1,4 +1,5 @@
--- Which queue a name is bound to, and the attributes that its creator gave the queue (mq_open, mq_unlink).
+-- Which queue a name is bound to, and the attributes that its creator gave the queue (mq_open,
+-- mq_unlink).
 use Rattle.std.specs.Prelude.{ℕ, pos, Bool, true, false, ◌&&◌, List, [], ◌∷◌, length, Option, Some, None, if◌then◌else◌, int_le}
 use Rattle.std.specs.Str.{bytes_eq}
 use Rattle.std.specs.Option.{option_map, unwrap_or}
@@ -28,7 +29,8 @@ abbrev pub unlinks : Call → Reply → Bool
 unlinks call Done = is_unlink call
 unlinks call _ = false
 
--- the queue that a name is bound to: its latest creating open, unless the name was unlinked after it
+-- the queue that a name is bound to: its latest creating open, unless the name was unlinked after
+-- it
 abbrev pub bound_queue : Past → List ℕ → Option Queue
 bound_queue [] name = None
 bound_queue (r ∷ past) name =
@@ -50,10 +52,12 @@ attributes_given _ = default_attributes
 
 -- mq_maxmsg and mq_msgsize of a queue: the maximum number of messages, and of bytes of a message
 abbrev pub attributes : Past → Queue → Attr
-attributes past q = unwrap_or (option_map (λ r. attributes_given r.entry.call) (record_at past q)) default_attributes
+attributes past q = unwrap_or (option_map (λ r. attributes_given r.entry.call) (record_at past q))
+    default_attributes
 
 -- attributes that a queue may be created with
 abbrev pub are_within_limits : Option Attr → Bool
 are_within_limits None = true
 are_within_limits (Some attr) =
-    int_le (pos 1) attr.maxmsg && int_le attr.maxmsg (pos most_messages) && int_le (pos 1) attr.msgsize && int_le attr.msgsize (pos most_message_bytes)
+    int_le (pos 1) attr.maxmsg && int_le attr.maxmsg (pos most_messages) && int_le
+    (pos 1) attr.msgsize && int_le attr.msgsize (pos most_message_bytes)

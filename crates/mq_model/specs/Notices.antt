@@ -13,7 +13,12 @@ use Rattle.mq_model.specs.declared.entries.Reply.TheVariants.{Queued, Got, Notic
 
 -- the registration that process p makes at a place by a call that succeeded
 abbrev pub registration_by : Place → Process → Call → Option Registration
-registration_by place p (MqNotify d (Some v)) = Some (record { place = place; process = p; d = d; value = v })
+registration_by place p (MqNotify d (Some v)) = Some (record {
+  place = place;
+  process = p;
+  d = d;
+  value = v;
+})
 registration_by place p _ = None
 
 abbrev pub registration_of : Place → Process → Call → Reply → Option Registration
@@ -67,7 +72,8 @@ or_else (Some n) before = Some n
 -- `on` says whether the entry's call is made on the queue. It is the one that the entry makes
 -- there, else the one before unless the entry ended it.
 abbrev pub registration_after : Bool → Place → Entry → Option Registration → Option Registration
-registration_after on here e before = or_else (only_if on (registration_of here e.process e.call e.reply)) (unless (ends on e) before)
+registration_after on here e before =
+    or_else (only_if on (registration_of here e.process e.call e.reply)) (unless (ends on e) before)
 
 -- a call that makes or ends registrations if it succeeds
 abbrev pub is_about_registrations : Call → Bool
@@ -78,7 +84,8 @@ is_about_registrations _ = false
 -- the registration on a queue: the latest one made there, unless a later entry ended it
 abbrev pub registered : Past → Queue → Option Registration
 registered [] q = None
-registered (r ∷ past) q = registration_after (is_on past r.entry q) (length past) r.entry (registered past q)
+registered (r ∷ past) q = registration_after (is_on past r.entry q) (length past) r.entry
+    (registered past q)
 
 -- the place of the registration on a queue
 abbrev pub registered_place : Past → Queue → Option Place
@@ -101,7 +108,8 @@ value_notified past p (Some k) = value_given p (record_at past k)
 -- the values of the registrations of process p that were notified, in the order of those replies
 abbrev pub values_notified : Past → Process → List ℕ
 values_notified [] p = []
-values_notified (r ∷ past) p = values_notified past p ++ option_to_list (value_notified past p (notified r.entry.reply))
+values_notified (r ∷ past) p = values_notified past p ++ option_to_list
+    (value_notified past p (notified r.entry.reply))
 
 abbrev pub gives_notice : Reply → Bool
 gives_notice (Notice (Some v)) = true
@@ -110,7 +118,8 @@ gives_notice _ = false
 -- how many notices process p has taken
 abbrev pub notices_given : Past → Process → ℕ
 notices_given [] p = 0
-notices_given (r ∷ past) p = if gives_notice r.entry.reply && shares r.entry.process p then notices_given past p + 1 else notices_given past p
+notices_given (r ∷ past) p = if gives_notice r.entry.reply && shares r.entry.process p then
+    notices_given past p + 1 else notices_given past p
 
 -- the notices that process p has not yet taken, the oldest first
 abbrev pub notices : Past → Process → List ℕ

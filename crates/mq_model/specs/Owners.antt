@@ -29,11 +29,13 @@ lowest_held_in owners p = find (λ d. is_some (held_in owners p d)) descriptor_n
 
 -- the table with this under descriptor d of the process of caller p
 unfoldable pub with_slot : List Owner → ℕ → ℕ → Option Description → List Owner
-with_slot owners p d slot = changed (λ o. record { descriptors = set o.descriptors d slot }) owners (owner_of p)
+with_slot owners p d slot = changed (λ o. record { descriptors = set o.descriptors d slot })
+    owners (owner_of p)
 
 -- the table with this nonblocking flag for the same descriptor
 abbrev pub with_flag : List Owner → ℕ → ℕ → Bool → List Owner
-with_flag owners p d nonblock = with_slot owners p d (option_map (with_nonblock nonblock) (held_in owners p d))
+with_flag owners p d nonblock = with_slot owners p d (option_map (with_nonblock nonblock)
+    (held_in owners p d))
 
 -- one of the descriptors is of queue q
 abbrev pub holds : ℕ → Owner → Bool
@@ -49,5 +51,6 @@ free_owner = record { descriptors = replicate most_descriptors None }
 -- the table has a row for each process at most, and says what the definitions say about the journal
 pub record OwnersMirror (past : Past) (owners : List Owner) : Type 0 where
   pub few : length owners ≤ most_processes + 1
-  pub slots : (p : ℕ) (o : Owner) → slice_get owners p ≡ Some o → length o.descriptors ≡ most_descriptors
+  pub slots : (p : ℕ) (o : Owner) → slice_get owners p ≡ Some o → length o.descriptors ≡
+      most_descriptors
   pub held : (p d : ℕ) → held_in owners p d ≡ held past p d

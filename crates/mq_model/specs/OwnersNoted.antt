@@ -56,7 +56,9 @@ EntryQueue past p call name reply q = Unit {0}
 -- the journal with the entry.
 abbrev pub KeepsMirror : List Owner → Entry → ℕ → List Owner → Type 0
 KeepsMirror old entry q new =
-    (past : Past) (payload : List ℕ) → OwnersMirror past old → Legal past → IsLegalNext past (record { entry = entry; payload = payload }) → EntryQueue past entry.process entry.call payload entry.reply q →
+    (past : Past) (payload : List ℕ) → OwnersMirror past old → Legal past →
+    IsLegalNext past (record { entry = entry; payload = payload }) →
+    EntryQueue past entry.process entry.call payload entry.reply q →
     OwnersMirror (record { entry = entry; payload = payload } ∷ past) new
 
 -- a table with only such rows, one for each process at most, is that of the empty journal

@@ -35,7 +35,8 @@ call_of apart len (StoredCall.Setattr d nonblock) = Call.MqSetattr d nonblock
 call_of apart len (StoredCall.Removal d) = Call.MqNotify d None
 call_of apart len StoredCall.NextNotice = Call.NextNotice
 call_of apart len StoredCall.Collect = Call.Collect
-call_of apart len (StoredCall.Apart high low) = slice_index_or apart (high * 4294967296 + low) Call.MqUnlink
+call_of apart len (StoredCall.Apart high low) = slice_index_or apart
+    (high * 4294967296 + low) Call.MqUnlink
 
 -- what a stored call adds to the separate list
 abbrev pub kept_apart : StoredCall → Call → List Call
@@ -51,10 +52,17 @@ reply_of StoredReply.Waits = Reply.Waits
 reply_of (StoredReply.Got place) = Reply.Got place None None
 reply_of (StoredReply.GotAdmitting place admitted) = Reply.Got place (Some admitted) None
 reply_of (StoredReply.GotNotifying place notified) = Reply.Got place None (Some notified)
-reply_of (StoredReply.GotBoth place admitted notified) = Reply.Got place (Some admitted) (Some notified)
+reply_of (StoredReply.GotBoth place admitted notified) =
+    Reply.Got place (Some admitted) (Some notified)
 reply_of (StoredReply.Collected by) = Reply.Collected by
 reply_of (StoredReply.Withdrawn wait) = Reply.Withdrawn wait
-reply_of (StoredReply.Attrs nonblock maxmsg msgsize curmsgs) = Reply.Attrs (record { nonblock = nonblock; maxmsg = maxmsg; msgsize = msgsize; curmsgs = curmsgs })
+reply_of (StoredReply.Attrs nonblock maxmsg msgsize curmsgs) =
+    Reply.Attrs (record {
+      nonblock = nonblock;
+      maxmsg = maxmsg;
+      msgsize = msgsize;
+      curmsgs = curmsgs;
+    })
 reply_of StoredReply.NoNotice = Reply.Notice None
 reply_of (StoredReply.Notice value) = Reply.Notice (Some value)
 reply_of StoredReply.Done = Reply.Done
@@ -63,7 +71,11 @@ reply_of (StoredReply.Refused fault) = Reply.Refused fault
 -- the record of a stored entry, whose payload is a range of all payload bytes
 abbrev pub record_of : List Call → List ℕ → Stored → Record
 record_of apart bytes s = record {
-  entry = record { process = s.process; call = call_of apart (s.end - s.start) s.call; reply = reply_of s.reply };
+  entry = record {
+    process = s.process;
+    call = call_of apart (s.end - s.start) s.call;
+    reply = reply_of s.reply;
+  };
   payload = slice_range bytes s.start s.end;
 }
 
@@ -73,7 +85,8 @@ records_of apart bytes stored = reverse (map (record_of apart bytes) stored)
 abbrev pub shown : Inside → Shown
 shown j = record {
   records = records_of j.apart.items j.bytes.items j.stored.items;
-  entry_room = min (vec_capacity j.stored - vec_len j.stored) (vec_capacity j.apart - vec_len j.apart);
+  entry_room = min (vec_capacity j.stored - vec_len j.stored)
+      (vec_capacity j.apart - vec_len j.apart);
   byte_room = vec_capacity j.bytes - vec_len j.bytes;
 }
 
@@ -85,4 +98,5 @@ LiesIn apart bytes s = (s.start ≤ s.end) × (s.end ≤ length bytes) × (needs
 -- Each entry can be read, and the bytes are exactly those of the payloads.
 pub record IsStored (j : Inside) : Type 0 where
   pub entries : All (LiesIn j.apart.items j.bytes.items) j.stored.items
-  pub total : payload_bytes (records_of j.apart.items j.bytes.items j.stored.items) ≡ vec_len j.bytes
+  pub total : payload_bytes (records_of j.apart.items j.bytes.items j.stored.items) ≡
+      vec_len j.bytes

@@ -1,4 +1,5 @@
--- Which callers are threads of one process. A journal has the number of the caller of each call. The
+-- Which callers are threads of one process. A journal has the number of the caller of each call.
+-- The
 -- callers 1 to 32 are the first threads of the processes 1 to 32, and caller o + 32 * t is another
 -- thread of process o. A thread has its own open wait. Descriptors, registrations and notices are
 -- those of its process.

@@ -47,7 +47,8 @@ abbrev pub answered_by : Past → Process → Option Place
 answered_by [] p = None
 answered_by (r ∷ past) p =
     if r.entry.process == p then None
-    else (if names_wait r.entry.reply (open_wait past p) then Some (length past) else answered_by past p)
+    else (if names_wait r.entry.reply (open_wait past p) then Some (length past) else
+    answered_by past p)
 
 -- the caller has an open wait that a later entry serves
 abbrev pub is_answered : Past → Process → Bool
@@ -59,5 +60,7 @@ are_of_others p more = list_all (λ r. not (r.entry.process == p)) more
 
 -- Records of other callers leave an open wait open, and an answered one answered.
 pub record OthersLeave (past : Past) (p : Process) : Type 0 where
-  pub wait : (more : List Record) → are_of_others p more ≡ true → open_wait (more ++ past) p ≡ open_wait past p
-  pub answered : (more : List Record) → are_of_others p more ≡ true → is_answered past p ≡ true → is_answered (more ++ past) p ≡ true
+  pub wait : (more : List Record) → are_of_others p more ≡ true → open_wait (more ++ past) p ≡
+      open_wait past p
+  pub answered : (more : List Record) → are_of_others p more ≡ true → is_answered past p ≡ true →
+      is_answered (more ++ past) p ≡ true

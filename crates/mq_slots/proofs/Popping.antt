@@ -21,10 +21,13 @@ pub record IsPop (cells : List Cell) (levels : List Level) (free count room : �
   pub sound : IsSound cells levels free count room
   pub some : count + 1 ≢ length cells
 
-pub pop-first : (cells : List Cell) (levels : List Level) (free count room : ℕ) → IsPop cells levels free count room → IsFirst (length cells) (prio_at cells) (place_at cells) (next_at cells 0)
+pub pop-first : (cells : List Cell) (levels : List Level) (free count room : ℕ) →
+    IsPop cells levels free count room → IsFirst (length cells) (prio_at cells) (place_at cells)
+    (next_at cells 0)
 pop-first cells levels free count room pop = grind (arith, some-used, head-first)
 
-pub pop-apart : (cells : List Cell) (levels : List Level) (free count room : ℕ) → IsPop cells levels free count room → 0 ≢ next_at cells 0
+pub pop-apart : (cells : List Cell) (levels : List Level) (free count room : ℕ) →
+    IsPop cells levels free count room → 0 ≢ next_at cells 0
 pop-apart cells levels free count room pop e =
     let first = pop-first cells levels free count room pop in
     let used = first.used in
@@ -33,29 +36,43 @@ pop-apart cells levels free count room pop e =
     let same : prio_at cells 0 ≡ prio_at cells (next_at cells 0) = ap (prio_at cells) e in
     omega arith
 
-pop-unlinked : (cells : List Cell) (levels : List Level) (free count room : ℕ) → IsPop cells levels free count room
-    → (let cells' = unlinked cells (next_at cells 0) free count in Unlinked (prio_at cells) (place_at cells) (next_at cells) (prio_at cells') (place_at cells') (next_at cells') (next_at cells 0) free count)
+pop-unlinked : (cells : List Cell) (levels : List Level) (free count room : ℕ) →
+    IsPop cells levels free count room
+    → (let cells' = unlinked cells (next_at cells 0) free count in Unlinked (prio_at cells)
+    (place_at cells) (next_at cells) (prio_at cells') (place_at cells') (next_at cells')
+    (next_at cells 0) free count)
 pop-unlinked cells levels free count room pop =
-    unlinked-cells cells (next_at cells 0) free count pop.sound.chained.there (pop-first cells levels free count room pop).within (pop-apart cells levels free count room pop)
+    unlinked-cells cells (next_at cells 0) free count pop.sound.chained.there
+    (pop-first cells levels free count room pop).within
+    (pop-apart cells levels free count room pop)
 
-pop-slots : (cells : List Cell) (first free count : ℕ) → length (unlinked cells first free count) ≡ length cells
+pop-slots : (cells : List Cell) (first free count : ℕ) → length (unlinked cells first free count) ≡
+    length cells
 pop-slots cells first free count = length-set _ first _ ∙ length-set cells 0 _
 
-pop-levelled : (cells : List Cell) (levels : List Level) (free count room : ℕ) → IsPop cells levels free count room
-    → (p' t' nx' : ℕ → ℕ) → Unlinked (prio_at cells) (place_at cells) (next_at cells) p' t' nx' (next_at cells 0) free count
-    → IsLevelled (length cells) p' t' (length (dropped levels (next_at cells 0))) (level_prio (dropped levels (next_at cells 0))) (level_last (dropped levels (next_at cells 0)))
+pop-levelled : (cells : List Cell) (levels : List Level) (free count room : ℕ) →
+    IsPop cells levels free count room
+    → (p' t' nx' : ℕ → ℕ) → Unlinked (prio_at cells) (place_at cells) (next_at cells) p' t' nx'
+    (next_at cells 0) free count
+    → IsLevelled (length cells) p' t' (length (dropped levels (next_at cells 0)))
+    (level_prio (dropped levels (next_at cells 0)))
+    (level_last (dropped levels (next_at cells 0)))
 pop-levelled cells levels free count room pop p' t' nx' step =
     let sound = pop.sound in
     let best = pop-first cells levels free count room pop in
     let top = length levels - 1 in
-    let stay : (0 < length levels → level_last levels (length levels - 1) ≢ next_at cells 0) → IsLevelled (length cells) p' t' (length levels) (level_prio levels) (level_last levels) = λ other.
-    dropped-not (length cells) _ _ _ _ _ _ (length levels) _ _ (next_at cells 0) free count sound.chained sound.levelled best step other in
+    let stay : (0 < length levels → level_last levels (length levels - 1) ≢ next_at cells 0) →
+    IsLevelled (length cells) p' t' (length levels) (level_prio levels) (level_last levels) =
+    λ other.
+    dropped-not (length cells) _ _ _ _ _ _ (length levels) _ _ (next_at cells 0) free count
+    sound.chained sound.levelled best step other in
     elim (cases_lt 0 (length levels)) [
       | inl h ↦ elim (cases_Bool ((level_at levels top).last == next_at cells 0)) [
         | inl e ↦ (
             let is : level_last levels top ≡ next_at cells 0 = eqb-true _ _ e in
             rw (lt-ltb 0 (length levels) h, e, length-take-le top levels (omega arith))
-            (dropped-top (length cells) _ _ _ _ _ _ (length levels) _ _ _ _ (next_at cells 0) free count sound.chained sound.levelled best step h is
+            (dropped-top (length cells) _ _ _ _ _ _ (length levels) _ _ _ _ (next_at cells 0) free
+            count sound.chained sound.levelled best step h is
             (λ k kl. ap (λ (l : Level). l.prio) (get_or-take top levels k no_level kl))
             (λ k kl. ap (λ (l : Level). l.last) (get_or-take top levels k no_level kl))))
         | inr e ↦ rw (lt-ltb 0 (length levels) h, e) (stay (λ _ same. eqb-false _ _ e same))
@@ -63,20 +80,27 @@ pop-levelled cells levels free count room pop p' t' nx' step =
       | inr h ↦ rw (le-ltb 0 (length levels) h) (stay (λ some same. omega arith))
     ]
 
-pub popped-count : (cells : List Cell) (levels : List Level) (free count room : ℕ) → IsPop cells levels free count room → length (messages (unlinked cells (next_at cells 0) free count)) + 1 ≡ length (messages cells)
+pub popped-count : (cells : List Cell) (levels : List Level) (free count room : ℕ) →
+    IsPop cells levels free count room →
+    length (messages (unlinked cells (next_at cells 0) free count)) + 1 ≡ length (messages cells)
 popped-count cells levels free count room pop =
     let first = next_at cells 0 in
     let best = pop-first cells levels free count room pop in
     let relinked = slice_set cells 0 (record (cell_at cells 0) { next = next_at cells first }) in
     let apart : first ≢ 0 = λ e. pop-apart cells levels free count room pop (sym e) in
-    let kept_p : prio_at relinked first ≡ prio_at cells first = ap (λ (c : Cell). c.prio) (get_or-set_other cells 0 first _ _ apart) in
+    let kept_p : prio_at relinked first ≡ prio_at cells first = ap (λ (c : Cell). c.prio)
+    (get_or-set_other cells 0 first _ _ apart) in
     let used = best.used in
-    let within : first < length relinked = subst (λ x. first < x) (sym (length-set cells 0 _)) best.within in
-    length-emptied relinked first (record { prio = 32769; place = count + 1; next = free }) within (omega arith) (omega arith)
+    let within : first < length relinked = subst (λ x. first < x)
+    (sym (length-set cells 0 _)) best.within in
+    length-emptied relinked first (record { prio = 32769; place = count + 1; next = free }) within
+    (omega arith) (omega arith)
     ∙ ap (λ (ms : List (ℕ × ℕ)). length ms) (messages-relinked cells 0 (next_at cells first))
 
-pub popped-sound : (cells : List Cell) (levels : List Level) (free count room room' : ℕ) → IsPop cells levels free count room → room ≤ room'
-    → IsSound (unlinked cells (next_at cells 0) free count) (dropped levels (next_at cells 0)) (next_at cells 0) (count + 1) room'
+pub popped-sound : (cells : List Cell) (levels : List Level) (free count room room' : ℕ) →
+    IsPop cells levels free count room → room ≤ room'
+    → IsSound (unlinked cells (next_at cells 0) free count) (dropped levels (next_at cells 0))
+    (next_at cells 0) (count + 1) room'
 popped-sound cells levels free count room room' pop more =
     let sound = pop.sound in
     let best = pop-first cells levels free count room pop in
@@ -88,16 +112,23 @@ popped-sound cells levels free count room room' pop more =
     let few = sound.few in
     let roomy = sound.roomy in
     record {
-      chained = chained_at _ _ slots _ _ _ (unlinked-chained (length cells) _ _ _ _ _ _ (next_at cells 0) free count sound.chained best step (omega arith));
-      freed = freed_at _ _ slots _ _ _ _ _ (unlinked-freed (length cells) _ _ _ _ _ _ (next_at cells 0) free count sound.freed best sound.chained.head step);
-      levelled = levelled_at _ _ slots _ _ _ _ _ (pop-levelled cells levels free count room pop _ _ _ step);
+      chained = chained_at _ _ slots _ _ _ (unlinked-chained (length cells) _ _ _ _ _ _
+          (next_at cells 0) free count sound.chained best step (omega arith));
+      freed = freed_at _ _ slots _ _ _ _ _ (unlinked-freed (length cells) _ _ _ _ _ _
+          (next_at cells 0) free count sound.freed best sound.chained.head step);
+      levelled = levelled_at _ _ slots _ _ _ _ _ (pop-levelled cells levels free count room
+          pop _ _ _ step);
       counted = omega arith;
       few = omega arith;
       roomy = omega arith;
     }
 
 -- the first slot's message is the best
-pub popped-best : (cells : List Cell) (levels : List Level) (free count room : ℕ) → IsPop cells levels free count room → IsBest (messages cells) (prio_at cells (next_at cells 0), place_at cells (next_at cells 0))
+pub popped-best : (cells : List Cell) (levels : List Level) (free count room : ℕ) →
+    IsPop cells levels free count room → IsBest (messages cells) (
+      prio_at cells (next_at cells 0),
+      place_at cells (next_at cells 0),
+    )
 popped-best cells levels free count room pop =
     let first = next_at cells 0 in
     let sound = pop.sound in
@@ -107,11 +138,16 @@ popped-best cells levels free count room pop =
       there = cell-present cells first best.within best.used;
       first = λ other there unlike. (
           let h = present-cell cells other there in
-          let apart : h.at ≢ first = λ e. unlike (h.is ∙ same_pair _ _ _ _ (ap (prio_at cells) e) (ap (place_at cells) e)) in
-          let order = first-before (length cells) _ _ _ first chained best h.at h.within h.used apart in
+          let apart : h.at ≢ first = λ e. unlike (h.is ∙ same_pair _ _ _ _ (ap (prio_at cells) e)
+          (ap (place_at cells) e)) in
+          let order = first-before (length cells) _ _ _ first chained best h.at
+          h.within h.used apart in
           let bound = chained.places h.at h.within in
           let bound_first = chained.places first best.within in
-          let goes : GoesFirst (prio_at cells first, place_at cells first) (prio_at cells h.at, place_at cells h.at) =
+          let goes : GoesFirst (prio_at cells first, place_at cells first) (
+            prio_at cells h.at,
+            place_at cells h.at,
+          ) =
           elim (cases_lt (prio_at cells h.at) (prio_at cells first)) [
             | inl less ↦ inl less
             | inr more ↦ inr (omega arith, omega arith)
@@ -120,8 +156,11 @@ popped-best cells levels free count room pop =
     }
 
 -- a message is there still exactly if it was there and is another one
-pub popped-messages : (cells : List Cell) (levels : List Level) (free count room : ℕ) → IsPop cells levels free count room
-    → (m : ℕ × ℕ) → Contains (messages (unlinked cells (next_at cells 0) free count)) m ↔ (Contains (messages cells) m × (m ≢ (prio_at cells (next_at cells 0), place_at cells (next_at cells 0))))
+pub popped-messages : (cells : List Cell) (levels : List Level) (free count room : ℕ) →
+    IsPop cells levels free count room
+    → (m : ℕ × ℕ) → Contains (messages (unlinked cells (next_at cells 0) free count)) m ↔
+    (Contains (messages cells) m ×
+    (m ≢ (prio_at cells (next_at cells 0), place_at cells (next_at cells 0))))
 popped-messages cells levels free count room pop m =
     let first = next_at cells 0 in
     let cells' = unlinked cells first free count in
@@ -134,19 +173,33 @@ popped-messages cells levels free count room pop m =
           let h = present-cell cells' m there in
           let within = h.within in
           let used = h.used in
-          let apart : h.at ≢ first = λ e. (let same : prio_at cells' h.at ≡ prio_at cells' first = ap (prio_at cells') e in omega arith) in
+          let apart : h.at ≢ first = λ e. (let same : prio_at cells' h.at ≡ prio_at cells' first =
+          ap (prio_at cells') e in omega arith) in
           let kept_p : prio_at cells' h.at ≡ prio_at cells h.at = step.kept_p h.at apart in
           let kept_t : place_at cells' h.at ≡ place_at cells h.at = step.kept_t h.at apart in
-          let is : m ≡ (prio_at cells h.at, place_at cells h.at) = h.is ∙ same_pair _ _ _ _ kept_p kept_t in (
-            has-present cells m (record { at = h.at; within = omega arith; used = omega arith; is = is }),
-            λ e. apart (chained.distinct h.at first (omega arith) best.within (omega arith) best.used (ap (λ (x : ℕ × ℕ). x.1) (sym is ∙ e))),
+          let is : m ≡ (prio_at cells h.at, place_at cells h.at) =
+          h.is ∙ same_pair _ _ _ _ kept_p kept_t in (
+            has-present cells m (record {
+              at = h.at;
+              within = omega arith;
+              used = omega arith;
+              is = is;
+            }),
+            λ e. apart (chained.distinct h.at first (omega arith) best.within (omega arith)
+                best.used (ap (λ (x : ℕ × ℕ). x.1) (sym is ∙ e))),
           )),
       λ both. (
           let h = present-cell cells m both.0 in
           let within = h.within in
           let used = h.used in
-          let apart : h.at ≢ first = λ e. both.1 (h.is ∙ same_pair _ _ _ _ (ap (prio_at cells) e) (ap (place_at cells) e)) in
+          let apart : h.at ≢ first = λ e. both.1 (h.is ∙ same_pair _ _ _ _ (ap (prio_at cells) e)
+          (ap (place_at cells) e)) in
           let kept_p : prio_at cells' h.at ≡ prio_at cells h.at = step.kept_p h.at apart in
           let kept_t : place_at cells' h.at ≡ place_at cells h.at = step.kept_t h.at apart in
-          has-present cells' m (record { at = h.at; within = omega arith; used = omega arith; is = h.is ∙ sym (same_pair _ _ _ _ kept_p kept_t) })),
+          has-present cells' m (record {
+            at = h.at;
+            within = omega arith;
+            used = omega arith;
+            is = h.is ∙ sym (same_pair _ _ _ _ kept_p kept_t);
+          })),
     )

@@ -11,5 +11,7 @@ record StaysSpare (n : ℕ) (p t p' t' : ℕ → ℕ) (nx nx' : ℕ → ℕ) (ne
   pub same_nx : nx' i ≡ nx i
   pub less : t i < t new
 
-pub linked-freed : (n : ℕ) (p t nx p' t' nx' : ℕ → ℕ) (before new q s count : ℕ) → IsFreed n p t nx new count → Linked p t nx p' t' nx' before new q s → IsNew n p t new q s → p before ≤ 32768 → 0 < count → IsFreed n p' t' nx' (nx new) (count - 1)
+pub linked-freed : (n : ℕ) (p t nx p' t' nx' : ℕ → ℕ) (before new q s count : ℕ) →
+    IsFreed n p t nx new count → Linked p t nx p' t' nx' before new q s → IsNew n p t new q s →
+    p before ≤ 32768 → 0 < count → IsFreed n p' t' nx' (nx new) (count - 1)
 linked-freed n p t nx p' t' nx' before new q s count old step fresh chained some = grind arith

@@ -24,7 +24,8 @@ pub record IsChained (n : ℕ) (p t nx : ℕ → ℕ) : Type 0 where
   pub only : (i : ℕ) → i < n → p i ≡ 32768 → i ≡ 0
   pub places : (i : ℕ) → i < n → t i < span
   pub distinct : (i j : ℕ) → i < n → j < n → p i < 32768 → p j < 32768 → t i ≡ t j → i ≡ j
-  pub next : (i j : ℕ) → i < n → j < n → p i ≤ 32768 → p j < 32768 → t i + span * p j < t j + span * p i → IsNext n p t i j (nx i)
+  pub next : (i j : ℕ) → i < n → j < n → p i ≤ 32768 → p j < 32768 →
+      t i + span * p j < t j + span * p i → IsNext n p t i j (nx i)
 
 -- The spare slots form a list of `count` slots from `free` on. Each has the number of spare slots
 -- from it on.

@@ -11,7 +11,8 @@ level_at levels k = slice_index_or levels k no_level
 
 -- each level has a higher priority than those before it
 pub record IsRising (levels : List Level) : Type 0 where
-  pub rising : (a b : ℕ) → a < b → b < length levels → (level_at levels a).prio < (level_at levels b).prio
+  pub rising : (a b : ℕ) → a < b → b < length levels →
+      (level_at levels a).prio < (level_at levels b).prio
 
 -- the last slot of the level with this index, or the head of the list if there is none
 abbrev pub last_from : List Level → ℕ → ℕ

@@ -11,7 +11,8 @@ placed m (x ∷ xs) = if nat_lt x.1 m.1 then m ∷ x ∷ xs else x ∷ placed m 
 -- the messages in these slots, the latest first
 abbrev pub messages : List Cell → List (ℕ × ℕ)
 messages [] = []
-messages (c ∷ cells) = if nat_lt c.prio 32768 then placed (c.prio, c.place) (messages cells) else messages cells
+messages (c ∷ cells) = if nat_lt c.prio 32768 then placed (c.prio, c.place) (messages cells)
+    else messages cells
 
 -- the messages with another sequence number
 abbrev pub without : ℕ → List (ℕ × ℕ) → List (ℕ × ℕ)

@@ -28,7 +28,8 @@ level_last levels k = (level_at levels k).last
 pub record IsSound (cells : List Cell) (levels : List Level) (free count room : ℕ) : Type 0 where
   pub chained : IsChained (length cells) (prio_at cells) (place_at cells) (next_at cells)
   pub freed : IsFreed (length cells) (prio_at cells) (place_at cells) (next_at cells) free count
-  pub levelled : IsLevelled (length cells) (prio_at cells) (place_at cells) (length levels) (level_prio levels) (level_last levels)
+  pub levelled : IsLevelled (length cells) (prio_at cells) (place_at cells) (length levels)
+      (level_prio levels) (level_last levels)
   pub counted : length (messages cells) + count + 1 ≡ length cells
   pub few : length cells ≤ 4097
   pub roomy : length cells ≤ room + 1

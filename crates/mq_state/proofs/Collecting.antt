@@ -6,5 +6,6 @@ use Rattle.mq_model.specs.Legality.{Legal}
 use Rattle.mq_state.specs.Buffers.{waiting_call, room_of, FitsOutcome}
 use Rattle.mq_state.proofs.Fitting.{handed-fits}
 
-pub collect-fits : (past : Past) → Legal past → (p b len : ℕ) → answered_by past p ≡ Some b → room_of (waiting_call past p) ≤ len → FitsOutcome past (waiting_call past p) b len
+pub collect-fits : (past : Past) → Legal past → (p b len : ℕ) → answered_by past p ≡ Some b →
+    room_of (waiting_call past p) ≤ len → FitsOutcome past (waiting_call past p) b len
 collect-fits past legal p b len answered roomy receives = grind (arith, handed-fits)

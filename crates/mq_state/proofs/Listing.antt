@@ -14,10 +14,12 @@ use Rattle.mq_state.proofs.QueuesKeep.{reverse-cons}
 abbrev pub place : QueueShown → ℕ
 place x = x.place
 
-pub places-none : (queues : List QueueShown) (i : ℕ) → length queues ≤ i → [] ≡ reverse (map place (drop i queues))
+pub places-none : (queues : List QueueShown) (i : ℕ) → length queues ≤ i →
+    [] ≡ reverse (map place (drop i queues))
 places-none queues i all = ap (λ xs. reverse (map place xs)) (sym (drop_all i queues all))
 
-pub places-more : (queues : List QueueShown) (d : QueueShown) (found : List ℕ) (i : ℕ) → found ≡ reverse (map place (drop (i + 1) queues)) → i < length queues →
+pub places-more : (queues : List QueueShown) (d : QueueShown) (found : List ℕ) (i : ℕ) →
+    found ≡ reverse (map place (drop (i + 1) queues)) → i < length queues →
     found ++ (get_or queues i d).place ∷ [] ≡ reverse (map place (drop i queues))
 places-more queues d found i is lt = grind (arith, common_steps, add-one, drop-cons, reverse-cons)
 
@@ -25,7 +27,9 @@ places-slots : (past : Past) (xs : List ℕ) → map (λ m. m.1) (slots_of past 
 places-slots past [] = refl
 places-slots past (x ∷ xs) = ap (λ rest. x ∷ rest) (places-slots past xs)
 
-pub messages-read : (past : Past) (queues : List QueueShown) → QueuesMirror past queues → (q : ℕ) → is_in (alive past) q ≡ true → map (λ m. m.1) (slots_in queues q) ≡ present past q
-messages-read past queues m q h = ap (λ xs. map (λ m. m.1) xs) (slots-read past queues m q h) ∙ places-slots past (present past q)
+pub messages-read : (past : Past) (queues : List QueueShown) → QueuesMirror past queues → (q : ℕ) →
+    is_in (alive past) q ≡ true → map (λ m. m.1) (slots_in queues q) ≡ present past q
+messages-read past queues m q h = ap (λ xs. map (λ m. m.1) xs) (slots-read past queues m q h) ∙
+    places-slots past (present past q)
 
 pub ruleset listing = (places-none, places-more)

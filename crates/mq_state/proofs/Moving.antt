@@ -22,7 +22,10 @@ use Rattle.mq_model.proofs.Presence.{GotFacts}
 use Rattle.mq_state.specs.Tables.{entry_queue}
 
 abbrev pub rec : ℕ → Call → Reply → List ℕ → Record
-rec p call reply payload = record { entry = record { process = p; call = call; reply = reply }; payload = payload }
+rec p call reply payload = record {
+  entry = record { process = p; call = call; reply = reply };
+  payload = payload;
+}
 
 -- a send queued its message
 pub record QueuedOn (past : Past) (p : ℕ) (call : Call) (n : Option ℕ) (q : ℕ) : Type 0 where
@@ -39,7 +42,8 @@ pub record GotOn (past : Past) (p : ℕ) (call : Call) (m : ℕ) (a n : Option �
   pub facts : GotFacts past q m a
   pub notifies : (k : ℕ) → n ≡ Some k → registered_place past q ≡ Some k
 
-pub record OpenedOn (past : Past) (p : ℕ) (call : Call) (payload : List ℕ) (d : ℕ) (created : Bool) (q : ℕ) : Type 0 where
+pub record OpenedOn (past : Past) (p : ℕ) (call : Call) (payload : List ℕ) (d : ℕ) (created : Bool)
+    (q : ℕ) : Type 0 where
   pub flags : OpenFlags
   pub attr : Option Attr
   pub is : call ≡ MqOpen flags attr
@@ -59,19 +63,31 @@ EntryOn past p call payload (Got m a n) q = GotOn past p call m a n q
 EntryOn past p call payload Done q = DoneOn past p call payload q
 EntryOn past p call payload reply q = Unit {0}
 
-opened : (past : Past) (p : ℕ) (flags : OpenFlags) (attr : Option Attr) (payload : List ℕ) (reply : Reply) → reply ≡ reply_to past p (MqOpen flags attr) payload → OpenReply reply → EntryOn past p (MqOpen flags attr) payload reply (entry_queue past p (MqOpen flags attr) payload)
+opened : (past : Past) (p : ℕ) (flags : OpenFlags) (attr : Option Attr) (payload : List ℕ)
+    (reply : Reply) → reply ≡ reply_to past p (MqOpen flags attr) payload → OpenReply reply →
+    EntryOn past p (MqOpen flags attr) payload reply
+    (entry_queue past p (MqOpen flags attr) payload)
 opened past p flags attr payload reply is says = search rules
 
-pub entry-on : (past : Past) (p : ℕ) (call : Call) (reply : Reply) (payload : List ℕ) → IsLegalNext past (rec p call reply payload) → EntryOn past p call payload reply (entry_queue past p call payload)
-entry-on past p call reply payload next = grind (arith, legal_says past (rec p call reply payload) next, opened, find-in)
+pub entry-on : (past : Past) (p : ℕ) (call : Call) (reply : Reply) (payload : List ℕ) →
+    IsLegalNext past (rec p call reply payload) →
+    EntryOn past p call payload reply (entry_queue past p call payload)
+entry-on past p call reply payload next =
+    grind (arith, legal_says past (rec p call reply payload) next, opened, find-in)
 
-pub entry-queue : (past : Past) (p : ℕ) (call : Call) (reply : Reply) (payload : List ℕ) (q : ℕ) → EntryOn past p call payload reply q → EntryQueue past p call payload reply q
+pub entry-queue : (past : Past) (p : ℕ) (call : Call) (reply : Reply) (payload : List ℕ) (q : ℕ) →
+    EntryOn past p call payload reply q → EntryQueue past p call payload reply q
 entry-queue past p call reply payload q on = search rules
 
 -- a reply that notifies was made on a queue that exists
-pub notifies-alive : (past : Past) → Legal past → (p : ℕ) (call : Call) (reply : Reply) (payload : List ℕ) (q : ℕ) → EntryOn past p call payload reply q → is_some (notified reply) ≡ true → is_in (alive past) q ≡ true
-notifies-alive past legal p call reply payload q on e = grind (arith, called-alive past legal p call q)
+pub notifies-alive : (past : Past) → Legal past → (p : ℕ) (call : Call) (reply : Reply)
+    (payload : List ℕ) (q : ℕ) → EntryOn past p call payload reply q → is_some (notified reply) ≡
+    true → is_in (alive past) q ≡ true
+notifies-alive past legal p call reply payload q on e =
+    grind (arith, called-alive past legal p call q)
 
 -- the registration that it notifies is on the queue
-pub notifies-registered : (past : Past) (p : ℕ) (call : Call) (reply : Reply) (payload : List ℕ) (q : ℕ) → EntryOn past p call payload reply q → (k : ℕ) → notified reply ≡ Some k → registered_place past q ≡ Some k
+pub notifies-registered : (past : Past) (p : ℕ) (call : Call) (reply : Reply) (payload : List ℕ)
+    (q : ℕ) → EntryOn past p call payload reply q → (k : ℕ) → notified reply ≡ Some k →
+    registered_place past q ≡ Some k
 notifies-registered past p call reply payload q on k e = search rules

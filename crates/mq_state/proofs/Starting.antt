@@ -14,7 +14,10 @@ use Rattle.mq_state.specs.Tables.{TablesMirror, last_process}
 use Rattle.mq_state.proofs.CallersOf.{last-few}
 use Rattle.mq_state.specs.WaitCounts.{KnowWaits}
 
-pub mirrors-new : (n : ℕ) (owners : List Owner) (callers : List Caller) (inboxes : List InboxShown) → owners ≡ replicate (last_process n + 1) free_owner → callers ≡ replicate (n + 1) free_caller → length inboxes ≡ last_process n + 1 → ((k : ℕ) → notices_in inboxes k ≡ []) → TablesMirror [] n owners callers [] inboxes
+pub mirrors-new : (n : ℕ) (owners : List Owner) (callers : List Caller)
+    (inboxes : List InboxShown) → owners ≡ replicate (last_process n + 1) free_owner →
+    callers ≡ replicate (n + 1) free_caller → length inboxes ≡ last_process n + 1 →
+    ((k : ℕ) → notices_in inboxes k ≡ []) → TablesMirror [] n owners callers [] inboxes
 unfolding queue_in
 mirrors-new n owners callers inboxes is are count none = record {
   owner_count = rw is (length-replicate (last_process n + 1) free_owner);

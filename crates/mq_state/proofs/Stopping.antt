@@ -9,9 +9,16 @@ use Rattle.mq_model.specs.declared.entries.Call.TheVariants.{MqClose, Collect, W
 use Rattle.mq_state.specs.Room.{can_make, can_call}
 
 -- such a process can make none
-pub can_make-none : (bounds : Option Bounds) (past : Past) (p : ℕ) → can_call bounds past p ≡ false → (call : Call) (given : List ℕ) → can_make bounds past p call given ≡ false
+pub can_make-none : (bounds : Option Bounds) (past : Past) (p : ℕ) → can_call bounds past p ≡
+    false → (call : Call) (given : List ℕ) → can_make bounds past p call given ≡ false
 can_make-none bounds past p is call given = grind (arith, nat_tests)
 
 -- any other can make one
-pub can_make-some : (bounds : Option Bounds) (past : Past) (p : ℕ) → can_call bounds past p ≡ true → ((call : Call) (given : List ℕ) → can_make bounds past p call given ≡ false) → ⊥
-can_make-some bounds past p is none = grind (arith, none Collect [], none (MqClose 0) [], none (Withdraw (unwrap_or (wait_deadline past p) (record { sec = pos 0; nsec = pos 0 }))) [])
+pub can_make-some : (bounds : Option Bounds) (past : Past) (p : ℕ) → can_call bounds past p ≡ true →
+    ((call : Call) (given : List ℕ) → can_make bounds past p call given ≡ false) → ⊥
+can_make-some bounds past p is none = grind (
+  arith,
+  none Collect [],
+  none (MqClose 0) [],
+  none (Withdraw (unwrap_or (wait_deadline past p) (record { sec = pos 0; nsec = pos 0 }))) [],
+)

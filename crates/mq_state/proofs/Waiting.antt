@@ -17,17 +17,25 @@ use Rattle.mq_model.proofs.Places.{split, is_in-filter}
 use Rattle.mq_model.proofs.Waiters.{ended_waits, waiting-filter}
 use Rattle.mq_state.specs.Waiting.{IsLastWait, later}
 
--- the greatest place below a bound, among the first callers --------------------------------------------------------------
+-- the greatest place below a bound, among the first callers ---------------------------------------
 
 abbrev pub IsLastBelow : List Caller → ℕ → WaitKind → ℕ → ℕ → Option ℕ → Type 0
-IsLastBelow callers q kind bound i None = (k w : ℕ) → k < i → pending_in callers k q kind ≡ Some w → bound ≤ w
+IsLastBelow callers q kind bound i None = (k w : ℕ) → k < i → pending_in callers k q kind ≡ Some w →
+    bound ≤ w
 IsLastBelow callers q kind bound i (Some v) =
-    (v < bound) × ((k : ℕ) × (pending_in callers k q kind ≡ Some v)) × ((k w : ℕ) → k < i → pending_in callers k q kind ≡ Some w → w < bound → w ≤ v)
+    (v < bound) × ((k : ℕ) × (pending_in callers k q kind ≡ Some v)) ×
+    ((k w : ℕ) → k < i → pending_in callers k q kind ≡ Some w → w < bound → w ≤ v)
 
-newest : (callers : List Caller) (q : ℕ) (kind : WaitKind) (i k : ℕ) (new : Option ℕ) (v : ℕ) → new ≡ pending_in callers i q kind → i ≤ k → k < i + 1 → pending_in callers k q kind ≡ Some v → new ≡ Some v
-newest callers q kind i k new v is le lt e = let same : i ≡ k = omega (arith, le, lt) in is ∙ ap (λ j. pending_in callers j q kind) same ∙ e
+newest : (callers : List Caller) (q : ℕ) (kind : WaitKind) (i k : ℕ) (new : Option ℕ) (v : ℕ) →
+    new ≡ pending_in callers i q kind → i ≤ k → k < i + 1 → pending_in callers k q kind ≡ Some v →
+    new ≡ Some v
+newest callers q kind i k new v is le lt e = let same : i ≡ k = omega (arith, le, lt) in is ∙
+    ap (λ j. pending_in callers j q kind) same ∙ e
 
-pub last-more : (callers : List Caller) (q : ℕ) (kind : WaitKind) (bound i : ℕ) (last new : Option ℕ) → IsLastBelow callers q kind bound i last → new ≡ pending_in callers i q kind → IsLastBelow callers q kind bound (i + 1) (later last new bound)
+pub last-more : (callers : List Caller) (q : ℕ) (kind : WaitKind) (bound i : ℕ)
+    (last new : Option ℕ) → IsLastBelow callers q kind bound i last →
+    new ≡ pending_in callers i q kind → IsLastBelow callers q kind bound (i + 1)
+    (later last new bound)
 last-more callers q kind bound i None None before is = λ k v lt e. elim (cases_lt k i) [
   | inl g ↦ before k v g e
   | inr g ↦ absurd (let bad = newest callers q kind i k None v is g lt e in cc)
@@ -46,12 +54,14 @@ last-more callers q kind bound i None (Some w) before is = elim (cases_lt w boun
     (i, sym is),
     λ k v lt e c. elim (cases_lt k i) [
       | inl g ↦ let le = before k v g e in absurd (omega (arith, le, c))
-      | inr g ↦ let same : w ≡ v = let some = newest callers q kind i k (Some w) v is g lt e in cc in omega (arith, same)
+      | inr g ↦ let same : w ≡ v = let some = newest callers q kind i k (Some w) v is g lt e in
+          cc in omega (arith, same)
     ],
   )
   | inr b ↦ rw (le-ltb w bound b) (λ k v lt e. elim (cases_lt k i) [
     | inl g ↦ before k v g e
-    | inr g ↦ let same : w ≡ v = let some = newest callers q kind i k (Some w) v is g lt e in cc in omega (arith, same, b)
+    | inr g ↦ let same : w ≡ v = let some = newest callers q kind i k (Some w) v is g lt e in cc in
+        omega (arith, same, b)
   ])
 ]
 last-more callers q kind bound i (Some u) (Some w) before is = elim (cases_lt u w) [
@@ -61,7 +71,8 @@ last-more callers q kind bound i (Some u) (Some w) before is = elim (cases_lt u 
       (i, sym is),
       λ k v lt e c. elim (cases_lt k i) [
         | inl g ↦ let le = before.2 k v g e c in omega (arith, le, a)
-        | inr g ↦ let same : w ≡ v = let some = newest callers q kind i k (Some w) v is g lt e in cc in omega (arith, same)
+        | inr g ↦ let same : w ≡ v = let some = newest callers q kind i k (Some w) v is g lt e in
+            cc in omega (arith, same)
       ],
     )
     | inr b ↦ rw (lt-ltb u w a, le-ltb w bound b) (
@@ -69,7 +80,8 @@ last-more callers q kind bound i (Some u) (Some w) before is = elim (cases_lt u 
       before.1,
       λ k v lt e c. elim (cases_lt k i) [
         | inl g ↦ before.2 k v g e c
-        | inr g ↦ let same : w ≡ v = let some = newest callers q kind i k (Some w) v is g lt e in cc in absurd (omega (arith, same, b, c))
+        | inr g ↦ let same : w ≡ v = let some = newest callers q kind i k (Some w) v is g lt e in
+            cc in absurd (omega (arith, same, b, c))
       ],
     )
   ]
@@ -78,23 +90,30 @@ last-more callers q kind bound i (Some u) (Some w) before is = elim (cases_lt u 
     before.1,
     λ k v lt e c. elim (cases_lt k i) [
       | inl g ↦ before.2 k v g e c
-      | inr g ↦ let same : w ≡ v = let some = newest callers q kind i k (Some w) v is g lt e in cc in omega (arith, same, a)
+      | inr g ↦ let same : w ≡ v = let some = newest callers q kind i k (Some w) v is g lt e in
+          cc in omega (arith, same, a)
     ],
   )
 ]
 
 -- no caller past the end of the table waits
-none-past : (callers : List Caller) (q : ℕ) (kind : WaitKind) (i k w : ℕ) → length callers ≤ i → i ≤ k → pending_in callers k q kind ≡ Some w → ⊥
-none-past callers q kind i k w all le is = let none : None ≡ Some w = sym (pending_in-past callers k q kind (omega (arith, all, le))) ∙ is in cc
+none-past : (callers : List Caller) (q : ℕ) (kind : WaitKind) (i k w : ℕ) → length callers ≤ i →
+    i ≤ k → pending_in callers k q kind ≡ Some w → ⊥
+none-past callers q kind i k w all le is = let none : None ≡ Some w =
+    sym (pending_in-past callers k q kind (omega (arith, all, le))) ∙ is in cc
 
-pub last-none : (callers : List Caller) (q : ℕ) (kind : WaitKind) (bound i : ℕ) (o : Option ℕ) → IsLastBelow callers q kind bound i o → length callers ≤ i → o ≡ None → (p w : ℕ) → pending_in callers p q kind ≡ Some w → bound ≤ w
+pub last-none : (callers : List Caller) (q : ℕ) (kind : WaitKind) (bound i : ℕ) (o : Option ℕ) →
+    IsLastBelow callers q kind bound i o → length callers ≤ i → o ≡ None → (p w : ℕ) →
+    pending_in callers p q kind ≡ Some w → bound ≤ w
 last-none callers q kind bound i None last all e p w is = elim (cases_lt p i) [
   | inl g ↦ last p w g is
   | inr g ↦ absurd (none-past callers q kind i p w all g is)
 ]
 last-none callers q kind bound i (Some v) last all e p w is = absurd (cc)
 
-pub last-some : (callers : List Caller) (q : ℕ) (kind : WaitKind) (bound i : ℕ) (o : Option ℕ) → IsLastBelow callers q kind bound i o → length callers ≤ i → IfSome o (IsLastWait callers q kind bound)
+pub last-some : (callers : List Caller) (q : ℕ) (kind : WaitKind) (bound i : ℕ) (o : Option ℕ) →
+    IsLastBelow callers q kind bound i o → length callers ≤ i →
+    IfSome o (IsLastWait callers q kind bound)
 last-some callers q kind bound i None last all = tt
 last-some callers q kind bound i (Some v) last all = record {
   caller = last.1.0;
@@ -106,7 +125,7 @@ last-some callers q kind bound i (Some v) last all = record {
   ];
 }
 
--- falling lists -----------------------------------------------------------------------------------------------------------
+-- falling lists -----------------------------------------------------------------------------------
 
 abbrev Falls : List ℕ → Type 0
 Falls [] = Unit {0}
@@ -121,11 +140,21 @@ falls-filter t (x ∷ xs) falls = split (t x)
 falls-blocked : (past : Past) (kind : WaitKind) (q : ℕ) → Falls (blocked past kind q)
 falls-blocked [] Send q = tt
 falls-blocked [] Receive q = tt
-falls-blocked (r ∷ past) Send q = grind (arith, falls-blocked past Send q, blocked-below past Send q)
-falls-blocked (r ∷ past) Receive q = grind (arith, falls-blocked past Receive q, blocked-below past Receive q)
+falls-blocked (r ∷ past) Send q = grind (
+  arith,
+  falls-blocked past Send q,
+  blocked-below past Send q,
+)
+falls-blocked (r ∷ past) Receive q = grind (
+  arith,
+  falls-blocked past Receive q,
+  blocked-below past Receive q,
+)
 
 falls-waiting : (past : Past) (kind : WaitKind) (q : ℕ) → Falls (waiting past kind q)
-falls-waiting past kind q = subst Falls (sym (waiting-filter past kind q)) (falls-filter (λ w. not (is_in (ended_waits past kind) w)) (blocked past kind q) (falls-blocked past kind q))
+falls-waiting past kind q = subst Falls (sym (waiting-filter past kind q))
+    (falls-filter (λ w. not (is_in (ended_waits past kind) w)) (blocked past kind q)
+    (falls-blocked past kind q))
 
 abbrev pub below : ℕ → List ℕ → List ℕ
 below bound xs = filter (λ w. nat_lt w bound) xs
@@ -136,48 +165,69 @@ in-rest x xs k h = split (x == k) (λ e. rw e refl) (λ n. rw (n, h) refl)
 in-head : (x : ℕ) (xs : List ℕ) → is_in (x ∷ xs) x ≡ true
 in-head x xs = rw (eq-eqb x x refl) refl
 
-below-all : (bound : ℕ) (xs : List ℕ) → ((k : ℕ) → is_in xs k ≡ true → k < bound) → below bound xs ≡ xs
+below-all : (bound : ℕ) (xs : List ℕ) → ((k : ℕ) → is_in xs k ≡ true → k < bound) → below bound xs ≡
+    xs
 below-all bound [] all = refl
-below-all bound (x ∷ xs) all = rw (lt-ltb x bound (all x (in-head x xs))) (ap (λ rest. x ∷ rest) (below-all bound xs (λ k h. all k (in-rest x xs k h))))
+below-all bound (x ∷ xs) all = rw (lt-ltb x bound (all x (in-head x xs)))
+    (ap (λ rest. x ∷ rest) (below-all bound xs (λ k h. all k (in-rest x xs k h))))
 
-below-none : (bound : ℕ) (xs : List ℕ) → ((k : ℕ) → is_in xs k ≡ true → bound ≤ k) → below bound xs ≡ []
+below-none : (bound : ℕ) (xs : List ℕ) → ((k : ℕ) → is_in xs k ≡ true → bound ≤ k) →
+    below bound xs ≡ []
 below-none bound [] none = refl
-below-none bound (x ∷ xs) none = rw (le-ltb x bound (none x (in-head x xs))) (below-none bound xs (λ k h. none k (in-rest x xs k h)))
+below-none bound (x ∷ xs) none = rw (le-ltb x bound (none x (in-head x xs)))
+    (below-none bound xs (λ k h. none k (in-rest x xs k h)))
 
 -- the greatest place below a bound comes first
-below-last : (xs : List ℕ) → Falls xs → (m bound : ℕ) → is_in xs m ≡ true → m < bound → ((k : ℕ) → is_in xs k ≡ true → k < bound → k ≤ m) → below bound xs ≡ m ∷ below m xs
+below-last : (xs : List ℕ) → Falls xs → (m bound : ℕ) → is_in xs m ≡ true → m < bound →
+    ((k : ℕ) → is_in xs k ≡ true → k < bound → k ≤ m) → below bound xs ≡ m ∷ below m xs
 below-last [] falls m bound h lt last = absurd (cc)
 below-last (x ∷ xs) falls m bound h lt last = split (x == m)
     (λ e. let same : x ≡ m = eqb-true _ _ e in
-    let high = below-all bound xs (λ k g. let less = falls.0 k g in omega (arith, less, same, lt)) in
+    let high = below-all bound xs (λ k g. let less = falls.0 k g in omega (arith, less, same, lt))
+    in
     let low = below-all m xs (λ k g. let less = falls.0 k g in omega (arith, less, same)) in
-    rw (lt-ltb x bound (omega (arith, same, lt)), le-ltb x m (omega (arith, same)), high, low) (ap (λ k. k ∷ xs) same))
+    rw (lt-ltb x bound (omega (arith, same, lt)), le-ltb x m (omega (arith, same)), high, low)
+    (ap (λ k. k ∷ xs) same))
     (λ n. let inside : is_in xs m ≡ true = rw n at h in
     let above = falls.0 m inside in
     let high : bound ≤ x = elim (cases_lt x bound) [
       | inl t ↦ let le = last x (in-head x xs) t in absurd (omega (arith, le, above))
       | inr f ↦ f
     ] in
-    rw (le-ltb x bound high, le-ltb x m (omega (arith, above))) (below-last xs falls.1 m bound inside lt (λ k g. last k (in-rest x xs k g))))
+    rw (le-ltb x bound high, le-ltb x m (omega (arith, above)))
+    (below-last xs falls.1 m bound inside lt (λ k g. last k (in-rest x xs k g))))
 
--- the places that wait, from the latest on ---------------------------------------------------------------------------------
+-- the places that wait, from the latest on --------------------------------------------------------
 
-pub waiting-start : (past : Past) (kind : WaitKind) (q n : ℕ) → n ≡ length past → [] ++ below n (waiting past kind q) ≡ waiting past kind q
+pub waiting-start : (past : Past) (kind : WaitKind) (q n : ℕ) → n ≡ length past →
+    [] ++ below n (waiting past kind q) ≡ waiting past kind q
 waiting-start past kind q n is =
-    below-all n (waiting past kind q) (λ k h. let at : is_in (filter (λ w. not (is_in (ended_waits past kind) w)) (blocked past kind q)) k ≡ true = rw (waiting-filter past kind q) at h in
-    let lt = blocked-below past kind q k (is_in-filter _ (blocked past kind q) k at).0 in omega (arith, lt, is))
+    below-all n (waiting past kind q)
+    (λ k h. let at : is_in (filter (λ w. not (is_in (ended_waits past kind) w))
+    (blocked past kind q)) k ≡ true = rw (waiting-filter past kind q) at h in
+    let lt = blocked-below past kind q k (is_in-filter _ (blocked past kind q) k at).0 in
+    omega (arith, lt, is))
 
-pub waiting-more : (past : Past) (callers : List Caller) → CallersMirror past callers → Legal past → (q : ℕ) (kind : WaitKind) (bound place : ℕ) (found : List ℕ) → IsLastWait callers q kind bound place →
-    found ++ below bound (waiting past kind q) ≡ waiting past kind q → (found ++ place ∷ []) ++ below place (waiting past kind q) ≡ waiting past kind q
+pub waiting-more : (past : Past) (callers : List Caller) → CallersMirror past callers → Legal past →
+    (q : ℕ) (kind : WaitKind) (bound place : ℕ) (found : List ℕ) →
+    IsLastWait callers q kind bound place →
+    found ++ below bound (waiting past kind q) ≡ waiting past kind q → (found ++ place ∷ []) ++
+    below place (waiting past kind q) ≡ waiting past kind q
 waiting-more past callers mirror legal q kind bound place found last before =
-    let first = below-last (waiting past kind q) (falls-waiting past kind q) place bound (pending-waits past callers mirror legal last.caller q kind place last.waits) last.below
-    (λ k h lt. let x = waits-pending past callers mirror legal q kind k h in last.last x.0 k x.1 lt) in
-    append_assoc found (place ∷ []) (below place (waiting past kind q)) ∙ ap (λ xs. found ++ xs) (sym first) ∙ before
+    let first = below-last (waiting past kind q) (falls-waiting past kind q) place bound
+    (pending-waits past callers mirror legal last.caller q kind place last.waits) last.below
+    (λ k h lt. let x = waits-pending past callers mirror legal q kind k h in last.last x.0 k x.1 lt)
+    in
+    append_assoc found (place ∷ []) (below place (waiting past kind q)) ∙ ap (λ xs. found ++ xs)
+    (sym first) ∙ before
 
-pub waiting-done : (past : Past) (callers : List Caller) → CallersMirror past callers → Legal past → (q : ℕ) (kind : WaitKind) (bound : ℕ) (found : List ℕ) → ((p w : ℕ) → pending_in callers p q kind ≡ Some w → bound ≤ w) →
+pub waiting-done : (past : Past) (callers : List Caller) → CallersMirror past callers → Legal past →
+    (q : ℕ) (kind : WaitKind) (bound : ℕ) (found : List ℕ) →
+    ((p w : ℕ) → pending_in callers p q kind ≡ Some w → bound ≤ w) →
     found ++ below bound (waiting past kind q) ≡ waiting past kind q → found ≡ waiting past kind q
 waiting-done past callers mirror legal q kind bound found none all =
-    let rest = below-none bound (waiting past kind q) (λ k h. let x = waits-pending past callers mirror legal q kind k h in none x.0 k x.1) in
+    let rest = below-none bound (waiting past kind q) (λ k h. let x = waits-pending past callers
+    mirror legal q kind k h in none x.0 k x.1) in
     append-none found _ rest ∙ all
   where
     append-none : (xs ys : List ℕ) → ys ≡ [] → xs ≡ xs ++ ys

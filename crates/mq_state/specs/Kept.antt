@@ -29,7 +29,8 @@ pub record Kept : Type 0 where
 
 -- the tables are those of the journal
 abbrev pub Mirrors : Shown → Tables → Type 0
-Mirrors j t = TablesMirror j.records t.n t.owners.items t.callers.items t.queues.items t.inboxes.items
+Mirrors j t = TablesMirror j.records t.n t.owners.items t.callers.items
+    t.queues.items t.inboxes.items
 
 -- The tables are those of these records, which are legal. The rows of the queues say which
 -- processes wait, and there is room for the notice of each registration.
@@ -63,19 +64,22 @@ notice_room (Some b) = b.entries + 64
 
 -- The same room, after this number of entries, each of which adds at most one notice.
 abbrev pub HasNotices : Option Bounds → ℕ → ℕ → List InboxShown → Type 0
-HasNotices bounds entries n inboxes = (p : ℕ) → p ≤ n → notice_room bounds ≤ entries + room_in inboxes p
+HasNotices bounds entries n inboxes = (p : ℕ) → p ≤ n →
+    notice_room bounds ≤ entries + room_in inboxes p
 
 -- The journal has room for all entries and payload bytes that the bounds allow, those already there
 -- included.
 abbrev pub HasRoomWithin : Option Bounds → Shown → Type 0
 HasRoomWithin None j = Unit {0}
-HasRoomWithin (Some b) j = (b.entries ≤ length j.records + j.entry_room) × (b.bytes ≤ payload_bytes j.records + j.byte_room)
+HasRoomWithin (Some b) j = (b.entries ≤ length j.records + j.entry_room) ×
+    (b.bytes ≤ payload_bytes j.records + j.byte_room)
 
 -- room for this many further entries and payload bytes is all that the bounds allow after these
 -- records
 abbrev pub IsRoomWithin : Option Bounds → Past → ℕ → ℕ → Type 0
 IsRoomWithin None past entries bytes = Unit {0}
-IsRoomWithin (Some b) past entries bytes = (b.entries ≤ length past + entries) × (b.bytes ≤ payload_bytes past + bytes)
+IsRoomWithin (Some b) past entries bytes = (b.entries ≤ length past + entries) ×
+    (b.bytes ≤ payload_bytes past + bytes)
 
 -- The tables are those of the journal, which has entries of the first n processes only. There is
 -- room for the entry that ends each open wait, and for everything that the bounds allow. What may
@@ -103,7 +107,8 @@ pub record MayCall (j : Shown) (t : Tables) (p : ℕ) : Type 0 where
 
 -- A call of process p got its reply. It has its entry; or it has none, and the reply says that
 -- memory was refused or the journal is full.
-pub record IsCalled (j j' : Shown) (t t' : Tables) (p : ℕ) (call : Call) (given : List ℕ) (reply : Reply) : Type 0 where
+pub record IsCalled (j j' : Shown) (t t' : Tables) (p : ℕ) (call : Call) (given : List ℕ)
+    (reply : Reply) : Type 0 where
   pub entry : has_entry reply ≡ true → Appends j.records j'.records p call given reply
   pub no_entry : has_entry reply ≡ false → j'.records ≡ j.records
   pub no_less : has_entry reply ≡ false → j.byte_room ≤ j'.byte_room
@@ -117,7 +122,8 @@ pub record IsCalled (j j' : Shown) (t t' : Tables) (p : ℕ) (call : Call) (give
 -- What a call of process p with this reply did. It appended its entry; or nothing if the reply has
 -- no entry, and then no room for bytes is lost. The reply is `JournalFull` if and only if the call
 -- finds the journal full, and never `NoMemory` with bounds.
-pub record IsMade (old new : Kept) (p : ℕ) (call : Call) (given : List ℕ) (reply : Reply) : Type 0 where
+pub record IsMade (old new : Kept) (p : ℕ) (call : Call) (given : List ℕ)
+    (reply : Reply) : Type 0 where
   pub entry : has_entry reply ≡ true → Appends old.records new.records p call given reply
   pub no_entry : has_entry reply ≡ false → new.records ≡ old.records
   pub no_less : has_entry reply ≡ false → old.byte_room ≤ new.byte_room
@@ -137,10 +143,13 @@ HasEntryRoom _ waits room = waits + 1 ≤ room
 -- The result of a request for room, with which there would be this many entries and payload bytes.
 -- It is `JournalFull` if and only if that exceeds the bounds. With bounds it fails for no other
 -- reason.
-pub record IsRoomRefused (bounds : Option Bounds) (entries bytes : ℕ) (result : Result (Unit {0}) Fault) : Type 0 where
+pub record IsRoomRefused (bounds : Option Bounds) (entries bytes : ℕ)
+    (result : Result (Unit {0}) Fault) : Type 0 where
   pub full : exceeds bounds entries bytes ≡ true → result ≡ Err JournalFull
-  pub room : exceeds bounds entries bytes ≡ false → (result ≡ Ok tt) ⊎ ((result ≡ Err NoMemory) × (bounds ≡ None))
+  pub room : exceeds bounds entries bytes ≡ false →
+      (result ≡ Ok tt) ⊎ ((result ≡ Err NoMemory) × (bounds ≡ None))
 
 -- a reply with an error other than `NoMemory` used no room for bytes
 abbrev pub SparesBytes : Shown → Shown → Reply → Type 0
-SparesBytes j j' reply = (fault : Fault) → reply ≡ Refused fault → fault ≢ NoMemory → j'.byte_room ≡ j.byte_room
+SparesBytes j j' reply = (fault : Fault) → reply ≡ Refused fault → fault ≢ NoMemory → j'.byte_room ≡
+    j.byte_room

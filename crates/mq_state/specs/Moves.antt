@@ -24,7 +24,8 @@ done_move _ = Rests
 -- this admits enters. An unlink removes the name.
 abbrev pub line_move : Past → Call → Reply → LineMove
 line_move past call (Queued notified) = Enters (priority_given call) (length past)
-line_move past call (Got place admitted notified) = Leaves place (option_map (slot_of past) admitted)
+line_move past call (Got place admitted notified) =
+    Leaves place (option_map (slot_of past) admitted)
 line_move past call Done = done_move call
 line_move past call _ = Rests
 
@@ -46,4 +47,10 @@ may_free call _ = false
 
 -- what an entry with this call and reply changes
 abbrev pub moves_of : Past → Call → Reply → Moves
-moves_of past call reply = record { line = line_move past call reply; wait = wait_move reply; notified = is_some (notified reply); given = gives_notice reply; freed = may_free call reply }
+moves_of past call reply = record {
+  line = line_move past call reply;
+  wait = wait_move reply;
+  notified = is_some (notified reply);
+  given = gives_notice reply;
+  freed = may_free call reply;
+}

@@ -16,7 +16,8 @@ emptied o = record { messages = []; cap = o.cap }
 
 -- There are `total` sets of slots: the spare ones and those of the queues. Each has room for the
 -- messages of any queue, and none needs memory to move between a queue and the spare ones.
-pub record Pool (total : ℕ) (queues : List QueueShown) (spares : List Held) (queue_room spare_room : ℕ) : Type 0 where
+pub record Pool (total : ℕ) (queues : List QueueShown) (spares : List Held)
+    (queue_room spare_room : ℕ) : Type 0 where
   pub spare : All IsSpare spares
   pub wide : All (λ x. 4096 ≤ x.cap) queues
   pub count : length spares + length queues ≡ total
@@ -27,15 +28,18 @@ pub record Pool (total : ℕ) (queues : List QueueShown) (spares : List Held) (q
 -- There are 64. One of them may be set aside for the queue that a call creates.
 abbrev pub PoolWith : Option Held → List QueueShown → List Held → ℕ → ℕ → Type 0
 PoolWith None queues spares queue_room spare_room = Pool 64 queues spares queue_room spare_room
-PoolWith (Some o) queues spares queue_room spare_room = Pool 63 queues spares queue_room spare_room × (4096 ≤ o.cap)
+PoolWith (Some o) queues spares queue_room spare_room = Pool 63 queues spares queue_room spare_room
+    × (4096 ≤ o.cap)
 
 abbrev pub PoolWithin : Option Bounds → Option Held → List QueueShown → List Held → ℕ → ℕ → Type 0
 PoolWithin None taken queues spares queue_room spare_room = Unit {0}
-PoolWithin (Some b) taken queues spares queue_room spare_room = PoolWith taken queues spares queue_room spare_room
+PoolWithin (Some b) taken queues spares queue_room spare_room =
+    PoolWith taken queues spares queue_room spare_room
 
 -- tables with bounds have the slots of 64 queues
 abbrev pub IsPooled : Option Held → Tables → Type 0
-IsPooled taken t = PoolWithin t.bounds taken t.queues.items t.spares.items (vec_capacity t.queues) (vec_capacity t.spares)
+IsPooled taken t = PoolWithin t.bounds taken t.queues.items t.spares.items (vec_capacity t.queues)
+    (vec_capacity t.spares)
 
 abbrev pub order_count : Option Bounds → ℕ
 order_count None = 0

@@ -6,7 +6,13 @@ use Rattle.mq_state.specs.declared.prefixes.Source.{Source}
 use Rattle.mq_state.specs.declared.prefixes.Prefix.TheInside.{Inside}
 
 abbrev pub seen : Source → Shown
-seen (Source.Journal j) = record { records = j.now.records; entry_room = j.now.entry_room; byte_room = j.now.byte_room; stored = true; places = [] }
+seen (Source.Journal j) = record {
+  records = j.now.records;
+  entry_room = j.now.entry_room;
+  byte_room = j.now.byte_room;
+  stored = true;
+  places = [];
+}
 seen (Source.Ledger l) = l.now
 
 abbrev pub shown : Inside → Shown

@@ -33,7 +33,8 @@ unfoldable pub registration_in : List QueueShown → ℕ → Option Registration
 registration_in queues q = option_and_then (λ x. x.registration) (queue_in queues q)
 
 unfoldable pub attributes_in : List QueueShown → ℕ → Attr
-attributes_in queues q = unwrap_or (option_map (λ x. x.attributes) (queue_in queues q)) default_attributes
+attributes_in queues q = unwrap_or (option_map (λ x. x.attributes) (queue_in queues q))
+    default_attributes
 
 unfoldable pub waiting_in : List QueueShown → ℕ → ℕ
 waiting_in queues q = unwrap_or (option_map (λ x. x.waiting) (queue_in queues q)) 0
@@ -50,7 +51,8 @@ is_bound_to past name x = x.named && bytes_eq (name_of past x.place) name
 
 -- the queue that a name is bound to
 unfoldable pub bound_in : Past → List QueueShown → List ℕ → Option ℕ
-bound_in past queues name = option_map (λ x. x.place) (find (λ x. x.named && bytes_eq (name_of past x.place) name) queues)
+bound_in past queues name = option_map (λ x. x.place)
+    (find (λ x. x.named && bytes_eq (name_of past x.place) name) queues)
 
 -- each number is below all that follow
 abbrev pub Rises : List ℕ → Type 0
@@ -73,13 +75,37 @@ without_queue queues q = filter (λ x. not (x.place == q)) queues
 -- ---------------------------------------------------------------------------
 
 abbrev pub with_slot : ℕ × ℕ → QueueShown → QueueShown
-with_slot s x = record { place = x.place; named = x.named; registration = x.registration; slots = s ∷ x.slots; cap = x.cap; attributes = x.attributes; waiting = x.waiting }
+with_slot s x = record {
+  place = x.place;
+  named = x.named;
+  registration = x.registration;
+  slots = s ∷ x.slots;
+  cap = x.cap;
+  attributes = x.attributes;
+  waiting = x.waiting;
+}
 
 abbrev pub without_slot : ℕ → QueueShown → QueueShown
-without_slot m x = record { place = x.place; named = x.named; registration = x.registration; slots = without m x.slots; cap = x.cap; attributes = x.attributes; waiting = x.waiting }
+without_slot m x = record {
+  place = x.place;
+  named = x.named;
+  registration = x.registration;
+  slots = without m x.slots;
+  cap = x.cap;
+  attributes = x.attributes;
+  waiting = x.waiting;
+}
 
 abbrev pub with_waiting : ℕ → QueueShown → QueueShown
-with_waiting bits x = record { place = x.place; named = x.named; registration = x.registration; slots = x.slots; cap = x.cap; attributes = x.attributes; waiting = bits }
+with_waiting bits x = record {
+  place = x.place;
+  named = x.named;
+  registration = x.registration;
+  slots = x.slots;
+  cap = x.cap;
+  attributes = x.attributes;
+  waiting = bits;
+}
 
 abbrev pub named_after : LineMove → Bool → Bool
 named_after LosesName named = false
@@ -93,7 +119,16 @@ slots_after _ slots = slots
 
 -- the row of the entry's queue: whether the queue still has its name, and its messages
 abbrev pub renewed : LineMove → QueueShown → QueueShown
-renewed m x = record { place = x.place; named = named_after m x.named; registration = x.registration; slots = slots_after m x.slots; cap = x.cap; attributes = x.attributes; waiting = x.waiting }
+renewed m x = record {
+  place = x.place;
+  named = named_after m x.named;
+  registration = x.registration;
+  slots = slots_after m x.slots;
+  cap = x.cap;
+  attributes =
+      x.attributes;
+  waiting = x.waiting;
+}
 
 -- A message may enter the queue: there is room, its priority is valid, and it was sent after those
 -- that are there.
@@ -119,19 +154,37 @@ AllowsIn queues q m = (x : QueueShown) → queue_in queues q ≡ Some x → Allo
 
 -- any row: its registration, after an entry whose call is made on queue q
 abbrev pub reregistered : ℕ → ℕ → Entry → QueueShown → QueueShown
-reregistered q here e x = record { place = x.place; named = x.named; registration = registration_after (q == x.place) here e x.registration; slots = x.slots; cap = x.cap; attributes = x.attributes; waiting = x.waiting }
+reregistered q here e x = record {
+  place = x.place;
+  named = x.named;
+  registration = registration_after (q == x.place) here e x.registration;
+  slots = x.slots;
+  cap = x.cap;
+  attributes = x.attributes;
+  waiting = x.waiting;
+}
 
 abbrev pub released : List Owner → Bool → List QueueShown → ℕ → List QueueShown
-released owners freed queues q = if freed && not (is_named_in queues q || is_held_in owners q) then without_queue queues q else queues
+released owners freed queues q = if freed && not (is_named_in queues q || is_held_in owners q) then
+    without_queue queues q else queues
 
 -- The table after entry `here`, made on queue q, with these changes. `owners` is the table of
 -- processes after the entry.
 abbrev pub noted_queues : List Owner → ℕ → Entry → ℕ → Moves → List QueueShown → List QueueShown
-noted_queues owners here e q moves queues = released owners moves.freed (map (reregistered q here e) (changed (renewed moves.line) queues q)) q
+noted_queues owners here e q moves queues = released owners moves.freed (map (reregistered q here e)
+    (changed (renewed moves.line) queues q)) q
 
 -- a queue that was just created
 abbrev pub fresh : ℕ → ℕ → Attr → QueueShown
-fresh here cap given = record { place = here; named = true; registration = None; slots = []; cap = cap; attributes = given; waiting = 0 }
+fresh here cap given = record {
+  place = here;
+  named = true;
+  registration = None;
+  slots = [];
+  cap = cap;
+  attributes = given;
+  waiting = 0;
+}
 
 -- the table says what the definitions say about the journal
 -- ----------------------------------------

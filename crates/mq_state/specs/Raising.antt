@@ -13,7 +13,9 @@ IsEmptyInbox room inbox = (inbox.values ≡ []) × (room ≤ inbox.room)
 -- the same of every journal.
 pub record IsRaised (old new : Tables) : Type 0 where
   pub tables : (past : Past) → AreThoseOf past old → AreThoseOf past new
-  pub notices : (past : Past) (entries : ℕ) → AreThoseOf past old → HasNotices old.bounds entries old.n old.inboxes.items → HasNotices new.bounds entries new.n new.inboxes.items
+  pub notices : (past : Past) (entries : ℕ) → AreThoseOf past old →
+      HasNotices old.bounds entries old.n old.inboxes.items →
+      HasNotices new.bounds entries new.n new.inboxes.items
   pub queues : new.queues ≡ old.queues
   pub spares : new.spares ≡ old.spares
   pub bounds : new.bounds ≡ old.bounds

@@ -25,8 +25,11 @@ has_payload r = is_payload r.entry.call r.entry.reply r.payload
 abbrev pub IsCause : Past → Record → Cause → Type 0
 IsCause past r Process = has_process r ≡ false
 IsCause past r Turn = (has_process r ≡ true) × (is_in_turn past r ≡ false)
-IsCause past r Payload = (has_process r ≡ true) × (is_in_turn past r ≡ true) × (has_payload r ≡ false)
-IsCause past r (Reply expected) = (has_process r ≡ true) × (is_in_turn past r ≡ true) × (has_payload r ≡ true) × (expected ≡ reply_to past r.entry.process r.entry.call r.payload) × (r.entry.reply ≢ expected)
+IsCause past r Payload = (has_process r ≡ true) × (is_in_turn past r ≡ true) ×
+    (has_payload r ≡ false)
+IsCause past r (Reply expected) = (has_process r ≡ true) × (is_in_turn past r ≡ true) ×
+    (has_payload r ≡ true) × (expected ≡ reply_to past r.entry.process r.entry.call r.payload) ×
+    (r.entry.reply ≢ expected)
 
 -- The records before this place are legal, the record there may not follow them, and this is why.
 pub record IsDeparture (past : Past) (d : Departure) : Type 0 where
@@ -41,5 +44,6 @@ is_too_long bounds past = exceeds bounds (length past + open_waits past) (payloa
 abbrev pub IsMisfit : Past → ℕ → Option Bounds → Misfit → Type 0
 IsMisfit past n bounds NoMemory = Unit {0}
 IsMisfit past n bounds (Illegal d) = IsDeparture past d
-IsMisfit past n bounds (Foreign k) = (k < length past) × IfSome (record_at past k) (λ r. n < r.entry.process)
+IsMisfit past n bounds (Foreign k) = (k < length past) × IfSome (record_at past k)
+    (λ r. n < r.entry.process)
 IsMisfit past n bounds TooLong = is_too_long bounds past ≡ true

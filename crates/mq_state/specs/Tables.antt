@@ -39,7 +39,8 @@ last_process n = if nat_le n most_processes then n else most_processes
 
 -- Caller p has the row at index p of the table of callers, and process p those at index p of the
 -- tables of processes and of inboxes.
-pub record TablesMirror (past : Past) (n : ℕ) (owners : List Owner) (callers : List Caller) (queues : List QueueShown) (inboxes : List InboxShown) : Type 0 where
+pub record TablesMirror (past : Past) (n : ℕ) (owners : List Owner) (callers : List Caller)
+    (queues : List QueueShown) (inboxes : List InboxShown) : Type 0 where
   pub owner_count : length owners ≡ last_process n + 1
   pub caller_count : length callers ≡ n + 1
   pub inbox_count : length inboxes ≡ last_process n + 1
@@ -69,7 +70,8 @@ calls_noted _ p call calls = calls
 -- the call in which each caller waits is at its index
 pub record AreCalls (past : Past) (n : ℕ) (calls : List Call) : Type 0 where
   pub count : length calls ≡ n + 1
-  pub at : (p w : ℕ) → open_wait past p ≡ Some w → slice_index_or calls p Collect ≡ waiting_call past p
+  pub at : (p w : ℕ) → open_wait past p ≡ Some w → slice_index_or calls p Collect ≡
+      waiting_call past p
 
 -- The messages of a new queue have their room, and the table of queues has room for the queue.
 pub record IsFresh (call : Call) (queues : ℕ) (capacity : ℕ) (o : Held) : Type 0 where
@@ -79,12 +81,14 @@ pub record IsFresh (call : Call) (queues : ℕ) (capacity : ℕ) (o : Held) : Ty
 
 -- a queue that is created has attributes within the limits
 abbrev pub CreatesWithin : Call → Reply → Type 0
-CreatesWithin call reply = creates call reply ≡ true → are_within_limits (Some (attributes_given call)) ≡ true
+CreatesWithin call reply = creates call reply ≡ true →
+    are_within_limits (Some (attributes_given call)) ≡ true
 
 -- an entry has the slots of a new queue if and only if it creates one
 abbrev pub BringsOrder : Call → Reply → ℕ → ℕ → Option Held → Type 0
 BringsOrder call reply queues capacity None = creates call reply ≡ false
-BringsOrder call reply queues capacity (Some o) = (creates call reply ≡ true) × IsFresh call queues capacity o
+BringsOrder call reply queues capacity (Some o) = (creates call reply ≡ true) ×
+    IsFresh call queues capacity o
 
 -- each process has room for the notices of all its registrations
 abbrev pub HasNoticeRoom : List QueueShown → List InboxShown → Type 0
@@ -93,7 +97,8 @@ HasNoticeRoom queues inboxes = (p : ℕ) → registrations_in queues p ≤ room_
 -- There is room for the notices of the registration that a call makes: as many as there are queues,
 -- since a queue has at most one registration.
 abbrev pub HasRoomToRegister : List QueueShown → List InboxShown → ℕ → Call → Reply → Type 0
-HasRoomToRegister queues inboxes p (MqNotify d (Some v)) reply = reply ≡ Done → length queues ≤ room_in inboxes p
+HasRoomToRegister queues inboxes p (MqNotify d (Some v)) reply = reply ≡ Done →
+    length queues ≤ room_in inboxes p
 HasRoomToRegister queues inboxes p call reply = Unit {0}
 
 -- How many notices an entry adds for caller p: one if it notifies a registration of its process.
@@ -101,16 +106,19 @@ abbrev pub notices_brought : Option Registration → Bool → ℕ → ℕ
 notices_brought None notified p = 0
 notices_brought (Some n) notified p = if notified && shares n.process p then 1 else 0
 
--- The notices of caller p's process after an entry. If the entry notifies the registration on its queue,
+-- The notices of caller p's process after an entry. If the entry notifies the registration on its
+-- queue,
 -- that adds one.
 abbrev pub notified_values : Option Registration → Bool → ℕ → List ℕ → List ℕ
 notified_values None notified p values = values
-notified_values (Some n) notified p values = if notified && shares n.process p then values ++ n.value ∷ [] else values
+notified_values (Some n) notified p values = if notified && shares n.process p then values ++
+    n.value ∷ [] else values
 
 -- and the oldest is removed if the entry gives it to its process
 abbrev pub noted_values : ℕ → Option Registration → Moves → ℕ → List ℕ → List ℕ
 noted_values process registered moves p values =
-    if moves.given && shares process p then drop 1 (notified_values registered moves.notified p values) else notified_values registered moves.notified p values
+    if moves.given && shares process p then drop 1 (notified_values registered moves.notified p
+    values) else notified_values registered moves.notified p values
 
 abbrev pub with_fresh : Option Held → Attr → ℕ → List QueueShown → List QueueShown
 with_fresh None given here queues = queues

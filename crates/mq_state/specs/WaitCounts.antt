@@ -21,7 +21,8 @@ wait_count q callers = count_by (λ x. waits_on q x.wait) callers
 
 -- each row says how many callers wait on its queue
 abbrev pub KnowWaits : List Caller → List QueueShown → Type 0
-KnowWaits callers queues = (q : ℕ) (x : QueueShown) → queue_in queues q ≡ Some x → x.waiting ≡ wait_count q callers
+KnowWaits callers queues = (q : ℕ) (x : QueueShown) → queue_in queues q ≡ Some x →
+    x.waiting ≡ wait_count q callers
 
 -- The queue on which an entry of caller p, made on queue q, begins or ends a wait. `callers` is the
 -- table of callers before the entry.

@@ -6,7 +6,8 @@ use Rattle.mq_model.specs.declared.callers.WaitKind.{WaitKind}
 
 -- A caller has waited on queue q since this place, and none since a later one that is below the
 -- bound.
-pub record IsLastWait (callers : List Caller) (q : ℕ) (kind : WaitKind) (bound place : ℕ) : Type 0 where
+pub record IsLastWait (callers : List Caller) (q : ℕ) (kind : WaitKind)
+    (bound place : ℕ) : Type 0 where
   pub caller : ℕ
   pub waits : pending_in callers caller q kind ≡ Some place
   pub below : place < bound
@@ -16,4 +17,5 @@ pub record IsLastWait (callers : List Caller) (q : ℕ) (kind : WaitKind) (bound
 abbrev pub later : Option ℕ → Option ℕ → ℕ → Option ℕ
 later last None bound = last
 later None (Some new) bound = if nat_lt new bound then Some new else None
-later (Some old) (Some new) bound = if nat_lt old new && nat_lt new bound then Some new else Some old
+later (Some old) (Some new) bound = if nat_lt old new && nat_lt new bound then Some
+    new else Some old

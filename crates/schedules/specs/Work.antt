@@ -13,7 +13,8 @@ sum_below f (suc n) = sum_below f n + f n
 abbrev pub work : {S : Type 0} → (S → ℕ → Option S) → (S → ℕ) → (ℕ → ℕ) → ℕ → ℕ → S → ℕ
 work next choices back zero depth s = 0
 work next choices back (suc n) depth s =
-    sum_below (λ choice. 1 + unwrap_or (option_map (work next choices back n (depth + 1)) (next s choice)) 0) (choices s) + back depth
+    sum_below (λ choice. 1 + unwrap_or (option_map (work next choices back n (depth + 1))
+    (next s choice)) 0) (choices s) + back depth
 
 -- trying all schedules from a state takes at least this number of steps
 abbrev pub TakesAll : {S : Type 0} → (S → ℕ → Option S) → (S → ℕ) → (ℕ → ℕ) → ℕ → S → Type 0
@@ -21,7 +22,8 @@ TakesAll next choices back budget from = budget ≤ work next choices back budge
 
 -- no schedule from a state is longer than d, and each state that one reaches has at most c choices
 abbrev pub AreShort : {S : Type 0} → (S → ℕ → Option S) → ℕ → S → Type 0
-AreShort {S} next d from = (schedule : List ℕ) (to : S) → after next schedule from ≡ Some to → length schedule ≤ d
+AreShort {S} next d from = (schedule : List ℕ) (to : S) → after next schedule from ≡ Some to →
+    length schedule ≤ d
 
 abbrev pub HaveFew : {S : Type 0} → (S → ℕ → Option S) → (S → ℕ) → ℕ → S → Type 0
 HaveFew {S} next choices c from = (to : S) → IsReached next from to → choices to ≤ c

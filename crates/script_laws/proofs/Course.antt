@@ -19,18 +19,22 @@ pub record Move : Type 0 where
 
 -- From this journal and progress the process makes this move, and before it other processes add
 -- records. A move without a record is made at once.
-pub record Goes (p phase : ℕ) (program : Vec Planned Global) (move : Move) (from : Past) (progress : Progress) : Type 0 where
+pub record Goes (p phase : ℕ) (program : Vec Planned Global) (move : Move) (from : Past)
+    (progress : Progress) : Type 0 where
   pub others : Grows author p from move.found []
   pub mine : All (λ r. author r ≡ p) move.own
   pub eager : move.own ≡ [] → move.found ≡ from
-  pub turn : after_turn move.found phase p progress program ≡ Some (record { past = move.own ++ move.found; progress = move.next })
+  pub turn : after_turn move.found phase p progress program ≡
+      Some (record { past = move.own ++ move.found; progress = move.next })
 
 -- the process makes these moves one after the other and then has the progress `end`; after them
 -- only other processes add records
-abbrev pub Course : ℕ → ℕ → Vec Planned Global → Past → Progress → List Move → Past → Progress → Type 0
+abbrev pub Course : ℕ → ℕ → Vec Planned Global → Past → Progress → List Move → Past → Progress →
+    Type 0
 Course p phase program to end [] from progress = (progress ≡ end) × Grows author p from to []
 Course p phase program to end (move ∷ moves) from progress =
-    Goes p phase program move from progress × Course p phase program to end moves (move.own ++ move.found) move.next
+    Goes p phase program move from progress × Course p phase program to end moves
+    (move.own ++ move.found) move.next
 
 -- the lines of a program from number `begun` on begin with these
 pub record AreLines (program : Vec Planned Global) (begun : ℕ) (plans : List Plan) : Type 0 where

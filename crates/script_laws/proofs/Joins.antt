@@ -13,7 +13,8 @@ two-ends (c ∷ a) [] x y h = inr (c ∷ a, sym h, refl)
 two-ends (c ∷ a) (d ∷ b) x y h = grind (arith, two-ends a b x y cc)
 
 -- a list is empty or has a last element
-pub by-last : {A : Type 0} (xs : List A) → (xs ≡ []) ⊎ ((ys : List A) × (r : A) × (xs ≡ ys ++ r ∷ []))
+pub by-last : {A : Type 0} (xs : List A) →
+    (xs ≡ []) ⊎ ((ys : List A) × (r : A) × (xs ≡ ys ++ r ∷ []))
 by-last [] = inl refl
 by-last {A} (x ∷ xs) =
     elim (by-last xs) [
@@ -42,5 +43,6 @@ both-empty [] ys h = (refl, h)
 both-empty (x ∷ xs) ys h = cc
 
 -- the last item is p's, so p has an item
-pub owns-last : {A : Type 0} (own : A → ℕ) (p : ℕ) (xs : List A) (x : A) → own x ≡ p → items_of own p (xs ++ x ∷ []) ≡ [] → ⊥
+pub owns-last : {A : Type 0} (own : A → ℕ) (p : ℕ) (xs : List A) (x : A) → own x ≡ p →
+    items_of own p (xs ++ x ∷ []) ≡ [] → ⊥
 owns-last {A} own p xs x is none = grind (arith, both-empty, filter-append, eq-eqb)

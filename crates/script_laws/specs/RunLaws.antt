@@ -19,41 +19,55 @@ abbrev pub HadMemory : Completion → Type 0
 HadMemory completion = completion.outcome ≢ outcomes.Refused NoMemory
 
 -- no call of a phase that was run failed with `NoMemory`
-abbrev pub IsAmplePhase : (calls : List WrittenCall) (before after : List (Ticket Record)) (text : List ℕ) → RunsPhase calls before after text → Type 0
+abbrev pub IsAmplePhase : (calls : List WrittenCall) (before after : List (Ticket Record))
+    (text : List ℕ) → RunsPhase calls before after text → Type 0
 IsAmplePhase calls [] [] text ran = Unit {0}
 IsAmplePhase calls [] (new ∷ after) text ran = Unit {0}
 IsAmplePhase calls (old ∷ before) [] text ran = Unit {0}
-IsAmplePhase calls (old ∷ before) (new ∷ after) text ran = All HadMemory ran.0 × IsAmplePhase calls before after ran.1 ran.4
+IsAmplePhase calls (old ∷ before) (new ∷ after) text ran = All HadMemory ran.0 ×
+    IsAmplePhase calls before after ran.1 ran.4
 
 -- the same for several phases
-abbrev pub AreAmplePhases : (phases : List (List WrittenCall)) (before after : List (Ticket Record)) (text : List ℕ) → RunsPhases phases before after text → Type 0
+abbrev pub AreAmplePhases : (phases : List (List WrittenCall)) (before after : List (Ticket Record))
+    (text : List ℕ) → RunsPhases phases before after text → Type 0
 AreAmplePhases [] before after text ran = Unit {0}
-AreAmplePhases (calls ∷ phases) before after text ran = IsAmplePhase calls before ran.0 ran.3 ran.5 × AreAmplePhases phases ran.1 after ran.4 ran.7
+AreAmplePhases (calls ∷ phases) before after text ran = IsAmplePhase calls before ran.0 ran.3 ran.5
+    × AreAmplePhases phases ran.1 after ran.4 ran.7
 
 -- the same for a script that was run whole
-abbrev pub IsAmple : {script : Whole} {replies : List ℕ} {journal : Past} → RunsWhole script replies journal → Type 0
-IsAmple {script} {replies} ran = AreAmplePhases script.phases (tickets_from ran.system 1 script.processes) ran.processes replies ran.ran
+abbrev pub IsAmple : {script : Whole} {replies : List ℕ} {journal : Past} →
+    RunsWhole script replies journal → Type 0
+IsAmple {script} {replies} ran = AreAmplePhases script.phases
+    (tickets_from ran.system 1 script.processes) ran.processes replies ran.ran
 
 -- the same for a script that continued from a journal
-abbrev pub IsAmpleAfter : {past : Past} {script : Whole} {replies : List ℕ} {journal : Past} → RunsAfter past script replies journal → Type 0
-IsAmpleAfter {past} {script} {replies} ran = AreAmplePhases script.phases (tickets_with ran.system past 1 script.processes) ran.runs.processes replies ran.runs.ran
+abbrev pub IsAmpleAfter : {past : Past} {script : Whole} {replies : List ℕ} {journal : Past} →
+    RunsAfter past script replies journal → Type 0
+IsAmpleAfter {past} {script} {replies} ran = AreAmplePhases script.phases
+    (tickets_with ran.system past 1 script.processes) ran.runs.processes replies ran.runs.ran
 
 -- the outcome of a phase that ended with these replies
 abbrev pub phase_outcome : ℕ → List ℕ → Observed
 phase_outcome phase text = record { stage = phase; stuck = false; text = text }
 
 -- the replies of each phase that was run; together they are the text
-abbrev pub phase_replies : (phases : List (List WrittenCall)) (before after : List (Ticket Record)) (text : List ℕ) → RunsPhases phases before after text → List (List ℕ)
+abbrev pub phase_replies : (phases : List (List WrittenCall)) (before after : List (Ticket Record))
+    (text : List ℕ) → RunsPhases phases before after text → List (List ℕ)
 phase_replies [] before after text ran = []
-phase_replies (calls ∷ phases) before after text ran = ran.3 ∷ phase_replies phases ran.1 after ran.4 ran.7
+phase_replies (calls ∷ phases) before after text ran = ran.3 ∷ phase_replies phases ran.1
+    after ran.4 ran.7
 
 -- the replies of each phase of a script that was run whole
-abbrev pub whole_replies : {script : Whole} {replies : List ℕ} {journal : Past} → RunsWhole script replies journal → List (List ℕ)
-whole_replies {script} {replies} ran = phase_replies script.phases (tickets_from ran.system 1 script.processes) ran.processes replies ran.ran
+abbrev pub whole_replies : {script : Whole} {replies : List ℕ} {journal : Past} →
+    RunsWhole script replies journal → List (List ℕ)
+whole_replies {script} {replies} ran = phase_replies script.phases
+    (tickets_from ran.system 1 script.processes) ran.processes replies ran.ran
 
 -- the same for a script that continued from a journal
-abbrev pub replies_after : {past : Past} {script : Whole} {replies : List ℕ} {journal : Past} → RunsAfter past script replies journal → List (List ℕ)
-replies_after {past} {script} {replies} ran = phase_replies script.phases (tickets_with ran.system past 1 script.processes) ran.runs.processes replies ran.runs.ran
+abbrev pub replies_after : {past : Past} {script : Whole} {replies : List ℕ} {journal : Past} →
+    RunsAfter past script replies journal → List (List ℕ)
+replies_after {past} {script} {replies} ran = phase_replies script.phases
+    (tickets_with ran.system past 1 script.processes) ran.runs.processes replies ran.runs.ran
 
 -- In some interleaving of the calls from this stage, phases end one after the other, each with its
 -- replies; `phase` is the number of the first. GoesOn then holds of the stage that they lead to and
@@ -73,4 +87,5 @@ AreObserved from phase texts = AreObservedBefore (λ to next. Unit {0}) from pha
 -- the replies of each phase are among the outcomes found
 abbrev pub AreFound : List Witnessed → ℕ → List (List ℕ) → Type 0
 AreFound found phase [] = Unit {0}
-AreFound found phase (text ∷ texts) = (is_among found (phase_outcome phase text) ≡ true) × AreFound found (phase + 1) texts
+AreFound found phase (text ∷ texts) = (is_among found (phase_outcome phase text) ≡ true) ×
+    AreFound found (phase + 1) texts

@@ -15,16 +15,22 @@ pub turn_of-is : (s : Stage) (index : ℕ) (program : Vec Planned Global) (seat 
 turn_of-is s index program seat has sits = grind arith
 
 -- the element that was read
-pub element-is : {A : Type 0} (xs : List A) (index : ℕ) (x : A) → index < length xs → x ≡ get_or xs index x → slice_get xs index ≡ Some x
-element-is {A} xs index x below is = slice_get-get_or xs index x below ∙ ap (λ (y : A). Some y) (sym is)
+pub element-is : {A : Type 0} (xs : List A) (index : ℕ) (x : A) → index < length xs →
+    x ≡ get_or xs index x → slice_get xs index ≡ Some x
+element-is {A} xs index x below is = slice_get-get_or xs index x below ∙
+    ap (λ (y : A). Some y) (sym is)
 
-pub went-of : (s : Stage) (index : ℕ) (program : Vec Planned Global) (seat : Progress) (turned : Turned) (result : Result Bool AllocError) →
+pub went-of : (s : Stage) (index : ℕ) (program : Vec Planned Global) (seat : Progress)
+    (turned : Turned) (result : Result Bool AllocError) →
     turn_of s index ≡ after_turn s.past s.phase (index + 1) seat program →
-    IfOk result (λ went. IsTrue went → after_turn s.past s.phase (index + 1) seat program ≡ Some turned) →
-    IfOk result (λ went. IsTrue went → option_map (with_turn s index) (turn_of s index) ≡ Some (with_turn s index turned))
+    IfOk result (λ went. IsTrue went → after_turn s.past s.phase (index + 1) seat program ≡
+    Some turned) →
+    IfOk result (λ went. IsTrue went → option_map (with_turn s index) (turn_of s index) ≡
+    Some (with_turn s index turned))
 went-of s index program seat turned result is goes = grind arith
 
-pub none-of : (s : Stage) (index : ℕ) (program : Vec Planned Global) (seat : Progress) (result : Result Bool AllocError) →
+pub none-of : (s : Stage) (index : ℕ) (program : Vec Planned Global) (seat : Progress)
+    (result : Result Bool AllocError) →
     turn_of s index ≡ after_turn s.past s.phase (index + 1) seat program →
     IfOk result (λ went. IsFalse went → after_turn s.past s.phase (index + 1) seat program ≡ None) →
     IfOk result (λ went. IsFalse went → turn_of s index ≡ None)

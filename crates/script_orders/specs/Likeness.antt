@@ -15,7 +15,15 @@ use Rattle.script_orders.specs.declared.plan.Step.TheVariants.{Call, Refusal, Ex
 
 -- the same stage with another journal
 abbrev pub with_past : Stage → Past → Stage
-with_past s past = record { programs = s.programs; phases = s.phases; script = s.script; start = s.start; phase = s.phase; past = past; seats = s.seats }
+with_past s past = record {
+  programs = s.programs;
+  phases = s.phases;
+  script = s.script;
+  start = s.start;
+  phase = s.phase;
+  past = past;
+  seats = s.seats;
+}
 
 -- whether a step receives a message
 abbrev pub step_receives : Step → Bool
@@ -30,7 +38,9 @@ receives_from program begun = list_any (λ planned. step_receives planned.step) 
 -- whether there is such a line among those that the process at an index has not begun
 abbrev pub is_to_come : (Planned → Bool) → Stage → ℕ → Bool
 is_to_come is_such s index =
-    unwrap_or (option_and_then (λ (program : Vec Planned Global). option_map (λ (seat : Progress). list_any is_such (drop seat.begun program.items)) (slice_get s.seats index)) (slice_get s.programs index)) false
+    unwrap_or (option_and_then (λ (program : Vec Planned Global). option_map
+    (λ (seat : Progress). list_any is_such (drop seat.begun program.items))
+    (slice_get s.seats index)) (slice_get s.programs index)) false
 
 -- whether the process at an index will make a receive that it has not begun
 abbrev pub will_receive : Stage → ℕ → Bool

@@ -12,7 +12,8 @@ use Rattle.schedules.specs.Schedules.{after}
 
 -- the processes of a script, before their first lines, after the calls of a journal
 pub record BeginsAfter (past : Past) (script : Whole) (s : Stage) : Type 0 where
-  pub programs : map (λ program. map plan_of program.items) s.programs ≡ programs_of script.phases script.processes
+  pub programs : map (λ program. map plan_of program.items) s.programs ≡
+      programs_of script.phases script.processes
   pub phases : s.phases ≡ length script.phases
   pub start : s.start ≡ past
   pub first : first_stage s ≡ s
@@ -23,11 +24,14 @@ Begins script s = BeginsAfter [] script s
 
 -- the journal after each schedule from this stage is legal
 abbrev pub AreLegal : Stage → Type 0
-AreLegal from = (schedule : List ℕ) (to : Stage) → after next_stage schedule from ≡ Some to → Legal to.past
+AreLegal from = (schedule : List ℕ) (to : Stage) → after next_stage schedule from ≡ Some to →
+    Legal to.past
 
 -- The process at an index has made all its lines up to those of the phase: its next line, if there
 -- is one, is in a later phase.
 abbrev pub HasMade : Stage → ℕ → Type 0
 HasMade s index =
-    (program : Vec Planned Global) (seat : Progress) (next : Planned) → slice_get s.programs index ≡ Some program →
-    slice_get s.seats index ≡ Some seat → slice_get program.items seat.begun ≡ Some next → s.phase < next.phase
+    (program : Vec Planned Global) (seat : Progress) (next : Planned) → slice_get s.programs index ≡
+    Some program →
+    slice_get s.seats index ≡ Some seat → slice_get program.items seat.begun ≡ Some next →
+    s.phase < next.phase

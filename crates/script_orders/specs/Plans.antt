@@ -21,11 +21,17 @@ pub record Plan : Type 0 where
   pub given : List ℕ
 
 abbrev pub plan_of : Planned → Plan
-plan_of planned = record { phase = planned.phase; line = planned.line; step = planned.step; given = planned.given.items }
+plan_of planned = record {
+  phase = planned.phase;
+  line = planned.line;
+  step = planned.step;
+  given = planned.given.items;
+}
 
 -- A call with a name. If the name is malformed, it fails before it reaches the queues.
 abbrev pub named_step : List ℕ → Call → Step
-named_step name call = if is_name name then ACall call else Refusal (if has_name_form name then NameTooLong else Invalid)
+named_step name call = if is_name name then ACall call else Refusal
+    (if has_name_form name then NameTooLong else Invalid)
 
 -- what a command does in a phase with this time
 abbrev pub step_by : Deadline → Command Word → Step
@@ -34,7 +40,8 @@ step_by now (command.Close d) = ACall (MqClose d)
 step_by now (command.Unlink name) = named_step name MqUnlink
 step_by now (command.Send d prio message) = ACall (MqSend d prio (length message))
 step_by now (command.Receive d room) = ACall (MqReceive d room)
-step_by now (command.TimedSend d prio until message) = ACall (MqTimedSend d prio (length message) until now)
+step_by now (command.TimedSend d prio until message) =
+    ACall (MqTimedSend d prio (length message) until now)
 step_by now (command.TimedReceive d room until) = ACall (MqTimedReceive d room until now)
 step_by now (command.Getattr d) = ACall (MqGetattr d)
 step_by now (command.Setattr d nonblock) = ACall (MqSetattr d nonblock)
@@ -52,7 +59,12 @@ given_by other = []
 
 -- a line of a phase
 abbrev pub plan : ℕ → WrittenCall → Plan
-plan phase call = record { phase = phase; line = call.line; step = step_by call.moment call.command; given = given_by call.command }
+plan phase call = record {
+  phase = phase;
+  line = call.line;
+  step = step_by call.moment call.command;
+  given = given_by call.command;
+}
 
 -- the lines of process p in a phase
 abbrev pub plans_of : ℕ → List WrittenCall → ℕ → List Plan

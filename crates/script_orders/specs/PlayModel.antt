@@ -4,7 +4,15 @@ use Rattle.script_orders.specs.Stage.{Stage}
 use Rattle.script_orders.specs.declared.play.Play.TheInside.{Inside}
 
 abbrev pub shown : Inside → Stage
-shown x = record { programs = x.programs.items; phases = x.phases; script = x.script.items; start = x.start.records; phase = x.phase; past = x.trail; seats = x.seats.items }
+shown x = record {
+  programs = x.programs.items;
+  phases = x.phases;
+  script = x.script.items;
+  start = x.start.records;
+  phase = x.phase;
+  past = x.trail;
+  seats = x.seats.items;
+}
 
 pub record AreSeated (x : Inside) : Type 0 where
   pub few : length x.programs.items ≤ 32

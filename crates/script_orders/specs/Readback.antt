@@ -15,7 +15,8 @@ abbrev pub reported : ℕ → ℕ → List Witnessed → List Reported
 reported phase before [] = []
 reported phase before (one ∷ found) =
     if one.outcome.stage == phase
-    then record { number = before + 1; stuck = one.outcome.stuck; text = one.outcome.text.items } ∷ reported phase (before + 1) found
+    then record { number = before + 1; stuck = one.outcome.stuck; text = one.outcome.text.items } ∷
+    reported phase (before + 1) found
     else reported phase (before + 1) found
 
 -- the first byte of a line that a report has besides texts: deadlock, every, outcome, phase, the
@@ -29,11 +30,13 @@ is_plain starts (b ∷ bytes) = not (starts && is_mark b) && is_plain (b == 10) 
 
 -- the texts of all outcomes are so
 abbrev pub ArePlain : List Witnessed → Type 0
-ArePlain found = (length found < 2 ^ 63) × All (λ one. is_plain true one.outcome.text.items ≡ true) found
+ArePlain found = (length found < 2 ^ 63) × All (λ one. is_plain true one.outcome.text.items ≡
+    true) found
 
 -- the same number of phases, in each the same outcomes and deadlocks with the same numbers, and
 -- both or none are complete
-pub record TellsTheSame (m n : ℕ) (found others : List Witnessed) (whole entire : Bool) : Type 0 where
+pub record TellsTheSame (m n : ℕ) (found others : List Witnessed)
+    (whole entire : Bool) : Type 0 where
   pub phases : n ≡ m
   pub each : (phase : ℕ) → phase < m → reported phase 0 others ≡ reported phase 0 found
   pub complete : entire ≡ whole

@@ -20,15 +20,18 @@ head_text found phase =
 
 -- the line before an outcome or a deadlock
 abbrev pub entry_head : Witnessed → ℕ → List ℕ
-entry_head found number = (if found.outcome.stuck then codes "deadlock " else codes "outcome ") ++ (decimal number ++ 10 ∷ [])
+entry_head found number = (if found.outcome.stuck then codes "deadlock " else codes "outcome ") ++
+    (decimal number ++ 10 ∷ [])
 
 abbrev pub entry_text : ℕ → ℕ → Witnessed → List ℕ
-entry_text phase number found = if found.outcome.stage == phase then entry_head found number ++ found.outcome.text.items else []
+entry_text phase number found = if found.outcome.stage == phase then entry_head found number ++
+    found.outcome.text.items else []
 
 -- the outcomes and deadlocks of a phase; `before` is how many come before these
 abbrev pub entries_text : ℕ → ℕ → List Witnessed → List ℕ
 entries_text phase before [] = []
-entries_text phase before (one ∷ found) = entry_text phase (before + 1) one ++ entries_text phase (before + 1) found
+entries_text phase before (one ∷ found) = entry_text phase (before + 1) one ++ entries_text phase
+    (before + 1) found
 
 abbrev pub phase_text : List Witnessed → ℕ → List ℕ
 phase_text found phase = head_text found phase ++ entries_text phase 0 found
@@ -41,8 +44,13 @@ phases_text found (suc n) = phases_text found n ++ phase_text found n
 -- the last line; an incomplete search took as many steps as its budget has
 abbrev pub end_text : Bool → ℕ → ℕ → List ℕ
 end_text complete steps states =
-    if complete then codes "every order was tried, in " ++ (decimal steps ++ (codes " steps, " ++ (decimal states ++ (codes " states kept" ++ 10 ∷ []))))
-    else codes "the budget of " ++ (decimal steps ++ (codes " steps was used up, " ++ (decimal states ++ (codes " states kept: there may be more" ++ 10 ∷ []))))
+    if complete then codes "every order was tried, in " ++
+    (decimal steps ++
+    (codes " steps, " ++ (decimal states ++ (codes " states kept" ++ 10 ∷ []))))
+    else codes "the budget of " ++
+    (decimal steps ++ (codes " steps was used up, " ++
+    (decimal states ++ (codes " states kept: there may be more" ++ 10 ∷ []))))
 
 abbrev pub report_text : ℕ → List Witnessed → Bool → ℕ → ℕ → List ℕ
-report_text phases found complete steps states = phases_text found phases ++ end_text complete steps states
+report_text phases found complete steps states = phases_text found phases ++
+    end_text complete steps states

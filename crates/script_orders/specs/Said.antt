@@ -12,16 +12,19 @@ use Rattle.mq_state.specs.Buffers.{message_at, received_at}
 
 -- for a receive, given the place of the message's send
 abbrev pub said_of_message : Past → Process → Place → List ℕ
-said_of_message past p place = reply_line p (outcomes.Got (received_at past place)) (message_at past place)
+said_of_message past p place = reply_line p (outcomes.Got (received_at past place))
+    (message_at past place)
 
 -- the entry at this place is a send
 abbrev pub is_send_at : Past → Place → Bool
-is_send_at past place = unwrap_or (option_map (λ r. is_send r.entry.call) (record_at past place)) false
+is_send_at past place = unwrap_or (option_map (λ r. is_send r.entry.call) (record_at past place))
+    false
 
 -- For a call that waited, given the entry that answered it. A send hands over its message, and a
 -- receive admits one.
 abbrev pub said_of_collect : Past → Process → Place → List ℕ
-said_of_collect past p by = if is_send_at past by then said_of_message past p by else reply_line p outcomes.Done []
+said_of_collect past p by = if is_send_at past by then said_of_message past p by else reply_line p
+    outcomes.Done []
 
 -- for a reply to process p, the last in the journal: nothing if the call waits
 abbrev pub said : Past → Process → Reply → List ℕ

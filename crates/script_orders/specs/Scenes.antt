@@ -20,7 +20,11 @@ pub record Scene : Type 0 where
 -- after a call of process p with these bytes, if it may make it
 abbrev pub after_call : Scene → Process → Call → List ℕ → Option Scene
 after_call scene p call given =
-    option_map (λ (past : Past). record { past = past; text = scene.text ++ said past p (reply_to scene.past p call given) })
+    option_map (λ (past : Past). record {
+      past = past;
+      text = scene.text ++ said past p
+          (reply_to scene.past p call given);
+    })
     (with_call scene.past p call given)
 
 -- process p holds descriptor d: a close of it does not fail
@@ -40,5 +44,13 @@ close_first past p (suc n) = close_held (close_first past p n) p n
 -- that it may hold, in one step.
 abbrev pub after_step : Scene → Process → List ℕ → Step → Option Scene
 after_step scene p given (step.Call call) = after_call scene p call given
-after_step scene p given (step.Refusal fault) = Some (record { past = scene.past; text = scene.text ++ reply_line p (outcomes.Refused fault) [] })
-after_step scene p given step.Exit = Some (record { past = close_first scene.past p 16; text = scene.text ++ reply_line p outcomes.Done [] })
+after_step scene p given (step.Refusal fault) =
+    Some (record {
+      past = scene.past;
+      text = scene.text ++ reply_line p
+          (outcomes.Refused fault) [];
+    })
+after_step scene p given step.Exit = Some (record {
+  past = close_first scene.past p 16;
+  text = scene.text ++ reply_line p outcomes.Done [];
+})

@@ -17,4 +17,6 @@ spaced words = flat_map (λ word. 32 ∷ word) words
 -- the line of a script whose call waits for ever: its number and its words
 abbrev pub wait_text : List ℕ → ℕ → List ℕ
 wait_text script number =
-    codes "line " ++ (decimal number ++ (codes ": waits for ever:" ++ (spaced (words_of (line_numbered script number)) ++ 10 ∷ [])))
+    codes "line " ++
+    (decimal number ++ (codes ": waits for ever:" ++
+    (spaced (words_of (line_numbered script number)) ++ 10 ∷ [])))

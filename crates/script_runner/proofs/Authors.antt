@@ -10,7 +10,9 @@ author-low : (past : Past) (r : Record) → IsLegalNext past r → 1 ≤ author 
 author-low past r legal = let both = legal.process in grind (arith, common_steps)
 
 -- all of them are from 1 to n, if none is above n
-pub authors-within : (n : ℕ) (past : Past) → Legal past → All (λ (r : Record). r.entry.process ≤ n) past → All (λ (r : Record). (1 ≤ author r) × (author r ≤ n)) past
+pub authors-within : (n : ℕ) (past : Past) → Legal past →
+    All (λ (r : Record). r.entry.process ≤ n) past →
+    All (λ (r : Record). (1 ≤ author r) × (author r ≤ n)) past
 authors-within n [] legal most = All-nil (λ (r : Record). (1 ≤ author r) × (author r ≤ n))
 authors-within n (r ∷ past) legal most =
     let Low : Record → Type 0 = λ r. r.entry.process ≤ n in

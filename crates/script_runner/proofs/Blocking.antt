@@ -14,7 +14,9 @@ use Rattle.mq.specs.KindsHold.{receive-waits, send-waits}
 use Rattle.script_runner.specs.Runs.{WaitsFor}
 
 -- a wait after other processes' calls
-waits-later : {old mid new : Ticket Record} {call : Call} {given : List ℕ} → Calls old mid (recorded old.number call given Waits ∷ []) → WaitsIn mid call → Calls mid new [] → WaitsFor old new call given
+waits-later : {old mid new : Ticket Record} {call : Call} {given : List ℕ} →
+    Calls old mid (recorded old.number call given Waits ∷ []) → WaitsIn mid call →
+    Calls mid new [] → WaitsFor old new call given
 waits-later {old} {mid} {new} {call} {given} first waits later =
     let some : IsSome (waiting_room mid.left mid.number) = rw waits.room refl in
     record {
@@ -23,18 +25,35 @@ waits-later {old} {mid} {new} {call} {given} first waits later =
       waits = rw later.number (call-grown later.grows ∙ waits.call);
     }
 
-pub send-blocks : {old mid new : Ticket Record} {call : Call} {bytes : List ℕ} → OneCall start_send_says old mid call bytes (Ok false) → WaitsIn mid call → Calls mid new [] → WaitsFor old new call bytes
-send-blocks start waits later = waits-later (rw (send-waits start.reply (Ok false) start.says_so refl) at start.calls) waits later
+pub send-blocks : {old mid new : Ticket Record} {call : Call} {bytes : List ℕ} →
+    OneCall start_send_says old mid call bytes (Ok false) → WaitsIn mid call → Calls mid new [] →
+    WaitsFor old new call bytes
+send-blocks start waits later =
+    waits-later (rw (send-waits start.reply (Ok false) start.says_so refl) at start.calls) waits
+    later
 
-pub receive-blocks : {old mid new : Ticket Record} {call : Call} {before between : List ℕ} → ReceiveCall start_receive_says old mid call before between (Ok None) → WaitsIn mid call → Calls mid new [] → WaitsFor old new call []
-receive-blocks {mid = mid} start waits later = waits-later (rw (receive-waits mid.left start.reply (Ok None) start.says_so refl) at start.calls) waits later
+pub receive-blocks : {old mid new : Ticket Record} {call : Call} {before between : List ℕ} →
+    ReceiveCall start_receive_says old mid call before between (Ok None) → WaitsIn mid call →
+    Calls mid new [] → WaitsFor old new call []
+receive-blocks {mid = mid} start waits later =
+    waits-later (rw (receive-waits mid.left start.reply (Ok None) start.says_so refl) at
+    start.calls) waits later
 
 -- a poll of the process set `told`
-pub calls-told : {old mid new : Ticket Record} {told : Bool} → Calls old mid [] → new ≡ record mid { told = told } → Calls old new []
-calls-told {old} {mid} {new} {told} calls is = rw is (record { lock = calls.lock; number = calls.number; legal = calls.legal; grows = calls.grows })
+pub calls-told : {old mid new : Ticket Record} {told : Bool} → Calls old mid [] →
+    new ≡ record mid { told = told } → Calls old new []
+calls-told {old} {mid} {new} {told} calls is =
+    rw is (record {
+      lock = calls.lock;
+      number = calls.number;
+      legal = calls.legal;
+      grows = calls.grows;
+    })
 
-pub calls-later : {old mid new : Ticket Record} → Calls old mid [] → Calls mid new [] → Calls old new []
+pub calls-later : {old mid new : Ticket Record} → Calls old mid [] → Calls mid new [] →
+    Calls old new []
 calls-later first later = calls-on (λ _. []) first later
 
-pub room-later : {old new : Ticket Record} → Calls old new [] → waiting_room new.left new.number ≡ waiting_room old.left old.number
+pub room-later : {old new : Ticket Record} → Calls old new [] → waiting_room new.left new.number ≡
+    waiting_room old.left old.number
 room-later calls = rw calls.number (room-grown calls.grows)

@@ -29,7 +29,8 @@ pub record MeetBlocked (blocked : List ℕ) (old new : List (Ticket Record)) : T
   pub found : AllZip (FindsBlocked blocked n) old new
 
 -- a phase was run, and then all processes found a journal of the same length
-pub record RunsAndMeets (calls : List WrittenCall) (before after : List (Ticket Record)) (text : List ℕ) : Type 0 where
+pub record RunsAndMeets (calls : List WrittenCall) (before after : List (Ticket Record))
+    (text : List ℕ) : Type 0 where
   pub ended : List (Ticket Record)
   pub ran : RunsPhase calls before ended text
   pub met : Meet ended after

@@ -15,12 +15,15 @@ HasShare share (Idle worked) = Ends share worked
 HasShare share (Busy handle) = handle.promise.0.value ≡ share
 
 -- each member has its share
-abbrev pub AllHaveShares : {L S W I : Type 0} → List (Share (Ticket Record)) → List (Member L S W I) → Type 0
+abbrev pub AllHaveShares : {L S W I : Type 0} → List (Share (Ticket Record)) →
+    List (Member L S W I) → Type 0
 AllHaveShares shares members = AllZip HasShare shares members
 
 -- the member's thread ended with this result
-pub record Gives {L S W I : Type 0} (member : Member L S W I) (worked : Worked (Ticket Record)) : Type 0 where
+pub record Gives {L S W I : Type 0} (member : Member L S W I)
+    (worked : Worked (Ticket Record)) : Type 0 where
   pub of_share : (share : Share (Ticket Record)) → HasShare share member → Ends share worked
 
-abbrev pub AllGive : {L S W I : Type 0} → List (Member L S W I) → List (Worked (Ticket Record)) → Type 0
+abbrev pub AllGive : {L S W I : Type 0} → List (Member L S W I) → List (Worked (Ticket Record)) →
+    Type 0
 AllGive members workers = AllZip Gives members workers

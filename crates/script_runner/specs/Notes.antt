@@ -33,6 +33,7 @@ pub record RunsServed (script : Whole) (all : List Noted) (journal : Past) : Typ
   pub served : some_refused all ≡ false
 
 -- the same for a script that was run whole after the calls of a journal
-pub record RunsServedAfter (past : Past) (script : Whole) (all : List Noted) (journal : Past) : Type 0 where
+pub record RunsServedAfter (past : Past) (script : Whole) (all : List Noted)
+    (journal : Past) : Type 0 where
   pub ran : RunsAfter past script (lines_of all) journal
   pub served : some_refused all ≡ false

@@ -17,7 +17,8 @@ calls_in turns = map (λ turn. said_call turn.call) turns
 
 -- the lines of all replies, in the order of the processes
 abbrev pub text_in : List (Worked (Ticket Record)) → List ℕ
-text_in workers = flat_map (λ worked. reply_lines worked.process.number worked.completions.items) workers
+text_in workers = flat_map (λ worked. reply_lines worked.process.number worked.completions.items)
+    workers
 
 -- the processes of the shares were made with this system, and have no open wait
 pub record AreReady (mq : LockId) (shares : List (Share (Ticket Record))) : Type 0 where
@@ -28,7 +29,8 @@ pub record AreReady (mq : LockId) (shares : List (Share (Ticket Record))) : Type
 pub record Ends (share : Share (Ticket Record)) (worked : Worked (Ticket Record)) : Type 0 where
   pub same : IsSameProcess share.process worked.process
   pub free : worked.blocked ≡ None → IsFree worked.process
-  pub ends : EndsIn worked.blocked (calls_in share.turns.items) worked.completions.items share.process worked.process
+  pub ends : EndsIn worked.blocked (calls_in share.turns.items) worked.completions.items
+      share.process worked.process
 
 abbrev pub AllEnd : List (Share (Ticket Record)) → List (Worked (Ticket Record)) → Type 0
 AllEnd shares workers = AllZip Ends shares workers

@@ -24,7 +24,8 @@ pub record BlocksIn (calls : List WrittenCall) (old new : Ticket Record) (line :
   pub blocks : Blocks call.moment call.command (buffer_given call.command) mid new
 
 -- How the calls of a process ended: all were made, or one of them waits, the one in the line.
-abbrev pub EndsIn : Option ℕ → List WrittenCall → List Completion → Ticket Record → Ticket Record → Type 0
+abbrev pub EndsIn : Option ℕ → List WrittenCall → List Completion → Ticket Record → Ticket Record →
+    Type 0
 EndsIn None calls completions old new = RunsCalls calls completions old new
 EndsIn (Some line) calls completions old new = BlocksIn calls old new line
 
@@ -34,7 +35,8 @@ process_in (Some line) process = process ∷ []
 
 -- the processes that wait
 abbrev pub blocked_processes : List (Worked (Ticket Record)) → List ℕ
-blocked_processes workers = flat_map (λ worked. process_in worked.blocked worked.process.number) workers
+blocked_processes workers = flat_map (λ worked. process_in worked.blocked worked.process.number)
+    workers
 
 abbrev pub line_in : Option ℕ → List ℕ
 line_in None = []
@@ -45,19 +47,23 @@ abbrev pub blocked_lines : List (Worked (Ticket Record)) → List ℕ
 blocked_lines workers = flat_map (λ worked. line_in worked.blocked) workers
 
 -- a process of a phase, whose calls ended in this way
-pub record EndsPhase (calls : List WrittenCall) (old : Ticket Record) (worked : Worked (Ticket Record)) : Type 0 where
+pub record EndsPhase (calls : List WrittenCall) (old : Ticket Record)
+    (worked : Worked (Ticket Record)) : Type 0 where
   pub same : IsSameProcess old worked.process
-  pub ends : EndsIn worked.blocked (calls_of old.number calls) worked.completions.items old worked.process
+  pub ends : EndsIn worked.blocked (calls_of old.number calls) worked.completions.items
+      old worked.process
 
 -- The phase deadlocked. Each process made all its calls, or some first ones and then waits in the
 -- next one. `lines` are the lines of those calls, and there is at least one. Then each process
 -- acquired the lock once more. All found a journal of the same length, in which every process that
 -- waits has an open wait that no entry serves. So none of them calls again.
-pub record ComesToAStand (calls : List WrittenCall) (before : List (Ticket Record)) (lines : List ℕ) (after : List (Ticket Record)) : Type 0 where
+pub record ComesToAStand (calls : List WrittenCall) (before : List (Ticket Record)) (lines : List ℕ)
+    (after : List (Ticket Record)) : Type 0 where
   pub ended : List (Worked (Ticket Record))
   pub each : AllZip (EndsPhase calls) before ended
   pub are : blocked_lines ended ≡ lines
   pub some : lines ≢ []
   pub n : ℕ
   pub met : AllZip (FindsLength n) (map (λ worked. worked.process) ended) after
-  pub blocked : All (λ process. list_all (is_blocked process.left) (blocked_processes ended) ≡ true) after
+  pub blocked : All (λ process. list_all (is_blocked process.left) (blocked_processes ended) ≡
+      true) after

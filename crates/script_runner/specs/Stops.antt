@@ -11,7 +11,8 @@ use Rattle.script_runner.specs.Runs.{RunsPhase, RunsPhases, last_line}
 use Rattle.script_runner.specs.Stands.{ComesToAStand}
 
 -- some phases were run, the first ones, and exactly their replies were appended to known bytes
-pub record RunsFront (phases : List (List WrittenCall)) (before : List (Ticket Record)) (old new : Option (List ℕ)) : Type 0 where
+pub record RunsFront (phases : List (List WrittenCall)) (before : List (Ticket Record))
+    (old new : Option (List ℕ)) : Type 0 where
   pub count : ℕ
   pub after : List (Ticket Record)
   pub replies : List ℕ
@@ -20,15 +21,18 @@ pub record RunsFront (phases : List (List WrittenCall)) (before : List (Ticket R
 
 -- a script was run up to the end of a phase, or not begun, and nothing else was written
 abbrev pub StopsAfterPhase : Whole → Option (List ℕ) → Option (List ℕ) → Type 0
-StopsAfterPhase script old new = (new ≡ old) ⊎ ((system : LockId) × RunsFront script.phases (tickets_from system 1 script.processes) old new)
+StopsAfterPhase script old new = (new ≡ old) ⊎ ((system : LockId) × RunsFront script.phases
+    (tickets_from system 1 script.processes) old new)
 
 -- a text was appended to known bytes, and a proper prefix of the next text
 abbrev pub AppendsInto : Option (List ℕ) → Option (List ℕ) → List ℕ → List ℕ → Type 0
-AppendsInto old new text next = (n : ℕ) × (n < length next) × known.Appends old new (text ++ take n next)
+AppendsInto old new text next = (n : ℕ) × (n < length next) × known.Appends old new
+    (text ++ take n next)
 
 -- Phases were run, the first ones. The replies of all but the last of these are written, and a
 -- prefix of the replies of the last.
-pub record StopsInPhase (phases : List (List WrittenCall)) (before : List (Ticket Record)) (old new : Option (List ℕ)) : Type 0 where
+pub record StopsInPhase (phases : List (List WrittenCall)) (before : List (Ticket Record))
+    (old new : Option (List ℕ)) : Type 0 where
   pub first : List (List WrittenCall)
   pub last : List WrittenCall
   pub later : List (List WrittenCall)
@@ -42,7 +46,8 @@ pub record StopsInPhase (phases : List (List WrittenCall)) (before : List (Ticke
   pub written : AppendsInto old new replies text
 
 -- All phases were run. Their replies are written, and a prefix of the last line.
-pub record StopsInLastLine (phases : List (List WrittenCall)) (before : List (Ticket Record)) (old new : Option (List ℕ)) : Type 0 where
+pub record StopsInLastLine (phases : List (List WrittenCall)) (before : List (Ticket Record))
+    (old new : Option (List ℕ)) : Type 0 where
   pub after : List (Ticket Record)
   pub replies : List ℕ
   pub ran : RunsPhases phases before after replies
@@ -57,7 +62,8 @@ pub record StopsInWrite (script : Whole) (old new : Option (List ℕ)) : Type 0 
 
 -- Phases were run, the first ones, and their replies are written and nothing else. The next phase
 -- deadlocked in the calls of these lines.
-pub record StopsBlocked (phases : List (List WrittenCall)) (before : List (Ticket Record)) (lines : List ℕ) (after : List (Ticket Record)) (old new : Option (List ℕ)) : Type 0 where
+pub record StopsBlocked (phases : List (List WrittenCall)) (before : List (Ticket Record))
+    (lines : List ℕ) (after : List (Ticket Record)) (old new : Option (List ℕ)) : Type 0 where
   pub first : List (List WrittenCall)
   pub last : List WrittenCall
   pub later : List (List WrittenCall)
@@ -69,12 +75,14 @@ pub record StopsBlocked (phases : List (List WrittenCall)) (before : List (Ticke
   pub written : known.Appends old new replies
 
 -- A script was run up to a phase that deadlocked. There is one legal journal, as after a whole run.
-pub record StopsInDeadlock (script : Whole) (lines : List ℕ) (old new : Option (List ℕ)) : Type 0 where
+pub record StopsInDeadlock (script : Whole) (lines : List ℕ)
+    (old new : Option (List ℕ)) : Type 0 where
   pub system : LockId
   pub few : script.processes ≤ 32
   pub unbounded : bounds_in system.fixed ≡ None
   pub processes : List (Ticket Record)
-  pub stops : StopsBlocked script.phases (tickets_from system 1 script.processes) lines processes old new
+  pub stops : StopsBlocked script.phases (tickets_from system 1 script.processes) lines
+      processes old new
   pub journal : Past
   pub legal : Legal journal
   pub authors : All (λ r. (1 ≤ author r) × (author r ≤ script.processes)) journal

@@ -13,23 +13,28 @@ pub open_none : (words : List (Bor Word)) → length words < 2 → None ≡ open
 open_none (_ ∷ _ ∷ words) few = absurd (omega arith)
 open_none _ few = refl
 
-pub attr_none : (words : List (Bor Word)) → length words ≢ 0 → length words ≢ 2 → None ≡ attr_written (words_at words)
+pub attr_none : (words : List (Bor Word)) → length words ≢ 0 → length words ≢ 2 →
+    None ≡ attr_written (words_at words)
 attr_none words some other = grind (arith, common_steps)
 
-pub timed_send_none : (words : List (Bor Word)) → length words < 4 → None ≡ timed_send_written (words_at words)
+pub timed_send_none : (words : List (Bor Word)) → length words < 4 →
+    None ≡ timed_send_written (words_at words)
 timed_send_none (_ ∷ _ ∷ _ ∷ _ ∷ words) few = absurd (omega arith)
 timed_send_none _ few = refl
 
-pub timed_receive_none : (words : List (Bor Word)) → length words < 2 → None ≡ timed_receive_written (words_at words)
+pub timed_receive_none : (words : List (Bor Word)) → length words < 2 →
+    None ≡ timed_receive_written (words_at words)
 timed_receive_none (_ ∷ _ ∷ words) few = absurd (omega arith)
 timed_receive_none _ few = refl
 
 pub until_few : (words : List (Bor Word)) → length words < 2 → None ≡ until_written (words_at words)
 until_few words few = grind (arith, common_steps)
 
-pub until_many : (words : List (Bor Word)) → 3 ≤ length words → None ≡ until_written (words_at words)
+pub until_many : (words : List (Bor Word)) → 3 ≤ length words →
+    None ≡ until_written (words_at words)
 until_many words many = grind (arith, common_steps)
 
-pub clock_none : (words : List (Bor Word)) → length words ≢ 3 → None ≡ clock_written (words_at words)
+pub clock_none : (words : List (Bor Word)) → length words ≢ 3 →
+    None ≡ clock_written (words_at words)
 clock_none (_ ∷ _ ∷ _ ∷ []) other = absurd (other refl)
 clock_none _ other = refl

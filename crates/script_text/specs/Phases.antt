@@ -7,5 +7,6 @@ use Rattle.script_text.specs.Script.{Written, Whole, said_calls, said_phases}
 abbrev pub whole_behind : Phases → Written → Whole
 whole_behind phases rest = record {
   processes = rest.processes;
-  phases = said_phases phases.ended.items ++ (said_calls phases.current.items ++ rest.first) ∷ rest.later;
+  phases = said_phases phases.ended.items ++ (said_calls phases.current.items ++ rest.first) ∷
+      rest.later;
 }

@@ -13,11 +13,14 @@ flag_text nonblock = decimal (if nonblock then 1 else 0)
 abbrev pub outcome_text : Outcome → List ℕ
 outcome_text (Opened d) = codes "fd " ++ decimal d
 outcome_text Done = codes "ok"
-outcome_text (Got received) = codes "got " ++ (decimal received.prio ++ (codes " " ++ decimal received.len))
+outcome_text (Got received) = codes "got " ++ (decimal received.prio ++
+    (codes " " ++ decimal received.len))
 outcome_text (Attrs status) =
     codes "attr "
     ++ (flag_text status.nonblock
-    ++ (codes " " ++ (signed_decimal status.maxmsg ++ (codes " " ++ (signed_decimal status.msgsize ++ (codes " " ++ signed_decimal status.curmsgs))))))
+    ++ (codes " " ++ (signed_decimal status.maxmsg ++
+    (codes " " ++ (signed_decimal status.msgsize ++
+    (codes " " ++ signed_decimal status.curmsgs))))))
 outcome_text (Notice (Some value)) = codes "notice " ++ decimal value
 outcome_text (Notice None) = codes "notice none"
 outcome_text (Refused fault) = text_of fault
@@ -43,4 +46,6 @@ HasMessage outcome room = message_len outcome ≤ room
 
 -- the line of a reply
 abbrev pub reply_line : ℕ → Outcome → List ℕ → List ℕ
-reply_line process outcome buffer = decimal process ++ (codes " " ++ (outcome_text outcome ++ (message_text (message_received outcome buffer) ++ 10 ∷ [])))
+reply_line process outcome buffer = decimal process ++
+    (codes " " ++ (outcome_text outcome ++ (message_text (message_received outcome buffer) ++ 10 ∷
+    [])))

@@ -6,4 +6,5 @@ use Rattle.script_text.specs.declared.reply.Completion.{Completion}
 -- the lines of a process's replies
 abbrev pub reply_lines : ℕ → List Completion → List ℕ
 reply_lines p [] = []
-reply_lines p (completion ∷ completions) = reply_line p completion.outcome completion.buffer.items ++ reply_lines p completions
+reply_lines p (completion ∷ completions) = reply_line p completion.outcome completion.buffer.items
+    ++ reply_lines p completions

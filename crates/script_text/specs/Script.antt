@@ -29,7 +29,8 @@ is_phase_end words = false
 
 -- `processes N`
 abbrev pub processes_written : List Word → Option ℕ
-processes_written (word ∷ count ∷ []) = if bytes_eq word (codes "processes") then count_written 32 count else None
+processes_written (word ∷ count ∷ []) = if bytes_eq word (codes "processes") then count_written
+    32 count else None
 processes_written words = None
 
 -- a line whose first word is `clock`
@@ -68,11 +69,13 @@ call_line_written processes number moment (process ∷ words) = do
 -- What the words of a line mean. The first line that is not skipped has the number of processes. No
 -- clock line may follow a call of its phase.
 abbrev pub line_written : Option ℕ → ℕ → PhaseTime → List Word → Option (Line WrittenCall)
-line_written None number time words = if is_skipped words then Some Skipped else option_map Processes (processes_written words)
+line_written None number time words = if is_skipped words then Some Skipped else option_map
+    Processes (processes_written words)
 line_written (Some processes) number time words =
     if is_skipped words then Some Skipped
     else (if is_phase_end words then Some PhaseEnd
-    else (if is_clock words then (if time.begun then None else option_map Clock (clock_written words))
+    else (if is_clock words then (if time.begun then None else option_map Clock
+    (clock_written words))
     else option_map Call (call_line_written processes number time.moment words)))
 
 -- the number of processes after a line, if it is known by then
@@ -94,7 +97,12 @@ time_behind line time = time
 -- after a line: the numbers of lines, bytes and call lines that were read, and the time of the
 -- phase
 abbrev pub place_behind : Place → List ℕ → Line WrittenCall → Place
-place_behind at bytes line = record { lines = at.lines + 1; bytes = at.bytes + length bytes; calls = at.calls + calls_of line; time = time_behind line at.time }
+place_behind at bytes line = record {
+  lines = at.lines + 1;
+  bytes = at.bytes + length bytes;
+  calls = at.calls + calls_of line;
+  time = time_behind line at.time;
+}
 
 -- the limits of a script
 abbrev pub is_within_limits : Place → Bool
@@ -104,7 +112,8 @@ is_within_limits at = nat_le at.bytes 1048576 && nat_le at.calls 1000
 abbrev pub line_read : Option ℕ → Place → List ℕ → Option (Line WrittenCall × Place)
 line_read processes at bytes = do
   line ← line_written processes (at.lines + 1) at.time (words_of bytes)
-  if is_within_limits (place_behind at bytes line) then Some (line, place_behind at bytes line) else None
+  if is_within_limits (place_behind at bytes line) then Some (line, place_behind at bytes line) else
+      None
 
 -- a script, with the calls of its first phase and of its later ones
 pub record Written : Type 0 where
@@ -117,8 +126,16 @@ abbrev pub with_line : Line WrittenCall → Written → Written
 with_line Skipped script = script
 with_line (Processes count) script = script
 with_line (Clock moment) script = script
-with_line PhaseEnd script = record { processes = script.processes; first = []; later = script.first ∷ script.later }
-with_line (Call call) script = record { processes = script.processes; first = call ∷ script.first; later = script.later }
+with_line PhaseEnd script = record {
+  processes = script.processes;
+  first = [];
+  later = script.first ∷ script.later;
+}
+with_line (Call call) script = record {
+  processes = script.processes;
+  first = call ∷ script.first;
+  later = script.later;
+}
 
 abbrev pub result_map : {A B : Type 0} → (A → B) → Result A ℕ → Result B ℕ
 result_map f (Ok x) = Ok (f x)
@@ -132,10 +149,12 @@ or_fault (Some x) line f = f x
 -- The script that lines mean, or the first wrong line. If no line has the number of processes, that
 -- is the one after the last.
 abbrev pub script_read : Option ℕ → Place → List (List ℕ) → Result Written ℕ
-script_read processes at [] = or_fault processes (at.lines + 1) (λ count. Ok (record { processes = count; first = []; later = [] }))
+script_read processes at [] = or_fault processes (at.lines + 1)
+    (λ count. Ok (record { processes = count; first = []; later = [] }))
 script_read processes at (bytes ∷ rest) =
     or_fault (line_read processes at bytes) (at.lines + 1)
-    (λ read. result_map (with_line read.0) (script_read (processes_behind read.0 processes) read.1 rest))
+    (λ read. result_map (with_line read.0)
+    (script_read (processes_behind read.0 processes) read.1 rest))
 
 -- a byte before the first line
 abbrev pub onto_first_line : ℕ → List (List ℕ) → List (List ℕ)
@@ -149,7 +168,12 @@ lines_of (b ∷ bs) = if b == 10 then (b ∷ []) ∷ lines_of bs else onto_first
 
 -- the first phase has the time (0, 0), unless a clock line sets another
 abbrev pub start : Place
-start = record { lines = 0; bytes = 0; calls = 0; time = record { moment = record { sec = pos 0; nsec = pos 0 }; begun = false } }
+start = record {
+  lines = 0;
+  bytes = 0;
+  calls = 0;
+  time = record { moment = record { sec = pos 0; nsec = pos 0 }; begun = false };
+}
 
 -- a script: the number of its processes, and the calls of its phases
 pub record Whole : Type 0 where
@@ -165,7 +189,12 @@ script_written text = result_map whole_of (script_read None start (lines_of text
 
 -- calls, lines and phases of the program, without the positions of their bytes
 abbrev pub said_call : ScriptCall (Bor Word) → WrittenCall
-said_call call = record { process = call.process; line = call.line; command = said call.command; moment = call.clock.moment }
+said_call call = record {
+  process = call.process;
+  line = call.line;
+  command = said call.command;
+  moment = call.clock.moment;
+}
 
 abbrev pub said_line : Line (ScriptCall (Bor Word)) → Line WrittenCall
 said_line Skipped = Skipped
@@ -181,4 +210,7 @@ abbrev pub said_phases : List (Vec (ScriptCall (Bor Word)) Global) → List (Lis
 said_phases phases = map (λ phase. said_calls phase.items) phases
 
 abbrev pub said_script : Script → Whole
-said_script script = record { processes = script.processes; phases = said_phases script.phases.items }
+said_script script = record {
+  processes = script.processes;
+  phases = said_phases script.phases.items;
+}

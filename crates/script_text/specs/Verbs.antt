@@ -23,7 +23,9 @@ verb_text verb.Collect = codes "collect"
 verb_text verb.Withdraw = codes "withdraw"
 
 abbrev pub verbs : List Verb
-verbs = verb.Open ∷ verb.Close ∷ verb.Unlink ∷ verb.Send ∷ verb.Receive ∷ verb.TimedSend ∷ verb.TimedReceive ∷ verb.Getattr ∷ verb.Setattr ∷ verb.Notify ∷ verb.Notice ∷ verb.Exit ∷ verb.Collect ∷ verb.Withdraw ∷ []
+verbs = verb.Open ∷ verb.Close ∷ verb.Unlink ∷ verb.Send ∷ verb.Receive ∷ verb.TimedSend ∷
+    verb.TimedReceive ∷ verb.Getattr ∷ verb.Setattr ∷ verb.Notify ∷ verb.Notice ∷ verb.Exit ∷
+    verb.Collect ∷ verb.Withdraw ∷ []
 
 -- the verb with this word
 unfoldable pub verb_written : Word → Option Verb

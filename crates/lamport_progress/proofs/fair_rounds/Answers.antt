@@ -4,4 +4,8 @@ use Rattle.lamport_progress.proofs.Delay.{delays}
 use Rattle.lamport_progress.proofs.fair_rounds.Goals as goal
 
 pub returns : goal.returns
-returns c = record { enters = rounds_enter; round_robin = round_robin_enters; exact_for_two = delays }
+returns c = record {
+  enters = rounds_enter;
+  round_robin = round_robin_enters;
+  exact_for_two = delays;
+}

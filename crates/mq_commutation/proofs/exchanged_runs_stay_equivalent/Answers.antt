@@ -6,4 +6,6 @@ use Rattle.mq_commutation.proofs.exchanged_runs_stay_equivalent.Goals as goal
 
 pub returns : goal.returns
 returns c = λ past a b legal first second covered_a covered_b independent calls follows.
-    runs-equivalent (after_calls past (b ∷ (a ∷ []))) (after_calls past (a ∷ (b ∷ []))) (independent-commute past a b legal first second covered_a covered_b independent).journals calls follows
+    runs-equivalent (after_calls past (b ∷ (a ∷ []))) (after_calls past (a ∷ (b ∷ [])))
+    (independent-commute past a b legal first second covered_a covered_b independent).journals
+    calls follows

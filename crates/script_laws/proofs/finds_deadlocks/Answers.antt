@@ -8,5 +8,6 @@ use Rattle.script_laws.proofs.finds_deadlocks.Goals as goal
 pub returns : goal.returns
 returns c = λ script lines old new from found stop ample begins all.
     stand-found from found (length stop.stops.first) (replies_before stop) lines
-    (replies-count stop.stops.first (tickets_from stop.system 1 script.processes) stop.stops.between stop.stops.replies stop.stops.ran)
+    (replies-count stop.stops.first (tickets_from stop.system 1 script.processes) stop.stops.between
+    stop.stops.replies stop.stops.ran)
     all (stand-observed script lines old new from stop ample begins)

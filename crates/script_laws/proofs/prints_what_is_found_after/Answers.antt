@@ -5,4 +5,6 @@ use Rattle.script_laws.proofs.prints_what_is_found_after.Goals as goal
 
 pub returns : goal.returns
 returns c = λ past script replies journal from found ran some ample begins all.
-    (observed-found (λ to next. Unit {0}) from from [] found 0 (replies_after ran) all refl (run-after-observed past script replies journal ran from (after-end past script replies journal some ran) ample begins)).phases
+    (observed-found (λ to next. Unit {0}) from from [] found 0 (replies_after ran) all refl
+    (run-after-observed past script replies journal ran from
+    (after-end past script replies journal some ran) ample begins)).phases

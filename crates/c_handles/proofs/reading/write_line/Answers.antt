@@ -5,12 +5,16 @@ use Rattle.mq_state.specs.Buffers.{with_front}
 use Rattle.c_handles.proofs.reading.write_line.Goals as goal
 
 -- as much of the line as fits into the buffer is a prefix of it
-front-written : (line before front : List ℕ) (count : ℕ) → count ≡ min (length line) (length before) → front ≡ take count line → front ++ drop count before ≡ with_front (take (length before) line) before
+front-written : (line before front : List ℕ) (count : ℕ) →
+    count ≡ min (length line) (length before) → front ≡ take count line →
+    front ++ drop count before ≡ with_front (take (length before) line) before
 unfolding with_front
 front-written line before front count least is =
     let other : count ≡ min (length before) (length line) = omega arith in
-    let same : front ≡ take (length before) line = is ∙ (ap (λ (n : ℕ). take n line) other ∙ take_min (length before) line) in
-    let long : count ≡ length (take (length before) line) = other ∙ sym (length-take (length before) line) in
+    let same : front ≡ take (length before) line = is ∙ (ap (λ (n : ℕ). take n line) other ∙
+    take_min (length before) line) in
+    let long : count ≡ length (take (length before) line) =
+    other ∙ sym (length-take (length before) line) in
     λ i. same i ++ drop (long i) before
 
 done : (n m : ℕ) → n ≤ m → ◌≡◌ {A = ℕ} 0 (if nat_le n m then 0 else 21)

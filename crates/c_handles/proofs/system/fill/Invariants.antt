@@ -11,6 +11,7 @@ invariant-members l = record {
   all : l.yielded ++ into_iter_items l.member-iterator ≡ into_iter_items l.initial.member-iterator;
   left : into_iter_len l.member-iterator ≡ length (into_iter_items l.member-iterator);
   place : l.place + into_iter_len l.member-iterator ≡ length l.processes;
-  done : map process_in (take l.place l.processes) ≡ map (λ b. Some (ticket_of b.value.standing)) l.yielded;
+  done : map process_in (take l.place l.processes) ≡
+      map (λ b. Some (ticket_of b.value.standing)) l.yielded;
   rest : list_all is_empty (drop l.place l.processes) ≡ true;
 }

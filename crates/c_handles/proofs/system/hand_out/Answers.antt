@@ -12,4 +12,8 @@ fill-requires-clause-count c = grind (arith, length-map)
 pub returns : goal.returns
 returns c =
     let shown = map-some (λ b. ticket_of b.value.standing) c.in-Ok-members_of.members.items in
-    inl (refl, c.fill.ensures ∙ shown ∙ ap (λ (ts : List (Ticket Record)). map (λ (t : Ticket Record). Some t) ts) c.in-Ok-members_of.ensures.ok)
+    inl (
+      refl,
+      c.fill.ensures ∙ shown ∙ ap (λ (ts : List (Ticket Record)). map
+          (λ (t : Ticket Record). Some t) ts) c.in-Ok-members_of.ensures.ok,
+    )

@@ -8,7 +8,8 @@ use Rattle.c_handles.proofs.system.members_of.Given as goal
 
 abbrev pub invariant-made : goal.invariant-made
 invariant-made l = record {
-  all : l.yielded ++ into_iter_items l.process-iterator ≡ into_iter_items l.initial.process-iterator;
+  all : l.yielded ++ into_iter_items l.process-iterator ≡
+      into_iter_items l.initial.process-iterator;
   left : into_iter_len l.process-iterator ≡ length (into_iter_items l.process-iterator);
   done : map (λ b. ticket_of b.value.standing) l.members.items ≡ l.yielded;
   room : vec_len l.members + into_iter_len l.process-iterator ≤ vec_capacity l.members;

@@ -3,6 +3,7 @@ use Rattle.exploration.proofs.Locking.{locks-race}
 use Rattle.exploration.proofs.dependence.may_race.Goals as goal
 
 pub returns-then-not-is_cause-clause-locks : goal.returns-then-not-is_cause-clause-locks
-returns-then-not-is_cause-clause-locks c = λ lock x y in_a in_b same changes on unlocks locks order cause.
+returns-then-not-is_cause-clause-locks c = λ lock x y in_a in_b same changes on unlocks
+    locks order cause.
     c.any_race.ensures ∙ locks-race lock c.args.a.now.effects.items c.args.b.now.effects.items x y
     in_a in_b same changes on unlocks locks

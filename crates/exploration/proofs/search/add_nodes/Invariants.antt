@@ -11,7 +11,8 @@ invariant-loop-step l = record {
   within : l.step-index ≤ length l.steps;
   open_nodes : (could : List Choice → Choice → Bool) → All (IsOpen could) l.initial.nodes.items →
       Shows could [] l.steps →
-      All (IsOpen could) l.nodes.items × Possible could l.prefix.items × Shows could l.prefix.items (drop l.step-index l.steps);
+      All (IsOpen could) l.nodes.items × Possible could l.prefix.items × Shows could l.prefix.items
+      (drop l.step-index l.steps);
   left : runs_left l.limits.choices l.limits.steps l.nodes.items
       + suc l.limits.choices ^ (suc l.limits.steps - max l.from l.step-index)
       ≤ runs_left l.limits.choices l.limits.steps l.initial.nodes.items

@@ -6,11 +6,14 @@ use Rattle.histories.specs.declared.excess.Excess.{Excess}
 use Rattle.histories.proofs.Refuting.{excess-refutes}
 use Rattle.histories.proofs.excess.find_excess.Goals as goal
 
-none-of : (histories : Histories) (found : Option Excess) → IfSome found (IsExcess histories) → IsSome found → HasNoOrder histories
+none-of : (histories : Histories) (found : Option Excess) → IfSome found (IsExcess histories) →
+    IsSome found → HasNoOrder histories
 none-of histories None is some = absurd (cc)
 none-of histories (Some e) is some = excess-refutes histories e is
 
-refutes : (histories : Histories) (result : Result (Option Excess) AllocError) → IfOk result (λ found. IfSome found (IsExcess histories)) → IfOk result (λ found. IsSome found → HasNoOrder histories)
+refutes : (histories : Histories) (result : Result (Option Excess) AllocError) →
+    IfOk result (λ found. IfSome found (IsExcess histories)) →
+    IfOk result (λ found. IsSome found → HasNoOrder histories)
 refutes histories (Ok found) is = none-of histories found is
 refutes histories (Err e) is = tt
 

@@ -5,4 +5,5 @@ use Rattle.histories.proofs.excess.receives_in.Given as goal
 
 abbrev pub invariant-loop-operation : goal.invariant-loop-operation
 invariant-loop-operation l =
-    (l.count ≡ count_by (receives l.prio l.message) (take l.operation-index l.operations)) × (l.count ≤ l.operation-index)
+    (l.count ≡ count_by (receives l.prio l.message) (take l.operation-index l.operations)) ×
+    (l.count ≤ l.operation-index)

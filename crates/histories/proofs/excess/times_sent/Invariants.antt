@@ -6,5 +6,6 @@ use Rattle.histories.proofs.excess.times_sent.Given as goal
 
 abbrev pub invariant-loop-operations : goal.invariant-loop-operations
 invariant-loop-operations l =
-    (l.count ≡ sum_by (λ (v : Vec Operation Global). count_by (sends_by l.time l.prio l.message) v.items) (take l.operations-index l.histories.items))
+    (l.count ≡ sum_by (λ (v : Vec Operation Global). count_by (sends_by l.time l.prio l.message)
+    v.items) (take l.operations-index l.histories.items))
     × (l.count ≤ l.operations-index * 18446744073709551616)

@@ -14,18 +14,32 @@ loop-operation-preserved c =
     let k = c.loop-operation.operation-index in
     let o = c.operation-item.result in
     let name = c.args.found.now.name.items in
-    let part = finds_full c.args.found.now.from c.args.found.now.prio c.args.found.now.message.items in
-    let is : slice_get xs k ≡ Some o = slice_get_read xs (length xs) k o refl (omega (arith, c.loop-operation-test.true)) c.operation-item.is in
-    let on : c.is_marked-is_on.result ≡ is_marked (marks_of name no_marks (take k xs)) (descriptor_of o.call) = rw (c.descriptor.ensures, c.loop-operation.invariant.marks) at c.is_marked-is_on.ensures in
-    let found : c.if-full.full ≡ (c.loop-operation.full || (c.is_marked-is_on.result && part o)) = elim c.if-full.branch [
+    let part = finds_full c.args.found.now.from c.args.found.now.prio c.args.found.now.message.items
+    in
+    let is : slice_get xs k ≡ Some o = slice_get_read xs (length xs) k o refl
+    (omega (arith, c.loop-operation-test.true)) c.operation-item.is in
+    let on : c.is_marked-is_on.result ≡ is_marked (marks_of name no_marks (take k xs))
+    (descriptor_of o.call) = rw (c.descriptor.ensures, c.loop-operation.invariant.marks) at
+    c.is_marked-is_on.ensures in
+    let found : c.if-full.full ≡ (c.loop-operation.full || (c.is_marked-is_on.result && part o)) =
+    elim c.if-full.branch [
       | then-full w ↦ grind (arith, w.full-is, w.if-full.true)
-      | else-full+then-is_on w ↦ grind (arith, w.full-is, w.if-full.false, w.if-is_on.true, w.finds_full.ensures)
+      | else-full+then-is_on w ↦ grind (
+        arith,
+        w.full-is,
+        w.if-full.false,
+        w.if-is_on.true,
+        w.finds_full.ensures,
+      )
       | else-full+else-is_on w ↦ grind (arith, w.full-is, w.if-full.false, w.if-is_on.false)
     ] in
-    let marks : c.marks_after-marks.result ≡ marks_after name (marks_of name no_marks (take k xs)) o = rw (c.deref-in-loop-operation.ensures.value, c.loop-operation.invariant.marks) at c.marks_after-marks.ensures in
+    let marks : c.marks_after-marks.result ≡ marks_after name (marks_of name no_marks (take k xs))
+    o = rw (c.deref-in-loop-operation.ensures.value, c.loop-operation.invariant.marks) at
+    c.marks_after-marks.ensures in
     record {
       full = found
-          ∙ ap (λ (b : Bool). b || (c.is_marked-is_on.result && part o)) c.loop-operation.invariant.full
+          ∙ ap (λ (b : Bool). b || (c.is_marked-is_on.result && part o))
+          c.loop-operation.invariant.full
           ∙ ap (λ (b : Bool). list_any part (calls_on name (take k xs)) || (b && part o)) on
           ∙ sym (any-next part name xs k o is);
       marks = marks ∙ sym (marks-next name xs k o is);

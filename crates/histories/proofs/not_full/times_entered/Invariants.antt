@@ -7,5 +7,6 @@ use Rattle.histories.proofs.not_full.times_entered.Given as goal
 
 abbrev pub invariant-loop-operations : goal.invariant-loop-operations
 invariant-loop-operations l =
-    (l.count ≡ sum_by (λ (v : Vec Operation Global). count_by (enters_by l.time) (calls_on l.name v.items)) (take l.operations-index l.histories.items))
+    (l.count ≡ sum_by (λ (v : Vec Operation Global). count_by (enters_by l.time)
+    (calls_on l.name v.items)) (take l.operations-index l.histories.items))
     × (l.count ≤ l.operations-index * 18446744073709551616)

@@ -6,4 +6,5 @@ use Rattle.histories.proofs.not_full.was_less.Given as goal
 
 abbrev pub invariant-loop-operations : goal.invariant-loop-operations
 invariant-loop-operations l =
-    l.found ≡ list_any (λ (v : Vec Operation Global). list_any (creates_less l.time l.name l.capacity) v.items) (take l.operations-index l.histories.items)
+    l.found ≡ list_any (λ (v : Vec Operation Global). list_any
+    (creates_less l.time l.name l.capacity) v.items) (take l.operations-index l.histories.items)

@@ -4,4 +4,5 @@ use Rattle.histories.specs.Passed.{is_part}
 use Rattle.histories.proofs.passed.any_on.Given as goal
 
 abbrev pub invariant-loop-operations : goal.invariant-loop-operations
-invariant-loop-operations l = l.found ≡ has_any_on l.passed.name.items (is_part l.part l.passed) (take l.operations-index l.histories.items)
+invariant-loop-operations l = l.found ≡ has_any_on l.passed.name.items (is_part l.part l.passed)
+    (take l.operations-index l.histories.items)

@@ -6,6 +6,7 @@ use Rattle.histories.proofs.passed.one_on.Given as goal
 
 abbrev pub invariant-loop-operation : goal.invariant-loop-operation
 invariant-loop-operation l = record {
-  found : l.found ≡ list_any (is_part l.part l.passed) (calls_on l.passed.name.items (take l.operation-index l.operations));
+  found : l.found ≡ list_any (is_part l.part l.passed) (calls_on l.passed.name.items
+      (take l.operation-index l.operations));
   marks : l.marks ≡ marks_of l.passed.name.items no_marks (take l.operation-index l.operations);
 }

@@ -6,5 +6,6 @@ use Rattle.history_judge.proofs.descriptors.rename.Given as goal
 abbrev pub invariant-loop-operation : goal.invariant-loop-operation
 invariant-loop-operation l = record {
   left : into_iter_len l.operation-iterator ≡ length (into_iter_items l.operation-iterator);
-  own : l.own.items ++ renamed l.numbers (into_iter_items l.operation-iterator) ≡ renamed no_numbers l.fn.operations.items;
+  own : l.own.items ++ renamed l.numbers (into_iter_items l.operation-iterator) ≡
+      renamed no_numbers l.fn.operations.items;
 }

@@ -12,7 +12,8 @@ invariant-lines g l = record {
   fits : AllFit l.calls.items;
   rest : has_feed l.lines.rest.items ≡ false;
   short : length l.lines.rest.items ≤ CHUNK;
-  read : HasRead (g.R.ByteSource.remaining l.fn.input) (g.R.ByteSource.remaining l.input) (history_text l.calls.items ++ l.lines.rest.items) l.lines.left;
+  read : HasRead (g.R.ByteSource.remaining l.fn.input) (g.R.ByteSource.remaining l.input)
+      (history_text l.calls.items ++ l.lines.rest.items) l.lines.left;
   well : g.R.ByteSource.failed l.input ≡ g.R.ByteSource.failed l.fn.input;
 }
 

@@ -10,11 +10,17 @@ use Rattle.history_judge.specs.declared.line.Called.{Called}
 use Rattle.history_judge.proofs.Transport.{contradiction-alike}
 use Rattle.history_judge.proofs.judgement.contradiction_in.Goals as goal
 
-found-alike : (xs ys : List Called) → AreSameCalls xs ys → (histories : Histories) → AreHistoriesOf xs histories → (result : Result (Option Contradiction) AllocError) → IfOk result (λ found. IfSome found (IsContradiction histories)) → IfOk result (λ found. IfSome found (HasContradiction ys))
-found-alike xs ys same histories are (Ok found) is = contradiction-alike xs ys same histories are found is
+found-alike : (xs ys : List Called) → AreSameCalls xs ys → (histories : Histories) →
+    AreHistoriesOf xs histories → (result : Result (Option Contradiction) AllocError) →
+    IfOk result (λ found. IfSome found (IsContradiction histories)) →
+    IfOk result (λ found. IfSome found (HasContradiction ys))
+found-alike xs ys same histories are (Ok found) is =
+    contradiction-alike xs ys same histories are found is
 found-alike xs ys same histories are (Err e) is = tt
 
 pub returns : goal.returns
 returns c =
-    found-alike c.in_ok-front.front.items (front_part c.args.calls.now c.args.returns.now.items c.args.number) c.in_ok-front.ensures
-    c.in_ok-histories.histories.items c.in_ok-histories.ensures.are c.find_contradiction.result c.find_contradiction.ensures.is
+    found-alike c.in_ok-front.front.items (front_part c.args.calls.now c.args.returns.now.items
+    c.args.number) c.in_ok-front.ensures
+    c.in_ok-histories.histories.items c.in_ok-histories.ensures.are c.find_contradiction.result
+    c.find_contradiction.ensures.is

@@ -9,15 +9,19 @@ use Rattle.history_judge.proofs.judgement.histories_of.Goals as goal
 pub loop-operations-preserved : goal.loop-operations-preserved
 loop-operations-preserved c =
     let was = c.loop-operations.invariant in
-    let grouped = c.in_ok-by_process.by_process.items in let rest = into_iter_items c.next.new.self in
-    let is : grouped ≡ c.loop-operations.yielded ++ c.in-Some.operations ∷ rest = grind (arith, common_steps) in
-    let own = own-more c.args.calls.items grouped c.loop-operations.histories.items c.loop-operations.yielded rest c.in-Some.operations c.in_ok-own.own
+    let grouped = c.in_ok-by_process.by_process.items in let rest =
+    into_iter_items c.next.new.self in
+    let is : grouped ≡ c.loop-operations.yielded ++ c.in-Some.operations ∷ rest =
+    grind (arith, common_steps) in
+    let own = own-more c.args.calls.items grouped c.loop-operations.histories.items
+    c.loop-operations.yielded rest c.in-Some.operations c.in_ok-own.own
     c.in_ok-by_process.ensures.each is was.count c.in_ok-own.ensures was.own in
     record {
       all = grind (arith, common_steps);
       left = grind (arith, common_steps);
       count = grind (arith, common_steps);
-      own = subst (λ (xs : Histories). AreOwn c.args.calls.items xs) (sym c.in_ok-push.ensures.items) own;
+      own = subst (λ (xs : Histories). AreOwn c.args.calls.items xs)
+          (sym c.in_ok-push.ensures.items) own;
     }
 
 pub returns-clause-are : goal.returns-clause-are

@@ -17,6 +17,8 @@ pub returns-clause-each : goal.returns-clause-each
 returns-clause-each c before grouped =
     let at : ℕ = c.args.called.process - 1 in
     let within : at < length c.args.histories.now.items = omega arith in
-    by_process-more before c.args.histories.now.items c.args.called at c.index_mut-operations.result.now c.push.new.self
-    (slice_get_read c.args.histories.now.items (length c.args.histories.now.items) at c.index_mut-operations.result.now refl within c.index_mut-operations.ensures.value)
+    by_process-more before c.args.histories.now.items c.args.called at
+    c.index_mut-operations.result.now c.push.new.self
+    (slice_get_read c.args.histories.now.items (length c.args.histories.now.items) at
+    c.index_mut-operations.result.now refl within c.index_mut-operations.ensures.value)
     (omega arith) c.in_ok-push.ensures.items grouped

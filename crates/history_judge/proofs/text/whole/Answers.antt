@@ -9,4 +9,5 @@ returns-else-is_empty-clause-bad_line c = λ line is.
     let count : c.len-len.result ≡ length calls = search (rules, c.len-len.ensures) in
     let number : line ≡ c.len-len.result + 1 = search (rules, is) in
     let some : 0 < length c.args.rest.now = grind (arith, nat_tests) in
-    stops_short line c.args.rest.now calls c.requires.fits (number ∙ ap (λ n. n + 1) count) some c.requires.rest
+    stops_short line c.args.rest.now calls c.requires.fits (number ∙ ap (λ n. n + 1) count)
+    some c.requires.rest

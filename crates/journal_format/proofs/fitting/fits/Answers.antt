@@ -8,5 +8,6 @@ returns c = record {
   process = omega (arith);
   call = c.call_fits.ensures;
   reply = c.reply_fits.ensures;
-  payload = All-from_get_or IsByte c.args.payload.now 0 (λ i within. omega (arith, c.type_inv.payload i));
+  payload = All-from_get_or IsByte c.args.payload.now 0
+      (λ i within. omega (arith, c.type_inv.payload i));
 }

@@ -11,7 +11,8 @@ invariant-lines g l = record {
   fits : AllFit l.journal.records;
   rest : has_feed l.lines.rest.items ≡ false;
   short : length l.lines.rest.items ≤ CHUNK;
-  read : HasRead (g.R.ByteSource.remaining l.fn.input) (g.R.ByteSource.remaining l.input) (journal_text l.journal.records ++ l.lines.rest.items) l.lines.left;
+  read : HasRead (g.R.ByteSource.remaining l.fn.input) (g.R.ByteSource.remaining l.input)
+      (journal_text l.journal.records ++ l.lines.rest.items) l.lines.left;
   well : g.R.ByteSource.failed l.input ≡ g.R.ByteSource.failed l.fn.input;
 }
 

@@ -6,7 +6,8 @@ use Rattle.journal_format.proofs.text.read_lines.Given as goal
 -- the text of what was read, and what is left
 abbrev pub invariant-lines : goal.invariant-lines
 invariant-lines l = record {
-  text : journal_text l.initial.journal.records ++ l.text ≡ journal_text l.journal.records ++ l.rest;
+  text : journal_text l.initial.journal.records ++ l.text ≡ journal_text l.journal.records ++
+      l.rest;
   fits : AllFit l.journal.records;
   count : length l.initial.journal.records ≤ length l.journal.records;
 }

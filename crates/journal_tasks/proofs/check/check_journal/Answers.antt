@@ -15,7 +15,8 @@ pub returns-clause-done : goal.returns-clause-done
 returns-clause-done g c = λ all known.
     let past = c.in_ok-journal.journal.records in
     let found = c.in_ok-journal.ensures.found all known in
-    let line : c.as_bytes.result.now ≡ verdict_text past c.in_ok-verdict.verdict = c.as_bytes.ensures.value ∙ c.in_ok-line.ensures in
+    let line : c.as_bytes.result.now ≡ verdict_text past c.in_ok-verdict.verdict =
+    c.as_bytes.ensures.value ∙ c.in_ok-line.ensures in
     record {
       past = past;
       fits = found.0;
@@ -28,7 +29,8 @@ pub returns-in_err-write_all-clause-output : goal.returns-in_err-write_all-claus
 returns-in_err-write_all-clause-output g c = λ all known failed.
     let past = c.in_ok-journal.journal.records in
     let found = c.in_ok-journal.ensures.found all known in
-    let line : c.as_bytes.result.now ≡ verdict_text past c.in_ok-verdict.verdict = c.as_bytes.ensures.value ∙ c.in_ok-line.ensures in
+    let line : c.as_bytes.result.now ≡ verdict_text past c.in_ok-verdict.verdict =
+    c.as_bytes.ensures.value ∙ c.in_ok-line.ensures in
     record {
       verdict = c.in_ok-verdict.verdict;
       past = past;
@@ -40,6 +42,8 @@ returns-in_err-write_all-clause-output g c = λ all known failed.
 
 pub returns-in_err-journal-clause-bad_line : goal.returns-in_err-journal-clause-bad_line
 returns-in_err-journal-clause-bad_line g c = λ all line known bad.
-    let named : ◌≡◌ {A = Result Journal JournalFault} (Err c.in_err-journal.field-0.0) (Err (journal.BadLine line)) =
-    ap (λ fault. Err fault) (named_line c.in_err-journal.field-0.0 line (rw bad at c.from_residual.ensures.1)) in
+    let named : ◌≡◌ {A = Result Journal JournalFault} (Err c.in_err-journal.field-0.0)
+    (Err (journal.BadLine line)) =
+    ap (λ fault. Err fault) (named_line c.in_err-journal.field-0.0 line
+    (rw bad at c.from_residual.ensures.1)) in
     c.in_err-journal.ensures.bad_line all line known named

@@ -21,16 +21,19 @@ returns-in_err-journal-clause-output g c = λ all known failed.
 
 pub returns-in_err-picture-clause-output : goal.returns-in_err-picture-clause-output
 returns-in_err-picture-clause-output g c = λ all known failed.
-    absurd (let no : Output ≡ NoMemory = rw failed at c.from_residual-in_err-picture.ensures.1 in cc)
+    absurd (let no : Output ≡ NoMemory = rw failed at c.from_residual-in_err-picture.ensures.1 in
+    cc)
 
 pub returns-in_err-write_all-clause-output : goal.returns-in_err-write_all-clause-output
 returns-in_err-write_all-clause-output g c = λ all known failed.
     let past = c.in_ok-journal.journal.records in
     let found = c.in_ok-journal.ensures.found all known in
     let len = length past in
-    let picture : c.as_slice.result.now ≡ picture_text past (first_shown c.args.window len) (count_shown c.args.window len) =
+    let picture : c.as_slice.result.now ≡ picture_text past (first_shown c.args.window len)
+    (count_shown c.args.window len) =
     c.as_slice.ensures.value ∙ c.in_ok-picture.ensures
-    ∙ ap (λ n. picture_text past n c.shown-from.result.1) c.shown-from.ensures.first ∙ ap (λ n. picture_text past (first_shown c.args.window len) n) c.shown-from.ensures.count in
+    ∙ ap (λ n. picture_text past n c.shown-from.result.1) c.shown-from.ensures.first ∙
+    ap (λ n. picture_text past (first_shown c.args.window len) n) c.shown-from.ensures.count in
     record {
       past = past;
       fits = found.0;
@@ -44,9 +47,11 @@ returns-clause-done g c = λ all known same.
     let past = c.in_ok-journal.journal.records in
     let found = c.in_ok-journal.ensures.found all known in
     let len = length past in
-    let picture : c.as_slice.result.now ≡ picture_text past (first_shown c.args.window len) (count_shown c.args.window len) =
+    let picture : c.as_slice.result.now ≡ picture_text past (first_shown c.args.window len)
+    (count_shown c.args.window len) =
     c.as_slice.ensures.value ∙ c.in_ok-picture.ensures
-    ∙ ap (λ n. picture_text past n c.shown-from.result.1) c.shown-from.ensures.first ∙ ap (λ n. picture_text past (first_shown c.args.window len) n) c.shown-from.ensures.count in
+    ∙ ap (λ n. picture_text past n c.shown-from.result.1) c.shown-from.ensures.first ∙
+    ap (λ n. picture_text past (first_shown c.args.window len) n) c.shown-from.ensures.count in
     record {
       past = past;
       fits = found.0;
@@ -57,6 +62,8 @@ returns-clause-done g c = λ all known same.
 
 pub returns-in_err-journal-clause-bad_line : goal.returns-in_err-journal-clause-bad_line
 returns-in_err-journal-clause-bad_line g c = λ all line known bad.
-    let named : ◌≡◌ {A = Result Journal JournalFault} (Err c.in_err-journal.field-0.0) (Err (journal.BadLine line)) =
-    ap (λ fault. Err fault) (named_line c.in_err-journal.field-0.0 line (rw bad at c.from_residual.ensures.1)) in
+    let named : ◌≡◌ {A = Result Journal JournalFault} (Err c.in_err-journal.field-0.0)
+    (Err (journal.BadLine line)) =
+    ap (λ fault. Err fault) (named_line c.in_err-journal.field-0.0 line
+    (rw bad at c.from_residual.ensures.1)) in
     c.in_err-journal.ensures.bad_line all line known named

@@ -15,58 +15,74 @@ use Rattle.journal_tasks.proofs.Naming.{named_line}
 use Rattle.journal_tasks.proofs.judging_in_time.judge_in_time.Goals as goal
 
 -- no other error says that a history is ill-formed
-journal-well_formed : (fault : JournalFault) (line : ℕ) (why : IllFormed) → OfForm line why ≡ of_journal_fault fault → ⊥
+journal-well_formed : (fault : JournalFault) (line : ℕ) (why : IllFormed) → OfForm line why ≡
+    of_journal_fault fault → ⊥
 journal-well_formed (journal.BadLine at) line why is = cc
 journal-well_formed journal.Input line why is = cc
 journal-well_formed journal.NoMemory line why is = cc
 
 pub returns-in_err-calls-clause-ill_formed : goal.returns-in_err-calls-clause-ill_formed
 returns-in_err-calls-clause-ill_formed g c = λ all line why known bad.
-    absurd (journal-well_formed c.in_err-calls.field-0.0 line why (rw bad at c.from_residual.ensures.1))
+    absurd (journal-well_formed c.in_err-calls.field-0.0 line why
+    (rw bad at c.from_residual.ensures.1))
 
 pub returns-in_err-last-clause-ill_formed : goal.returns-in_err-last-clause-ill_formed
 returns-in_err-last-clause-ill_formed g c = λ all line why known bad.
-    absurd (let no : OfForm line why ≡ NoMemory = rw bad at c.from_residual-in_err-last.ensures.1 in cc)
+    absurd (let no : OfForm line why ≡ NoMemory = rw bad at c.from_residual-in_err-last.ensures.1 in
+    cc)
 
 pub returns-in_err-said-clause-ill_formed : goal.returns-in_err-said-clause-ill_formed
 returns-in_err-said-clause-ill_formed g c = λ all line why known bad.
-    absurd (let no : OfForm line why ≡ NoMemory = rw bad at c.from_residual-in_err-said.ensures.1 in cc)
+    absurd (let no : OfForm line why ≡ NoMemory = rw bad at c.from_residual-in_err-said.ensures.1 in
+    cc)
 
 pub returns-in-Some-clause-ill_formed : goal.returns-in-Some-clause-ill_formed
 returns-in-Some-clause-ill_formed g c = λ all line why known bad.
     let calls = c.in_ok-calls.calls.items in
     let first = rw c.in-Some.is at c.first_fault.ensures.some in
-    let of_calls : IsFirstFault calls c.in-Some.line c.in-Some.why = subst (λ (cs : List Called). IsFirstFault cs c.in-Some.line c.in-Some.why) c.deref.ensures.value first in
+    let of_calls : IsFirstFault calls c.in-Some.line c.in-Some.why =
+    subst (λ (cs : List Called). IsFirstFault cs c.in-Some.line c.in-Some.why)
+    c.deref.ensures.value first in
     let same_line : c.in-Some.line ≡ line = cc in
     let same_why : c.in-Some.why ≡ why = cc in
     record {
       calls = calls;
       text = c.in_ok-calls.ensures.found all known;
       fits = c.in_ok-calls.ensures.fits;
-      first = subst (λ (w : IllFormed). IsFirstFault calls line w) same_why (subst (λ (n : ℕ). IsFirstFault calls n c.in-Some.why) same_line of_calls);
+      first = subst (λ (w : IllFormed). IsFirstFault calls line w) same_why
+          (subst (λ (n : ℕ). IsFirstFault calls n c.in-Some.why) same_line of_calls);
     }
 
 pub first_fault-requires : goal.first_fault-requires
 first_fault-requires g c =
     let calls = c.in_ok-calls.calls.items in
-    subst (λ (cs : List Called). AreOfProcesses cs) (sym c.deref.ensures.value) (of-fitting calls c.in_ok-calls.ensures.fits)
+    subst (λ (cs : List Called). AreOfProcesses cs) (sym c.deref.ensures.value)
+    (of-fitting calls c.in_ok-calls.ensures.fits)
 
 pub judged_in_time-requires : goal.judged_in_time-requires
 judged_in_time-requires g c =
     let calls = c.in_ok-calls.calls.items in
-    subst (λ (cs : List Called). AreOfProcesses cs) (sym c.deref-2.ensures.value) (of-fitting calls c.in_ok-calls.ensures.fits)
+    subst (λ (cs : List Called). AreOfProcesses cs) (sym c.deref-2.ensures.value)
+    (of-fitting calls c.in_ok-calls.ensures.fits)
 
 pub returns-in_err-write_all-clause-output : goal.returns-in_err-write_all-clause-output
 returns-in_err-write_all-clause-output g c = λ all known failed.
     let calls = c.in_ok-calls.calls.items in
     let last = c.in_ok-last.last in
     let count : c.len.result ≡ length calls = c.len.ensures ∙ c.in_ok-calls.calls.ok.0 in
-    let limit : c.budget_for-limit.result ≡ budget_for c.args.question.budget (length calls) = c.budget_for-limit.ensures ∙ ap (λ n. budget_for c.args.question.budget n) count in
-    let said : c.as_slice.result.now ≡ judgement_text calls last.budget c.args.question.journal last.judgement =
-    c.as_slice.ensures.value ∙ c.in_ok-said.ensures ∙ ap (λ (cs : List Called). judgement_text cs last.budget c.args.question.journal last.judgement) c.deref-3.ensures.value
+    let limit : c.budget_for-limit.result ≡ budget_for c.args.question.budget (length calls) =
+    c.budget_for-limit.ensures ∙ ap (λ n. budget_for c.args.question.budget n) count in
+    let said : c.as_slice.result.now ≡ judgement_text calls last.budget c.args.question.journal
+    last.judgement =
+    c.as_slice.ensures.value ∙ c.in_ok-said.ensures ∙
+    ap (λ (cs : List Called). judgement_text cs last.budget c.args.question.journal
+    last.judgement) c.deref-3.ensures.value
     in
-    let here : IsJudgedInTime (budget_for c.args.question.budget (length calls)) calls last.budget last.judgement =
-    subst (λ n. IsJudgedInTime n calls last.budget last.judgement) limit (subst (λ (cs : List Called). IsJudgedInTime c.budget_for-limit.result cs last.budget last.judgement) c.deref-2.ensures.value c.in_ok-last.ensures)
+    let here : IsJudgedInTime (budget_for c.args.question.budget (length calls)) calls last.budget
+    last.judgement =
+    subst (λ n. IsJudgedInTime n calls last.budget last.judgement) limit
+    (subst (λ (cs : List Called). IsJudgedInTime c.budget_for-limit.result cs last.budget
+    last.judgement) c.deref-2.ensures.value c.in_ok-last.ensures)
     in
     record {
       budget = last.budget;
@@ -76,7 +92,8 @@ returns-in_err-write_all-clause-output g c = λ all known failed.
         judged = record {
           text = c.in_ok-calls.ensures.found all known;
           fits = c.in_ok-calls.ensures.fits;
-          formed = subst (λ (cs : List Called). IsWellFormed cs) c.deref.ensures.value (c.first_fault.ensures.none c.in_default.is);
+          formed = subst (λ (cs : List Called). IsWellFormed cs) c.deref.ensures.value
+              (c.first_fault.ensures.none c.in_default.is);
           judges = here.judges;
         };
         written = rw said at c.in_err-write_all.ensures.failed;
@@ -89,12 +106,19 @@ returns-clause-done g c = λ all known.
     let calls = c.in_ok-calls.calls.items in
     let last = c.in_ok-last.last in
     let count : c.len.result ≡ length calls = c.len.ensures ∙ c.in_ok-calls.calls.ok.0 in
-    let limit : c.budget_for-limit.result ≡ budget_for c.args.question.budget (length calls) = c.budget_for-limit.ensures ∙ ap (λ n. budget_for c.args.question.budget n) count in
-    let said : c.as_slice.result.now ≡ judgement_text calls last.budget c.args.question.journal last.judgement =
-    c.as_slice.ensures.value ∙ c.in_ok-said.ensures ∙ ap (λ (cs : List Called). judgement_text cs last.budget c.args.question.journal last.judgement) c.deref-3.ensures.value
+    let limit : c.budget_for-limit.result ≡ budget_for c.args.question.budget (length calls) =
+    c.budget_for-limit.ensures ∙ ap (λ n. budget_for c.args.question.budget n) count in
+    let said : c.as_slice.result.now ≡ judgement_text calls last.budget c.args.question.journal
+    last.judgement =
+    c.as_slice.ensures.value ∙ c.in_ok-said.ensures ∙
+    ap (λ (cs : List Called). judgement_text cs last.budget c.args.question.journal
+    last.judgement) c.deref-3.ensures.value
     in
-    let here : IsJudgedInTime (budget_for c.args.question.budget (length calls)) calls last.budget last.judgement =
-    subst (λ n. IsJudgedInTime n calls last.budget last.judgement) limit (subst (λ (cs : List Called). IsJudgedInTime c.budget_for-limit.result cs last.budget last.judgement) c.deref-2.ensures.value c.in_ok-last.ensures)
+    let here : IsJudgedInTime (budget_for c.args.question.budget (length calls)) calls last.budget
+    last.judgement =
+    subst (λ n. IsJudgedInTime n calls last.budget last.judgement) limit
+    (subst (λ (cs : List Called). IsJudgedInTime c.budget_for-limit.result cs last.budget
+    last.judgement) c.deref-2.ensures.value c.in_ok-last.ensures)
     in
     record {
       budget = last.budget;
@@ -104,7 +128,8 @@ returns-clause-done g c = λ all known.
         judged = record {
           text = c.in_ok-calls.ensures.found all known;
           fits = c.in_ok-calls.ensures.fits;
-          formed = subst (λ (cs : List Called). IsWellFormed cs) c.deref.ensures.value (c.first_fault.ensures.none c.in_default.is);
+          formed = subst (λ (cs : List Called). IsWellFormed cs) c.deref.ensures.value
+              (c.first_fault.ensures.none c.in_default.is);
           judges = here.judges;
         };
         says = c.status_of.ensures;
@@ -115,6 +140,8 @@ returns-clause-done g c = λ all known.
 
 pub returns-in_err-calls-clause-bad_line : goal.returns-in_err-calls-clause-bad_line
 returns-in_err-calls-clause-bad_line g c = λ all line known bad.
-    let named : ◌≡◌ {A = Result (Vec Called Global) JournalFault} (Err c.in_err-calls.field-0.0) (Err (journal.BadLine line)) =
-    ap (λ fault. Err fault) (named_line c.in_err-calls.field-0.0 line (rw bad at c.from_residual.ensures.1)) in
+    let named : ◌≡◌ {A = Result (Vec Called Global) JournalFault} (Err c.in_err-calls.field-0.0)
+    (Err (journal.BadLine line)) =
+    ap (λ fault. Err fault) (named_line c.in_err-calls.field-0.0 line
+    (rw bad at c.from_residual.ensures.1)) in
     c.in_err-calls.ensures.bad_line all line known named

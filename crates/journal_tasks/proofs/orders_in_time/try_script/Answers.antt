@@ -13,9 +13,14 @@ returns-in_err-write_all-clause-output g c = λ failed.
     let collected = c.in_ok-collected.collected in
     let begins = c.in_ok-play.ensures.begins in
     let last = c.in_ok-collected.ensures.found in
-    let phases : c.len-phases.result ≡ length script.phases = c.len-phases.ensures ∙ c.args.script.now.phases.ok.0 ∙ sym (length-map c.args.script.now.phases.items (λ phase. said_calls phase.items)) in
-    let text : c.as_slice.result.now ≡ answer_text c.args.trial.journal (length script.phases) play collected =
-    c.as_slice.ensures.value ∙ c.in_ok-said.ensures ∙ text-from c.args.trial.journal c.len-phases.result (length script.phases) play c.outcomes_in_time.new.play collected phases c.in_ok-collected.ensures.start begins.first in
+    let phases : c.len-phases.result ≡ length script.phases = c.len-phases.ensures ∙
+    c.args.script.now.phases.ok.0 ∙ sym (length-map c.args.script.now.phases.items
+    (λ phase. said_calls phase.items)) in
+    let text : c.as_slice.result.now ≡ answer_text c.args.trial.journal (length script.phases)
+    play collected =
+    c.as_slice.ensures.value ∙ c.in_ok-said.ensures ∙ text-from c.args.trial.journal
+    c.len-phases.result (length script.phases) play c.outcomes_in_time.new.play collected phases
+    c.in_ok-collected.ensures.start begins.first in
     record {
       budget = last.budget;
       fits = last.fits;
@@ -36,9 +41,14 @@ returns-clause-done g c =
     let collected = c.in_ok-collected.collected in
     let begins = c.in_ok-play.ensures.begins in
     let last = c.in_ok-collected.ensures.found in
-    let phases : c.len-phases.result ≡ length script.phases = c.len-phases.ensures ∙ c.args.script.now.phases.ok.0 ∙ sym (length-map c.args.script.now.phases.items (λ phase. said_calls phase.items)) in
-    let text : c.as_slice.result.now ≡ answer_text c.args.trial.journal (length script.phases) play collected =
-    c.as_slice.ensures.value ∙ c.in_ok-said.ensures ∙ text-from c.args.trial.journal c.len-phases.result (length script.phases) play c.outcomes_in_time.new.play collected phases c.in_ok-collected.ensures.start begins.first in
+    let phases : c.len-phases.result ≡ length script.phases = c.len-phases.ensures ∙
+    c.args.script.now.phases.ok.0 ∙ sym (length-map c.args.script.now.phases.items
+    (λ phase. said_calls phase.items)) in
+    let text : c.as_slice.result.now ≡ answer_text c.args.trial.journal (length script.phases)
+    play collected =
+    c.as_slice.ensures.value ∙ c.in_ok-said.ensures ∙ text-from c.args.trial.journal
+    c.len-phases.result (length script.phases) play c.outcomes_in_time.new.play collected phases
+    c.in_ok-collected.ensures.start begins.first in
     record {
       budget = last.budget;
       fits = last.fits;

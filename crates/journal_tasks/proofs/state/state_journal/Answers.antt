@@ -40,7 +40,12 @@ returns-in-Ok-clause-done g c = λ all known.
       past = c.in_ok-journal.journal.records;
       fits = found.0;
       text = found.1;
-      told = (c.in-Ok.text.items, rw c.in-Ok.is at c.in_ok-told.ensures, rw c.as_slice.ensures.value at c.in_ok-write_all-in-Ok.ensures.whole);
+      told = (
+        c.in-Ok.text.items,
+        rw c.in-Ok.is at c.in_ok-told.ensures,
+        rw c.as_slice.ensures.value
+            at c.in_ok-write_all-in-Ok.ensures.whole,
+      );
     }
 
 pub returns-clause-done : goal.returns-clause-done
@@ -55,6 +60,8 @@ returns-clause-done g c = λ all known.
 
 pub returns-in_err-journal-clause-bad_line : goal.returns-in_err-journal-clause-bad_line
 returns-in_err-journal-clause-bad_line g c = λ all line known bad.
-    let named : ◌≡◌ {A = Result Journal JournalFault} (Err c.in_err-journal.field-0.0) (Err (journal.BadLine line)) =
-    ap (λ fault. Err fault) (named_line c.in_err-journal.field-0.0 line (rw bad at c.from_residual.ensures.1)) in
+    let named : ◌≡◌ {A = Result Journal JournalFault} (Err c.in_err-journal.field-0.0)
+    (Err (journal.BadLine line)) =
+    ap (λ fault. Err fault) (named_line c.in_err-journal.field-0.0 line
+    (rw bad at c.from_residual.ensures.1)) in
     c.in_err-journal.ensures.bad_line all line known named

@@ -6,4 +6,5 @@ use Rattle.journal_views.proofs.facts.held_numbers.Given as goal
 
 abbrev pub invariant-loop-d : goal.invariant-loop-d
 invariant-loop-d l =
-    l.found.items ++ filter (λ d. is_some (held l.journal.records l.p d)) (numbers_from l.d (16 - l.d)) ≡ held_numbers l.journal.records l.p
+    l.found.items ++ filter (λ d. is_some (held l.journal.records l.p d))
+    (numbers_from l.d (16 - l.d)) ≡ held_numbers l.journal.records l.p

@@ -7,5 +7,7 @@ use Rattle.journal_views.proofs.followed.start.Goals as goal
 
 pub returns : goal.returns
 returns c =
-    follows-none c.args.journal.now.records _ 33 2049 (omega arith) c.in_ok-owners.ensures (ap length c.in_ok-owners.ensures ∙ length-replicate 33 free_owner)
-    c.in_ok-callers.ensures (ap length c.in_ok-callers.ensures ∙ length-replicate 2049 free_caller) c.new.ensures.items c.new-2.ensures.items
+    follows-none c.args.journal.now.records _ 33 2049 (omega arith) c.in_ok-owners.ensures
+    (ap length c.in_ok-owners.ensures ∙ length-replicate 33 free_owner)
+    c.in_ok-callers.ensures (ap length c.in_ok-callers.ensures ∙ length-replicate 2049 free_caller)
+    c.new.ensures.items c.new-2.ensures.items

@@ -5,5 +5,6 @@ use Rattle.journal_views.proofs.picture.flight_text.Goals as goal
 pub returns : goal.returns
 unfolding flight_text
 returns c =
-    let ends : ends_text c.args.stroke ≡ string_bytes c.in_ok-ends.ends = sym c.in_ok-ends.ensures in
+    let ends : ends_text c.args.stroke ≡ string_bytes c.in_ok-ends.ends =
+    sym c.in_ok-ends.ensures in
     simp ends c.format.ensures.ok

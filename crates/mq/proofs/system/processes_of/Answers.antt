@@ -10,5 +10,6 @@ seats-preserved g c = record {
   left = search rules;
   made = grind (arith, common_steps);
   room = search rules;
-  waits = after-first (λ s. IsRoomOf c.args.rooms.now (g.L.Lock.ticket s)) _ _ _ c.in-Some.ensures.steps.0 c.seats.invariant.waits;
+  waits = after-first (λ s. IsRoomOf c.args.rooms.now (g.L.Lock.ticket s)) _ _ _
+      c.in-Some.ensures.steps.0 c.seats.invariant.waits;
 }

@@ -4,7 +4,8 @@ use Rattle.mq.proofs.system.seats_of.Given as goal
 
 abbrev pub invariant-processes : goal.invariant-processes
 invariant-processes g l = record {
-  all : l.yielded ++ into_iter_items l.process-iterator ≡ into_iter_items l.initial.process-iterator;
+  all : l.yielded ++ into_iter_items l.process-iterator ≡
+      into_iter_items l.initial.process-iterator;
   left : into_iter_len l.process-iterator ≡ length (into_iter_items l.process-iterator);
   made : map g.L.Lock.ticket l.seats.items ≡ l.yielded;
   room : vec_len l.seats + into_iter_len l.process-iterator ≤ vec_capacity l.seats;

@@ -7,9 +7,11 @@ use Rattle.mq_model.specs.declared.entries.Description.{Description}
 use Rattle.mq_model.proofs.HeldQueues.{created-held}
 use Rattle.mq_checker.proofs.expected.held_created.Goals as goal
 
-made : (past : Past) → Legal past → (p d : ℕ) (o : Option Description) → o ≡ held past p d → IfSome o (λ h. IsTrue (is_in (created past) h.queue))
+made : (past : Past) → Legal past → (p d : ℕ) (o : Option Description) → o ≡ held past p d →
+    IfSome o (λ h. IsTrue (is_in (created past) h.queue))
 made past legal p d None e = tt
 made past legal p d (Some h) e = created-held past legal p d h (sym e)
 
 pub returns-clause-created : goal.returns-clause-created
-returns-clause-created c = made (first c.args.k c.args.journal.now.records) c.requires.legal c.args.p c.args.d c.held.result c.held.ensures
+returns-clause-created c = made (first c.args.k c.args.journal.now.records) c.requires.legal
+    c.args.p c.args.d c.held.result c.held.ensures

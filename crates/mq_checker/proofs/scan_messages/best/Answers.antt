@@ -18,12 +18,15 @@ loop-i-preserved c =
     c.best_with-found.ensures
     ∙ ap (with_best better new) c.loop-i.invariant
     ∙ sym (best-with better new (filter (λ m. not (is_in gone m)) (admitted before c.args.q)))
-    ∙ ap (best_of better) (sym (filter-with gone (entered before c.record.result.0 c.args.q) (admitted before c.args.q)))
-    ∙ ap (λ (b : Past). best_of better (filter (λ m. not (is_in gone m)) (admitted b c.args.q))) (sym c.record.ensures)
+    ∙ ap (best_of better) (sym (filter-with gone (entered before c.record.result.0 c.args.q)
+    (admitted before c.args.q)))
+    ∙ ap (λ (b : Past). best_of better (filter (λ m. not (is_in gone m)) (admitted b c.args.q)))
+    (sym c.record.ensures)
 
 pub returns : goal.returns
 returns c =
     let at_end : c.loop-i.i ≡ c.args.k = omega arith in
     let past = first c.args.k c.args.journal.now.records in
-    let found : c.loop-i.found ≡ best_of (goes_first past) (present past c.args.q) = rw at_end at c.loop-i.invariant in
+    let found : c.loop-i.found ≡ best_of (goes_first past) (present past c.args.q) =
+    rw at_end at c.loop-i.invariant in
     found ∙ best_of-best (goes_first past) (messages-ranking past) (present past c.args.q)

@@ -11,9 +11,12 @@ returns c = λ is.
     let y = c.args.y.now.records in
     let n = c.max-count.result in
     let w = c.max-width.result in
-    let same = (slice_eq-Decides Decides-eqb c.as_slice.result.now c.as_slice-2.result.now c.eq.result c.eq.ensures).0 is in
-    let one : c.as_slice.result.now ≡ key_within true n w x = c.as_slice.ensures.value ∙ c.in_ok-one.ensures in
-    let other : c.as_slice-2.result.now ≡ key_within true n w y = c.as_slice-2.ensures.value ∙ c.in_ok-other.ensures in
+    let same = (slice_eq-Decides Decides-eqb c.as_slice.result.now c.as_slice-2.result.now
+    c.eq.result c.eq.ensures).0 is in
+    let one : c.as_slice.result.now ≡ key_within true n w x = c.as_slice.ensures.value ∙
+    c.in_ok-one.ensures in
+    let other : c.as_slice-2.result.now ≡ key_within true n w y = c.as_slice-2.ensures.value ∙
+    c.in_ok-other.ensures in
     same-within true x y n n w w c.requires.0 c.requires.1
     (grind (arith, c.process_bound.ensures.value, c.max-count.ensures))
     (grind (arith, c.process_bound-2.ensures.value, c.max-count.ensures))

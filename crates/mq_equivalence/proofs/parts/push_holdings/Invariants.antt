@@ -5,5 +5,7 @@ use Rattle.mq_equivalence.proofs.parts.push_holdings.Given as goal
 
 abbrev pub invariant-loop-d : goal.invariant-loop-d
 invariant-loop-d l =
-    l.key.items ++ codes (λ d. optional (description_code l.queues) (held l.trail l.p d)) (numbers_from l.d (l.width - l.d))
-    ≡ l.initial.key.items ++ codes (λ d. optional (description_code l.queues) (held l.trail l.p d)) (numbers_from 0 l.width)
+    l.key.items ++ codes (λ d. optional (description_code l.queues) (held l.trail l.p d))
+    (numbers_from l.d (l.width - l.d))
+    ≡ l.initial.key.items ++ codes (λ d. optional (description_code l.queues) (held l.trail l.p d))
+    (numbers_from 0 l.width)

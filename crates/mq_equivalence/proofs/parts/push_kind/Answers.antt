@@ -12,5 +12,6 @@ returns c =
     let places = c.deref.result.now in
     let all = c.deref.ensures.value ∙ c.in_ok-places.ensures in
     c.in_ok-push_places.ensures
-    ∙ ap (λ (past : Past). old ++ listed (place_code c.args.received kind past) places) c.journal.ensures
+    ∙ ap (λ (past : Past). old ++ listed (place_code c.args.received kind past) places)
+    c.journal.ensures
     ∙ ap (λ ns. old ++ ns) (kind-done c.args.received kind c.args.trail.now c.args.q places all)

@@ -5,4 +5,5 @@ use Rattle.mq_equivalence.proofs.parts.push_notices.Given as goal
 
 abbrev pub invariant-loop-index : goal.invariant-loop-index
 invariant-loop-index l =
-    l.key.items ++ codes number (drop l.index (notices l.trail l.p)) ≡ l.initial.key.items ++ codes number (notices l.trail l.p)
+    l.key.items ++ codes number (drop l.index (notices l.trail l.p)) ≡ l.initial.key.items ++
+    codes number (notices l.trail l.p)

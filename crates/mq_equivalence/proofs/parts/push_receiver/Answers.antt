@@ -5,10 +5,12 @@ use Rattle.mq_equivalence.proofs.parts.push_receiver.Goals as goal
 
 pub returns-then-place-len : goal.returns-then-place-len
 returns-then-place-len c =
-    let none : at author c.args.journal.now.records c.args.place ≡ None = at-beyond author c.args.journal.now.records c.args.place (omega arith) in
+    let none : at author c.args.journal.now.records c.args.place ≡ None =
+    at-beyond author c.args.journal.now.records c.args.place (omega arith) in
     rw none c.push_number.ensures
 
 pub returns : goal.returns
 returns c =
-    let here = at-here author c.args.journal.now.records c.args.place _ c.record.ensures (omega arith) in
+    let here = at-here author c.args.journal.now.records c.args.place _ c.record.ensures
+    (omega arith) in
     rw here (grind (arith, appends))

@@ -10,7 +10,9 @@ none_of (Some x) h = absurd (cc)
 pub returns-then-is_none : goal.returns-then-is_none
 returns-then-is_none c =
     let free = none_of c.held.result c.if-is_none.ensures in
-    sym (first-Some (λ d. is_none (held_in c.args.owners.now c.args.p d)) c.loop-d.d c.loop-d-test.true (rw (← c.held.ensures) free) c.loop-d.invariant)
+    sym (first-Some (λ d. is_none (held_in c.args.owners.now c.args.p d)) c.loop-d.d
+    c.loop-d-test.true (rw (← c.held.ensures) free) c.loop-d.invariant)
 
 pub returns : goal.returns
-returns c = sym (first-None (λ d. is_none (held_in c.args.owners.now c.args.p d)) (λ e lt. c.loop-d.invariant e (omega (arith, lt))))
+returns c = sym (first-None (λ d. is_none (held_in c.args.owners.now c.args.p d))
+    (λ e lt. c.loop-d.invariant e (omega (arith, lt))))

@@ -5,4 +5,5 @@ use Rattle.mq_model.proofs.owners.set_slot.Goals as goal
 
 pub returns : goal.returns
 unfolding with_slot
-returns c = rw c.owner_of.ensures (changed-set _ c.args.owners.now (owner_of c.args.p) _ c.requires.process)
+returns c = rw c.owner_of.ensures (changed-set _ c.args.owners.now (owner_of c.args.p) _
+    c.requires.process)

@@ -8,5 +8,9 @@ invariant-loop-depth l = record {
   slots : length l.cells.items ≡ l.depth + 1;
   room : vec_capacity l.cells ≡ l.spare + 1;
   head : cell_at l.cells.items 0 ≡ record { prio = 32768; place = 0; next = 0 };
-  spares : (i : ℕ) → i < l.depth → cell_at l.cells.items (i + 1) ≡ record { prio = 32769; place = i + 1; next = i };
+  spares : (i : ℕ) → i < l.depth → cell_at l.cells.items (i + 1) ≡ record {
+    prio = 32769;
+    place = i + 1;
+    next = i;
+  };
 }

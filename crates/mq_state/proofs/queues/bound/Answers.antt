@@ -17,11 +17,16 @@ returns-then-is_bound c =
     let x = c.index-queues-i.result in
     let qs = c.args.queues.now in
     let t = is_bound_to c.args.journal.now.records c.args.name.now in
-    let here : t (get_or qs c.loop-i.i x) ≡ true = ap t (sym c.index-queues-i.is) ∙ sym c.is_bound.ensures ∙ c.if-is_bound.true in
-    ap Some (c.place.ensures ∙ ap (λ (y : QueueShown). y.place) c.index-queues-i.is) ∙ sym (ap (option_map (λ (y : QueueShown). y.place)) (first-true t qs c.loop-i.i x c.loop-i-test.true c.loop-i.invariant here))
+    let here : t (get_or qs c.loop-i.i x) ≡ true = ap t (sym c.index-queues-i.is) ∙
+    sym c.is_bound.ensures ∙ c.if-is_bound.true in
+    ap Some (c.place.ensures ∙ ap (λ (y : QueueShown). y.place) c.index-queues-i.is) ∙
+    sym (ap (option_map (λ (y : QueueShown). y.place))
+    (first-true t qs c.loop-i.i x c.loop-i-test.true c.loop-i.invariant here))
 
 pub returns : goal.returns
 unfolding bound_in
 returns c =
     let t = is_bound_to c.args.journal.now.records c.args.name.now in
-    sym (ap (option_map (λ (y : QueueShown). y.place)) (none-true t c.args.queues.now (λ k d lt. c.loop-i.invariant k d (let end = c.loop-i-test.false in omega (arith, lt, end)))))
+    sym (ap (option_map (λ (y : QueueShown). y.place)) (none-true t c.args.queues.now
+    (λ k d lt. c.loop-i.invariant k d (let end = c.loop-i-test.false in
+    omega (arith, lt, end)))))

@@ -7,7 +7,8 @@ invariant-loop-low l = record {
   order : l.low ≤ l.high;
   within : l.high ≤ length l.queues;
   below : (k : ℕ) (d : QueueShown) → k < l.low → (get_or l.queues k d).place < l.q;
-  rest : (k : ℕ) (d : QueueShown) → l.high ≤ k → k < length l.queues → l.q ≤ (get_or l.queues k d).place;
+  rest : (k : ℕ) (d : QueueShown) → l.high ≤ k → k < length l.queues →
+      l.q ≤ (get_or l.queues k d).place;
 }
 
 abbrev pub decreases-loop-low : goal.decreases-loop-low

@@ -3,4 +3,5 @@ use Rattle.mq_state.proofs.Rising.{here-alone}
 use Rattle.mq_state.proofs.queues.is_row.Goals as goal
 
 pub returns-then-index-queues : goal.returns-then-index-queues
-returns-then-index-queues c at = here-alone c.args.queues.now c.requires c.args.q c.args.index c.index-queues-index.result c.if-index-queues.true (grind arith)
+returns-then-index-queues c at = here-alone c.args.queues.now c.requires c.args.q c.args.index
+    c.index-queues-index.result c.if-index-queues.true (grind arith)

@@ -8,7 +8,9 @@ invariant-loop-i l =
     (without_queue l.queues.items l.q ≡ without_queue l.initial.queues.items l.q)
     × (vec_len l.queues ≤ vec_len l.initial.queues)
     × (vec_capacity l.queues ≡ vec_capacity l.initial.queues)
-    × ((m : ℕ) → Pool m l.initial.queues.items l.initial.spares.items (vec_capacity l.initial.queues) (vec_capacity l.initial.spares) → Pool m l.queues.items l.spares.items (vec_capacity l.queues) (vec_capacity l.spares))
+    × ((m : ℕ) → Pool m l.initial.queues.items l.initial.spares.items
+    (vec_capacity l.initial.queues) (vec_capacity l.initial.spares) →
+    Pool m l.queues.items l.spares.items (vec_capacity l.queues) (vec_capacity l.spares))
 
 abbrev pub decreases-loop-i : goal.decreases-loop-i
 decreases-loop-i l = vec_len l.queues

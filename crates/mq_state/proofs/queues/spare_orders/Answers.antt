@@ -5,5 +5,6 @@ use Rattle.mq_state.proofs.queues.spare_orders.Goals as goal
 
 pub loop-preserved : goal.loop-preserved
 loop-preserved c =
-    let spare = All-push IsSpare c.loop.spares.items c.in_ok-new.field-0 c.loop.invariant.0 (c.in_ok-new.ensures.empty, grind arith) in
+    let spare = All-push IsSpare c.loop.spares.items c.in_ok-new.field-0 c.loop.invariant.0
+    (c.in_ok-new.ensures.empty, grind arith) in
     grind (arith, length-append)

@@ -11,8 +11,10 @@ returns-in-Some-clause-misfit c =
     let r : Record = record { entry = c.record.result.0; payload = c.record.result.1.now } in
     let lt = c.loop-place-test.true in
     let end = c.len-place-end.ensures.count in
-    let why = subst (λ (xs : Past). IsCause xs r c.in-Some.cause) c.first-past.ensures.records c.in-Some.ensures.cause in
-    departs past c.loop-place.place r c.in-Some.cause (omega (arith, lt, end)) c.record.ensures c.loop-place.invariant.tables.legal why
+    let why = subst (λ (xs : Past). IsCause xs r c.in-Some.cause) c.first-past.ensures.records
+    c.in-Some.ensures.cause in
+    departs past c.loop-place.place r c.in-Some.cause (omega (arith, lt, end)) c.record.ensures
+    c.loop-place.invariant.tables.legal why
 
 pub returns-then-entry-processes-clause-misfit : goal.returns-then-entry-processes-clause-misfit
 returns-then-entry-processes-clause-misfit c =
@@ -21,7 +23,9 @@ returns-then-entry-processes-clause-misfit c =
     let r : Record = record { entry = c.record.result.0; payload = c.record.result.1.now } in
     let lt = c.loop-place-test.true in
     let end = c.len-place-end.ensures.count in
-    let at : record_at past k ≡ Some r = ap (λ (xs : Past). record_at xs k) (sym (first-all past _ refl)) ∙ record_at-of_first past _ k r c.record.ensures (omega (arith, lt, end)) (omega arith) in
+    let at : record_at past k ≡ Some r = ap (λ (xs : Past). record_at xs k)
+    (sym (first-all past _ refl)) ∙ record_at-of_first past _ k r c.record.ensures
+    (omega (arith, lt, end)) (omega arith) in
     let above = c.if-entry-processes.true in
     let count = c.processes.ensures in
     let same = c.loop-place.invariant.n in

@@ -7,4 +7,6 @@ pub loop-marks-preserved : goal.loop-marks-preserved
 loop-marks-preserved g c =
     let before = c.loop-marks.invariant in
     let none = none-is c.last_on.result _ c.loop-marks-test.ensures c.last_on.ensures.none in
-    removed c.args.path.now c.args.marks.now.items c.loop-marks.marks.items c.pop.new.self.items before.0 c.pop.result c.if-is_none.ensures before.1 before.2 c.pop.ensures.items (λ mark last. none mark (ap last_of c.deref.ensures.value ∙ last))
+    removed c.args.path.now c.args.marks.now.items c.loop-marks.marks.items c.pop.new.self.items
+    before.0 c.pop.result c.if-is_none.ensures before.1 before.2 c.pop.ensures.items
+    (λ mark last. none mark (ap last_of c.deref.ensures.value ∙ last))

@@ -18,18 +18,24 @@ abbrev pub invariant-loop-steps : goal.invariant-loop-steps
 invariant-loop-steps g l = record {
   stands :
       Stands g.M.Machine.next (is_new_goal g.M.Machine.is_goal g.M.Observable.outcome l.found.items)
-      (IsReachedPersistent g.M.Machine.next g.M.PersistentChoices.IsPersistent (g.M.Machine.start l.fn.machine)) g.M.Keyed.IsKey l.path.items l.levels.items
+      (IsReachedPersistent g.M.Machine.next g.M.PersistentChoices.IsPersistent
+      (g.M.Machine.start l.fn.machine)) g.M.Keyed.IsKey l.path.items l.levels.items
       (g.M.Machine.start l.fn.machine) l.machine l.next;
   done :
-      AreDone g.M.Machine.next (is_new_goal g.M.Machine.is_goal g.M.Observable.outcome l.found.items) g.M.Keyed.IsKey
+      AreDone g.M.Machine.next (is_new_goal g.M.Machine.is_goal g.M.Observable.outcome
+      l.found.items) g.M.Keyed.IsKey
       (g.M.Machine.start l.fn.machine) l.seen;
   start : g.M.Machine.start l.machine ≡ g.M.Machine.start l.fn.machine;
   distinct : AreDistinct l.found.items;
-  witnessed : All (IsWitness g.M.Machine.next g.M.Machine.is_goal g.M.Observable.outcome (g.M.Machine.start l.fn.machine)) l.found.items;
+  witnessed : All (IsWitness g.M.Machine.next g.M.Machine.is_goal g.M.Observable.outcome
+      (g.M.Machine.start l.fn.machine)) l.found.items;
   spent :
-      (node : g.row.M.Denot) → after g.M.Machine.next l.path.items (g.M.Machine.start l.fn.machine) ≡ Some node →
-      HasSpent g.M.Machine.next g.M.Machine.choices (λ depth. 1) l.fn.budget l.steps 0 l.path.items (g.M.Machine.start l.fn.machine) node l.next;
+      (node : g.row.M.Denot) → after g.M.Machine.next l.path.items
+      (g.M.Machine.start l.fn.machine) ≡ Some node →
+      HasSpent g.M.Machine.next g.M.Machine.choices (λ depth. 1) l.fn.budget l.steps 0 l.path.items
+      (g.M.Machine.start l.fn.machine) node l.next;
   within : AreFoundWithin (l.steps + length l.path.items) l.found.items;
   states : 2 * key_count l.seen + length l.path.items ≤ l.steps;
-  marks : AreMarks g.M.Machine.next g.M.Machine.start g.M.Machine.IsSaved (g.M.Machine.start l.fn.machine) l.marks.items;
+  marks : AreMarks g.M.Machine.next g.M.Machine.start g.M.Machine.IsSaved
+      (g.M.Machine.start l.fn.machine) l.marks.items;
 }

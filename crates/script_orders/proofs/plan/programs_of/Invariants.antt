@@ -5,6 +5,7 @@ use Rattle.script_orders.proofs.plan.programs_of.Given as goal
 
 abbrev pub invariant-loop-index : goal.invariant-loop-index
 invariant-loop-index l = record {
-  programs : map (λ program. map plan_of program.items) l.programs.items ≡ programs_of (said_phases l.script.phases.items) l.index;
+  programs : map (λ program. map plan_of program.items) l.programs.items ≡
+      programs_of (said_phases l.script.phases.items) l.index;
   count : vec_len l.programs ≡ l.index;
 }

@@ -5,4 +5,5 @@ use Rattle.script_orders.proofs.plan.push_plans.Given as goal
 
 abbrev pub invariant-loop-call : goal.invariant-loop-call
 invariant-loop-call l =
-    map plan_of l.program.items ≡ map plan_of l.initial.program.items ++ plans_of l.phase (said_calls (take l.call-index l.calls)) l.p
+    map plan_of l.program.items ≡ map plan_of l.initial.program.items ++ plans_of l.phase
+    (said_calls (take l.call-index l.calls)) l.p

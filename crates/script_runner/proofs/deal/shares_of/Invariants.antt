@@ -10,5 +10,6 @@ invariant-loop-process g l = record {
   all : l.yielded ++ into_iter_items l.process-iterator ≡ l.fn.processes.items;
   left : into_iter_len l.process-iterator ≡ length (into_iter_items l.process-iterator);
   processes : map (λ share. share.process) l.shares.items ≡ l.yielded;
-  calls : All (λ share. calls_in share.turns.items ≡ calls_of share.process.number (said_calls l.calls)) l.shares.items;
+  calls : All (λ share. calls_in share.turns.items ≡ calls_of share.process.number
+      (said_calls l.calls)) l.shares.items;
 }

@@ -5,4 +5,5 @@ use Rattle.script_text.specs.Script.{said_calls}
 use Rattle.script_runner.proofs.deal.turns_of.Given as goal
 
 abbrev pub invariant-loop-call : goal.invariant-loop-call
-invariant-loop-call l = calls_in l.turns.items ≡ calls_of l.process (said_calls (take l.call-index l.calls))
+invariant-loop-call l = calls_in l.turns.items ≡
+    calls_of l.process (said_calls (take l.call-index l.calls))

@@ -16,8 +16,10 @@ returns-in-Ok-clause-done g c =
     let after = c.in-Ok.processes.items in
     let ran = c.in-Ok.ensures.ran in
     let none : lines_of c.args.noted.now.items ≡ [] = ap lines_of c.requires.nothing in
-    let replies : lines_of c.run-ran.new.sink.items ≡ ran.0 = ran.3 ∙ ap (λ lines. lines ++ ran.0) none in
-    let phases : RunsPhases (said_phases c.args.script.now.phases.items) c.args.processes.items after ran.0 = rw c.as_slice-phases.ensures.value at ran.1 in (
+    let replies : lines_of c.run-ran.new.sink.items ≡ ran.0 =
+    ran.3 ∙ ap (λ lines. lines ++ ran.0) none in
+    let phases : RunsPhases (said_phases c.args.script.now.phases.items) c.args.processes.items
+    after ran.0 = rw c.as_slice-phases.ensures.value at ran.1 in (
       record {
         processes = after;
         ran = rw replies phases;

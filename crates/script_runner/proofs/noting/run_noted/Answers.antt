@@ -16,12 +16,15 @@ make_on-requires-clause-all g c = grind (arith, common_steps, new-count)
 
 pub returns-clause-done : goal.returns-clause-done
 returns-clause-done g c =
-    let mq = c.in-Ok.mq in let script = said_script c.args.script.now in let before = c.in-Ok.processes.items in
+    let mq = c.in-Ok.mq in let script = said_script c.args.script.now in let before =
+    c.in-Ok.processes.items in
     let noted = c.make_on.new.noted.items in let replies = lines_of noted in
     IfOk-weaker c.make_on.result
-    (λ journal. RunsOn mq before script.phases replies journal.records × (some_refused noted ≡ false)) (λ journal. RunsServed script noted journal.records)
+    (λ journal. RunsOn mq before script.phases replies journal.records ×
+    (some_refused noted ≡ false)) (λ journal. RunsServed script noted journal.records)
     (λ journal runs. record {
-      ran = whole-of script mq before replies journal.records c.in-Ok.ensures.count c.requires.processes.1 c.in-Ok.ensures.bounds c.in-Ok.ensures.processes runs.0;
+      ran = whole-of script mq before replies journal.records c.in-Ok.ensures.count
+          c.requires.processes.1 c.in-Ok.ensures.bounds c.in-Ok.ensures.processes runs.0;
       served = runs.1;
     })
     c.make_on.ensures.done

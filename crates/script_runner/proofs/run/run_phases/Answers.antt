@@ -20,5 +20,11 @@ returns-in_err-write_last_line-clause-output g c = λ failed.
     let ran = c.in_ok-journal.ensures.done in let whole = ran.1 in
     record {
       system = whole.system;
-      stops = inr (record { after = whole.processes; replies = ran.0; ran = whole.ran; written = appends-into _ _ _ ran.0 last_line ran.2 c.in_err-write_last_line.ensures.part });
+      stops = inr (record {
+        after = whole.processes;
+        replies = ran.0;
+        ran = whole.ran;
+        written = appends-into _ _ _ ran.0 last_line ran.2
+            c.in_err-write_last_line.ensures.part;
+      });
     }

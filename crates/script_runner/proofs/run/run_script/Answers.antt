@@ -21,25 +21,36 @@ returns-in_err-text-clause-output g c = λ all script known written failed.
 
 pub returns-in_err-script-clause-output : goal.returns-in_err-script-clause-output
 returns-in_err-script-clause-output g c = λ all script known written failed.
-    absurd (script-no_output c.in_err-script.field-0.0 (rw failed at c.from_residual-in_err-script.ensures.1))
+    absurd (script-no_output c.in_err-script.field-0.0
+    (rw failed at c.from_residual-in_err-script.ensures.1))
 
 pub returns-clause-no_memory : goal.returns-clause-no_memory
 returns-clause-no_memory g c = λ all script known written failed.
-    of-script (λ s. StopsAfterPhase s (g.W.Write.contents c.args.output.now) (g.W.Write.contents c.run_phases.new.output)) (rw known at c.in_ok-text.ensures.bytes) c.as_slice.ensures.value c.in_ok-script.ensures.written written (c.run_phases.ensures.no_memory failed)
+    of-script (λ s. StopsAfterPhase s (g.W.Write.contents c.args.output.now)
+    (g.W.Write.contents c.run_phases.new.output)) (rw known at c.in_ok-text.ensures.bytes)
+    c.as_slice.ensures.value c.in_ok-script.ensures.written written
+    (c.run_phases.ensures.no_memory failed)
 
 pub returns-clause-done : goal.returns-clause-done
 returns-clause-done g c = λ all script known written.
-    of-script (λ s. OnOk c.run_phases.result (RunsScript s (g.W.Write.contents c.args.output.now) (g.W.Write.contents c.run_phases.new.output))) (rw known at c.in_ok-text.ensures.bytes) c.as_slice.ensures.value c.in_ok-script.ensures.written written c.run_phases.ensures.done
+    of-script (λ s. OnOk c.run_phases.result (RunsScript s (g.W.Write.contents c.args.output.now)
+    (g.W.Write.contents c.run_phases.new.output))) (rw known at c.in_ok-text.ensures.bytes)
+    c.as_slice.ensures.value c.in_ok-script.ensures.written written c.run_phases.ensures.done
 
 pub returns-clause-output : goal.returns-clause-output
 returns-clause-output g c = λ all script known written failed.
-    of-script (λ s. StopsInWrite s (g.W.Write.contents c.args.output.now) (g.W.Write.contents c.run_phases.new.output)) (rw known at c.in_ok-text.ensures.bytes) c.as_slice.ensures.value c.in_ok-script.ensures.written written (c.run_phases.ensures.output failed)
+    of-script (λ s. StopsInWrite s (g.W.Write.contents c.args.output.now)
+    (g.W.Write.contents c.run_phases.new.output)) (rw known at c.in_ok-text.ensures.bytes)
+    c.as_slice.ensures.value c.in_ok-script.ensures.written written
+    (c.run_phases.ensures.output failed)
 
 -- nor to a deadlock
-read-no_deadlock : (lines : Vec ℕ Global) (fault : ReadFault) → Deadlock lines ≡ of_read_fault fault → ⊥
+read-no_deadlock : (lines : Vec ℕ Global) (fault : ReadFault) → Deadlock lines ≡
+    of_read_fault fault → ⊥
 read-no_deadlock = grind arith
 
-script-no_deadlock : (lines : Vec ℕ Global) (fault : ScriptFault) → Deadlock lines ≡ of_script_fault fault → ⊥
+script-no_deadlock : (lines : Vec ℕ Global) (fault : ScriptFault) → Deadlock lines ≡
+    of_script_fault fault → ⊥
 script-no_deadlock = grind arith
 
 pub returns-in_err-text-clause-deadlock : goal.returns-in_err-text-clause-deadlock
@@ -48,8 +59,12 @@ returns-in_err-text-clause-deadlock g c = λ all script lines known written fail
 
 pub returns-in_err-script-clause-deadlock : goal.returns-in_err-script-clause-deadlock
 returns-in_err-script-clause-deadlock g c = λ all script lines known written failed.
-    absurd (script-no_deadlock lines c.in_err-script.field-0.0 (rw failed at c.from_residual-in_err-script.ensures.1))
+    absurd (script-no_deadlock lines c.in_err-script.field-0.0
+    (rw failed at c.from_residual-in_err-script.ensures.1))
 
 pub returns-clause-deadlock : goal.returns-clause-deadlock
 returns-clause-deadlock g c = λ all script lines known written failed.
-    of-script (λ s. StopsInDeadlock s lines.items (g.W.Write.contents c.args.output.now) (g.W.Write.contents c.run_phases.new.output)) (rw known at c.in_ok-text.ensures.bytes) c.as_slice.ensures.value c.in_ok-script.ensures.written written (c.run_phases.ensures.deadlock lines failed)
+    of-script (λ s. StopsInDeadlock s lines.items (g.W.Write.contents c.args.output.now)
+    (g.W.Write.contents c.run_phases.new.output)) (rw known at c.in_ok-text.ensures.bytes)
+    c.as_slice.ensures.value c.in_ok-script.ensures.written written
+    (c.run_phases.ensures.deadlock lines failed)

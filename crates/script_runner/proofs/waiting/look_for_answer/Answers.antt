@@ -7,4 +7,11 @@ pub looks-preserved : goal.looks-preserved
 looks-preserved g c = grind (arith, calls-later, calls-told)
 
 pub returns-clause-calls : goal.returns-clause-calls
-returns-clause-calls g c = grind (arith, calls-later, calls-told, in-None, in-Some+else-await_answer+then-are_blocked, in-Some+then-await_answer)
+returns-clause-calls g c = grind (
+  arith,
+  calls-later,
+  calls-told,
+  in-None,
+  in-Some+else-await_answer+then-are_blocked,
+  in-Some+then-await_answer,
+)

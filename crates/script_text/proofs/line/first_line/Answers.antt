@@ -5,7 +5,8 @@ use Rattle.script_text.proofs.line.first_line.Goals as goal
 
 pub returns-in-Some-clause-lines : goal.returns-in-Some-clause-lines
 returns-in-Some-clause-lines c =
-    let place : position is_feed c.args.text.now ≡ Some c.in-Some.at = sym c.first_feed.ensures ∙ c.in-Some.is in
+    let place : position is_feed c.args.text.now ≡ Some c.in-Some.at = sym c.first_feed.ensures ∙
+    c.in-Some.is in
     let found = lines_of-found c.args.text.now c.in-Some.at place in
     rw (c.split_at.ensures.front, c.split_at.ensures.back) found
 

@@ -7,7 +7,8 @@ use Rattle.script_text.proofs.script.read_script.Given as goal
 -- the script that the lines left write, after what was read, is the whole
 abbrev pub invariant-loop-rest : goal.invariant-loop-rest
 invariant-loop-rest l = record {
-  whole : result_map (whole_behind l.phases) (script_read l.processes l.at (lines_of l.rest)) ≡ script_written l.text;
+  whole : result_map (whole_behind l.phases) (script_read l.processes l.at (lines_of l.rest)) ≡
+      script_written l.text;
   lines : l.at.lines ≤ l.at.bytes;
   bytes : l.at.bytes ≤ 1048576;
   moment : is_moment l.at.time.moment ≡ true;

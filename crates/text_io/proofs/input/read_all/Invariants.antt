@@ -5,7 +5,8 @@ use Rattle.text_io.proofs.input.read_all.Given as goal
 abbrev pub invariant-loop-chunk : goal.invariant-loop-chunk
 invariant-loop-chunk g l = record {
   size : vec_len l.bytes ≤ l.most + 1;
-  read : Consumes (g.R.ByteSource.remaining l.fn.input) (g.R.ByteSource.remaining l.input) l.bytes.items;
+  read : Consumes (g.R.ByteSource.remaining l.fn.input)
+      (g.R.ByteSource.remaining l.input) l.bytes.items;
   well : g.R.ByteSource.failed l.input ≡ g.R.ByteSource.failed l.fn.input;
 }
 

@@ -10,5 +10,6 @@ loop-written-preserved g c =
     let ok : c.write.result ≡ Ok count = grind rules in
     let rest : take (length bytes - written) (drop written bytes) ≡ drop written bytes =
     take_all (length bytes - written) (drop written bytes) (grind (arith, length-drop)) in
-    let wrote = wrote_at _ _ _ (take (length bytes - written) (drop written bytes)) count c.write.ensures.bytes ok in
+    let wrote = wrote_at _ _ _ (take (length bytes - written) (drop written bytes)) count
+    c.write.ensures.bytes ok in
     (grind rules, Appends-more _ _ _ bytes written count was.1 (rw rest at wrote))

@@ -5,7 +5,8 @@ use Rattle.text_io.proofs.output.write_all.Given as goal
 abbrev pub invariant-loop-written : goal.invariant-loop-written
 invariant-loop-written g l =
     (l.written ≤ length l.bytes)
-    × Appends (g.W.Write.contents l.initial.output) (g.W.Write.contents l.output) (take l.written l.bytes)
+    × Appends (g.W.Write.contents l.initial.output) (g.W.Write.contents l.output)
+    (take l.written l.bytes)
 
 abbrev pub decreases-loop-written : goal.decreases-loop-written
 decreases-loop-written g l = length l.bytes - l.written

@@ -17,7 +17,8 @@ returns-in_err-checked_mul c =
     let w = c.args.word.now in let i = c.loop-b.b-index in
     let digit : IsInRange 48 57 (get_or w i 0) = grind rules in
     let large : 2 ^ 64 ≤ c.loop-b.value * 10 = grind rules in
-    let no = too_large w i c.loop-b-test.true digit (let is = c.loop-b.invariant.0 in omega (arith, is, large)) in
+    let no = too_large w i c.loop-b-test.true digit (let is = c.loop-b.invariant.0 in
+    omega (arith, is, large)) in
     let none = sym (written_none 64 w no) in search rules
 
 pub returns-in_err-value : goal.returns-in_err-value
@@ -25,7 +26,8 @@ returns-in_err-value c =
     let w = c.args.word.now in let i = c.loop-b.b-index in
     let digit : IsInRange 48 57 (get_or w i 0) = grind rules in
     let large : 2 ^ 64 ≤ c.loop-b.value * 10 + (get_or w i 0 - 48) = grind rules in
-    let no = too_large w i c.loop-b-test.true digit (let is = c.loop-b.invariant.0 in omega (arith, is, large)) in
+    let no = too_large w i c.loop-b-test.true digit (let is = c.loop-b.invariant.0 in
+    omega (arith, is, large)) in
     let none = sym (written_none 64 w no) in search rules
 
 pub loop-b-preserved : goal.loop-b-preserved
@@ -33,8 +35,11 @@ loop-b-preserved c =
     let w = c.args.word.now in let i = c.loop-b.b-index in
     let digit : IsInRange 48 57 (get_or w i 0) = grind rules in
     let sum : c.in_ok-value.value ≡ c.loop-b.value * 10 + (get_or w i 0 - 48) = grind rules in
-    let step = value_step w i c.loop-b-test.true digit in let is = c.loop-b.invariant.0 in
-    (omega (arith, sum, step, is), digits_step w i c.loop-b-test.true digit c.loop-b.invariant.1, grind rules)
+    let step = value_step w i c.loop-b-test.true digit in let is = c.loop-b.invariant.0 in (
+      omega (arith, sum, step, is),
+      digits_step w i c.loop-b-test.true digit c.loop-b.invariant.1,
+      grind rules,
+    )
 
 pub returns : goal.returns
 returns c =

@@ -26,7 +26,11 @@ lies R s null_ptr x = tt
 
 owned : (a : Global) (p : Ptr) (m : Option (Member.the_row).Denot) → Keyless (seal_owns a p m)
 owned a p None = tt
-owned a p (Some d) = (lies Member.the_row member p d, heap.frees.frees a (raw (lone (Member.the_row).mir)) p)
+owned a p (Some d) = (
+  lies Member.the_row member p d,
+  heap.frees.frees a
+      (raw (lone (Member.the_row).mir)) p,
+)
 
 pub send : IsSend the_row
 send = grind (arith, member, owned, quiet)

@@ -7,10 +7,12 @@ use Rattle.exploration.proofs.search.Search.next.Given as goal
 abbrev pub invariant-loop-node : goal.invariant-loop-node
 invariant-loop-node l = record {
   limits : l.self.limits ≡ l.initial.self.limits;
-  open_nodes : (could : List Choice → Choice → Bool) → All (IsOpen could) l.initial.self.nodes.items →
+  open_nodes : (could : List Choice → Choice → Bool) →
+      All (IsOpen could) l.initial.self.nodes.items →
       All (IsOpen could) l.self.nodes.items;
   left : runs_left l.initial.self.limits.choices l.initial.self.limits.steps l.self.nodes.items
-      ≤ runs_left l.initial.self.limits.choices l.initial.self.limits.steps l.initial.self.nodes.items;
+      ≤ runs_left l.initial.self.limits.choices l.initial.self.limits.steps
+      l.initial.self.nodes.items;
 }
 
 abbrev pub decreases-loop-node : goal.decreases-loop-node

@@ -9,7 +9,8 @@ invariant-reads g l = record {
   rest : has_feed l.self.rest.items ≡ false;
   goes_on : can_go_on l.self.rest.items ≡ true;
   read : (start : Option (List ℕ)) (front : List ℕ) →
-      HasRead start (g.R.ByteSource.remaining l.fn.input) (front ++ l.initial.self.rest.items) l.initial.self.left →
+      HasRead start (g.R.ByteSource.remaining l.fn.input) (front ++ l.initial.self.rest.items)
+      l.initial.self.left →
       HasRead start (g.R.ByteSource.remaining l.input) (front ++ l.self.rest.items) l.self.left;
   less : l.self.left ≤ l.initial.self.left;
   few : length l.self.rest.items ≤ MOST_LINE + CHUNK;

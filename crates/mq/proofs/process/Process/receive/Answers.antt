@@ -17,5 +17,6 @@ returns-in-Got-clause-call g c =
     let same : c.arrive-guard.result.process ≡ c.args.self.now = search rules in
     let waits = c.make-departed.ensures.waits none in
     let start = rw (none, same) at c.make-departed.ensures.call in
-    let ends : Collects c.make-departed.result.0 c.await_outcome.new.self (Got c.in-Got.received) c.make-departed.new.buf c.await_outcome.new.buf = search rules in
+    let ends : Collects c.make-departed.result.0 c.await_outcome.new.self (Got c.in-Got.received)
+    c.make-departed.new.buf c.await_outcome.new.buf = search rules in
     inr (receive-waited refl start waits.call ends)

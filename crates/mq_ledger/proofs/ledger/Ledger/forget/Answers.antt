@@ -9,10 +9,16 @@ use Rattle.mq_ledger.proofs.ledger.Ledger.forget.Goals as goal
 
 pub returns-clause-keeps : goal.returns-clause-keeps
 returns-clause-keeps c k apart can = elim c.match-self.branch [
-  | in-Stored w ↦ inl (ap (λ (a : Inside). (shown a).stored) w.self-inside-is ∙ ap (λ kind. (kind_shown kind).stored) w.in-Stored.is)
-  | in-Unstored w ↦ reads-fewer c.args.self.now (shown c.match-self.self-inside) w.in-Unstored.unstored.places w.forget.new.self.places k
-      (ap (λ (s : Shown). s.stored) (sym c.self.view_is) ∙ ap (λ kind. (kind_shown kind).stored) w.in-Unstored.is)
-      (ap (λ (s : Shown). s.places) (sym c.self.view_is) ∙ ap (λ kind. (kind_shown kind).places) w.in-Unstored.is)
+  | in-Stored w ↦ inl (ap (λ (a : Inside). (shown a).stored) w.self-inside-is ∙
+      ap (λ kind. (kind_shown kind).stored) w.in-Stored.is)
+  | in-Unstored w ↦ reads-fewer c.args.self.now (shown c.match-self.self-inside)
+      w.in-Unstored.unstored.places w.forget.new.self.places k
+      (ap (λ (s : Shown). s.stored) (sym c.self.view_is) ∙ ap (λ kind. (kind_shown kind).stored)
+      w.in-Unstored.is)
+      (ap (λ (s : Shown). s.places) (sym c.self.view_is) ∙ ap (λ kind. (kind_shown kind).places)
+      w.in-Unstored.is)
       (ap (λ (a : Inside). (shown a).places) w.self-inside-is)
-      (w.forget.ensures.keeps k (λ at. apart (ap (λ (s : Shown). home s.records k) (sym c.self.view_is) ∙ ap (λ kind. home (kind_shown kind).records k) w.in-Unstored.is ∙ at))) can
+      (w.forget.ensures.keeps k
+      (λ at. apart (ap (λ (s : Shown). home s.records k) (sym c.self.view_is) ∙
+      ap (λ kind. home (kind_shown kind).records k) w.in-Unstored.is ∙ at))) can
 ]

@@ -10,7 +10,8 @@ pub invariant_of-self : goal.invariant_of-self
 invariant_of-self c =
     let a = c.self.inside in
     let r : Record = record { entry = c.args.entry.now; payload = c.args.payload.now } in
-    let room : min (2 ^ 62 - a.len) (vacant_in a.slots.items) ≡ c.args.self.now.entry_room = ap (λ (v : Seen). v.entry_room) c.self.view_is in
+    let room : min (2 ^ 62 - a.len) (vacant_in a.slots.items) ≡ c.args.self.now.entry_room =
+    ap (λ (v : Seen). v.entry_room) c.self.view_is in
     let past : c.note.new.self.past ≡ r ∷ a.past.past = c.note.ensures in
     record {
       count = rw past (omega (arith, c.self.invariant.count));

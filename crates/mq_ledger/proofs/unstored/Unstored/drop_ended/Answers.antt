@@ -18,14 +18,18 @@ invariant_of-self c =
     let less = c.vacate.ensures in
     sound-same c.self.inside _ c.self.invariant refl refl
     (λ past t. subst (AreTrue past) (sym less) (true-less past slots c.in-Some-guess.key t lt))
-    (ap (λ n. n + 1) c.self.invariant.vacant ∙ sym (ap vacant_in less ∙ count-less slots c.in-Some-guess.key found.0 there)) refl c.self.invariant.empty
+    (ap (λ n. n + 1) c.self.invariant.vacant ∙
+    sym (ap vacant_in less ∙ count-less slots c.in-Some-guess.key found.0 there)) refl
+    c.self.invariant.empty
 
 pub returns-in-Some-guess-clause-keeps : goal.returns-in-Some-guess-clause-keeps
 returns-in-Some-guess-clause-keeps c k other has =
     let slots = c.self.inside.slots.items in
     let found = c.in-Some-guess.ensures in
-    let places : places_of slots ≡ c.args.self.now.places = ap (λ (v : Seen). v.places) c.self.view_is in
-    let ended : Some c.in-Some.place ≡ ended_last c.args.self.now.records = sym c.in-Some.is ∙ c.self.invariant.ended ∙ ap (λ (v : Seen). ended_last v.records) c.self.view_is in
+    let places : places_of slots ≡ c.args.self.now.places =
+    ap (λ (v : Seen). v.places) c.self.view_is in
+    let ended : Some c.in-Some.place ≡ ended_last c.args.self.now.records = sym c.in-Some.is ∙
+    c.self.invariant.ended ∙ ap (λ (v : Seen). ended_last v.records) c.self.view_is in
     subst (λ (xs : List (Option Kept)). HasPlace (places_of xs) k) (sym c.vacate.ensures)
     (keeps-set slots c.in-Some-guess.key k None
     (λ x there same.

@@ -13,6 +13,9 @@ returns-then-is_there-clause-priority c has =
     let found = c.is_there.ensures.some c.if-is_there.true in
     let there = rw c.deref.ensures.value at found.1 in
     let says = c.self.invariant.kept c.self.inside.last found.0 there in
-    let records : c.self.inside.past.past ≡ c.args.self.now.records = ap (λ (v : Seen). v.records) c.self.view_is in
-    let read = c.index-slot.ensures ∙ get_or_default slots c.self.inside.last c.index-slot.result.now None (within slots c.self.inside.last found.0 there) ∙ there in
-    c.prio.ensures found.0 read ∙ sym says.1 ∙ ap (λ (k : ℕ). priority c.self.inside.past.past k) found.2 ∙ ap (λ (past : Past). priority past c.args.place) records
+    let records : c.self.inside.past.past ≡ c.args.self.now.records =
+    ap (λ (v : Seen). v.records) c.self.view_is in
+    let read = c.index-slot.ensures ∙ get_or_default slots c.self.inside.last
+    c.index-slot.result.now None (within slots c.self.inside.last found.0 there) ∙ there in
+    c.prio.ensures found.0 read ∙ sym says.1 ∙ ap (λ (k : ℕ). priority c.self.inside.past.past k)
+    found.2 ∙ ap (λ (past : Past). priority past c.args.place) records

@@ -24,7 +24,8 @@ invariant_of-result c =
         });
         processes = rw nil (λ k d lt. absurd (omega (arith, lt)));
         room = let none = new.empty.2 in omega (arith, none);
-        bounded = rw new.bounds (room-same c.args.bounds _ j c.stored.ensures.records c.stored.ensures.entry_room c.stored.ensures.byte_room room);
+        bounded = rw new.bounds (room-same c.args.bounds _ j c.stored.ensures.records
+            c.stored.ensures.entry_room c.stored.ensures.byte_room room);
         notices = rw (new.bounds, nil, new.empty.0) new.notices;
         readable = λ k needed. inl c.stored.ensures.stored;
         stored = λ some. c.stored.ensures.stored;

@@ -9,10 +9,13 @@ pub returns-clause-empty : goal.returns-clause-empty
 returns-clause-empty c = grind (arith, mirrors-new, registrations-none, waits_count-new)
 
 pub returns-clause-notices : goal.returns-clause-notices
-returns-clause-notices c = λ p le. let room = c.in_ok-inboxes.ensures.room p (let inside = owner-inside p c.args.n le in let count = c.last_process.ensures in omega (arith, inside, count)) in let is = c.in_ok-notice_room.ensures in omega (arith, room, is)
+returns-clause-notices c = λ p le. let room = c.in_ok-inboxes.ensures.room p
+    (let inside = owner-inside p c.args.n le in let count = c.last_process.ensures in
+    omega (arith, inside, count)) in let is = c.in_ok-notice_room.ensures in omega (arith, room, is)
 
 pub returns-clause-pool : goal.returns-clause-pool
 returns-clause-pool c = grind (arith)
 
 pub returns-clause-known : goal.returns-clause-known
-returns-clause-known c = subst (KnowWaits c.in_ok-callers.callers.items) (sym c.in_ok-queues.ensures.items) (knows-new c.in_ok-callers.callers.items)
+returns-clause-known c = subst (KnowWaits c.in_ok-callers.callers.items)
+    (sym c.in_ok-queues.ensures.items) (knows-new c.in_ok-callers.callers.items)

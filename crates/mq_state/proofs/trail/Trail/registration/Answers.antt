@@ -11,4 +11,5 @@ returns c =
     let q = c.args.q in
     let there = ap (λ past. is_in (alive past) q) c.self.view_is ∙ c.requires in
     c.registration.ensures ∙ ap (λ xs. registration_in xs q) c.deref.ensures.value
-    ∙ registration-read _ _ c.self.invariant.0.mirror.existing q there ∙ ap (λ past. registered past q) c.self.view_is
+    ∙ registration-read _ _ c.self.invariant.0.mirror.existing q there ∙
+    ap (λ past. registered past q) c.self.view_is

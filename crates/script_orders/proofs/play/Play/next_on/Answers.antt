@@ -17,4 +17,6 @@ returns c =
     (next-on s c.args.index c.index-2.result.now c.index.result.now c.starts_on.result
     (element-is s.programs c.args.index c.index-2.result.now below c.index-2.ensures)
     (element-is s.seats c.args.index c.index.result.now seated c.index.ensures)
-    (subst (λ (lines : List Planned). IfSome c.starts_on.result (StartsOn s.past s.phase (c.args.index + 1) c.index.result.now lines)) c.deref.ensures.value c.starts_on.ensures))
+    (subst (λ (lines : List Planned). IfSome c.starts_on.result
+    (StartsOn s.past s.phase (c.args.index + 1) c.index.result.now lines)) c.deref.ensures.value
+    c.starts_on.ensures))

@@ -9,5 +9,6 @@ returns-then-can_turn c =
     let goes : is_some (turn_of s c.loop-index.index) ≡ true = sym c.if-can_turn.ensures in
     let count = ap (λ (t : Stage). length t.programs) c.self.view_is in
     let below : c.loop-index.index < length s.programs = omega (arith, count) in
-    let none : none_can_turn s (length s.programs) ≡ false = none_can_turn-false s (length s.programs) c.loop-index.index below goes in
+    let none : none_can_turn s (length s.programs) ≡ false = none_can_turn-false s
+    (length s.programs) c.loop-index.index below goes in
     rw none refl

@@ -7,4 +7,5 @@ pub returns : goal.returns
 returns c =
     let count = ap (λ (t : Stage). length t.programs) c.self.view_is in
     let start = ap (λ (t : Stage). t.start) c.self.view_is in
-    are-legal c.args.self.now (omega (arith, count, c.self.invariant.few)) (rw (← start) c.self.invariant.legal)
+    are-legal c.args.self.now (omega (arith, count, c.self.invariant.few))
+    (rw (← start) c.self.invariant.legal)

@@ -5,7 +5,9 @@ use Rattle.script_orders.specs.PlayModel.{shown}
 use Rattle.script_orders.proofs.Turning.{element-is, none-of, turn_of-is, went-of}
 use Rattle.script_orders.proofs.play.Play.turn.Goals as goal
 
-is : (c : goal.After-self-1) → turn_of (shown c.self.inside) c.args.index ≡ after_turn c.self.inside.trail c.self.inside.phase (c.args.index + 1) c.index_mut.result.now c.index.result.now
+is : (c : goal.After-self-1) → turn_of (shown c.self.inside) c.args.index ≡
+    after_turn c.self.inside.trail c.self.inside.phase (c.args.index + 1) c.index_mut.result.now
+    c.index.result.now
 is c =
     let s = shown c.self.inside in
     let count = ap (λ (t : Stage). length t.programs) c.self.view_is in
@@ -18,9 +20,12 @@ is c =
 pub returns-clause-went : goal.returns-clause-went
 returns-clause-went c =
     rw (← c.self.view_is)
-    (went-of (shown c.self.inside) c.args.index c.index.result.now c.index_mut.result.now (record { past = c.turn.new.trail; progress = c.turn.new.seat }) c.turn.result (is c) c.turn.ensures.went)
+    (went-of (shown c.self.inside) c.args.index c.index.result.now c.index_mut.result.now
+    (record { past = c.turn.new.trail; progress = c.turn.new.seat }) c.turn.result
+    (is c) c.turn.ensures.went)
 
 pub returns-clause-none : goal.returns-clause-none
 returns-clause-none c =
     rw (← c.self.view_is)
-    (none-of (shown c.self.inside) c.args.index c.index.result.now c.index_mut.result.now c.turn.result (is c) c.turn.ensures.none)
+    (none-of (shown c.self.inside) c.args.index c.index.result.now c.index_mut.result.now
+    c.turn.result (is c) c.turn.ensures.none)

@@ -17,18 +17,29 @@ moves-of : (x : Stage) (choice : ℕ) → IsPersistent x choice → stands_still
 moves-of x choice (inl may) = collect-moves x choice may
 moves-of x choice (inr alone) = alone-moves x choice alone
 
-commutes-of : (x y z : Stage) (choice other : ℕ) → Legal x.past → IsPersistent x choice → (choice == other) ≡ false → next_stage x choice ≡ Some y → next_stage x other ≡ Some z →
+commutes-of : (x y z : Stage) (choice other : ℕ) → Legal x.past → IsPersistent x choice →
+    (choice == other) ≡ false → next_stage x choice ≡ Some y → next_stage x other ≡ Some z →
     Commutes next_stage AreStagesAlike IsPersistent choice other y z
-commutes-of x y z choice other legal (inl may) ne to_y to_z = let both = collect-passes x y z choice other legal may ne to_y to_z in record { stays = inl both.0; alike = both.1 }
-commutes-of x y z choice other legal (inr alone) ne to_y to_z = let both = alone-passes x y z choice other legal alone ne to_y to_z in record { stays = inr both.0; alike = both.1 }
+commutes-of x y z choice other legal (inl may) ne to_y to_z = let both =
+    collect-passes x y z choice other legal may ne to_y to_z in record {
+      stays = inl both.0;
+      alike = both.1;
+    }
+commutes-of x y z choice other legal (inr alone) ne to_y to_z = let both =
+    alone-passes x y z choice other legal alone ne to_y to_z in record {
+      stays = inr both.0;
+      alike = both.1;
+    }
 
 pub returns : goal.returns
 returns c =
     let count = ap (λ (t : Stage). length t.programs) c.self.view_is in
     let start = ap (λ (t : Stage). t.start) c.self.view_is in
-    let legal = are-legal c.args.self.now (omega (arith, count, c.self.invariant.few)) (rw (← start) c.self.invariant.legal) in
+    let legal = are-legal c.args.self.now (omega (arith, count, c.self.invariant.few))
+    (rw (← start) c.self.invariant.legal) in
     record {
       can = λ x choice reached may. can-of x choice may;
       no_goal = λ x choice reached may. moves-of x choice may;
-      commutes = λ x y z choice other reached may ne to_y to_z. commutes-of x y z choice other (legal reached.0 x reached.1) may ne to_y to_z;
+      commutes = λ x y z choice other reached may ne to_y to_z. commutes-of x y z choice other
+          (legal reached.0 x reached.1) may ne to_y to_z;
     }

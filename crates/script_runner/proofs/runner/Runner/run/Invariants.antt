@@ -8,7 +8,8 @@ abbrev pub invariant-loop-calls : goal.invariant-loop-calls
 invariant-loop-calls g l = record {
   ready : All (IsReady l.self.mq.now) l.processes.items;
   count : vec_len l.processes ≡ vec_len l.initial.processes;
-  ran : (replies : List ℕ) × RunsPhases (said_phases (take l.calls-index l.phases)) l.initial.processes.items l.processes.items replies
+  ran : (replies : List ℕ) × RunsPhases (said_phases (take l.calls-index l.phases))
+      l.initial.processes.items l.processes.items replies
       × Appends (g.K.Sink.written l.initial.sink) (g.K.Sink.written l.sink) replies
       × Appends (g.K.Sink.noted l.initial.sink) (g.K.Sink.noted l.sink) replies;
 }
