@@ -27,8 +27,8 @@ no_room past p e = deadline-none past p (unmapped (λ w. room_of (waiting_call p
     (open_wait past p) e)
 
 -- that before all records
-pub deadline_whole : (past : Past) (k p : ℕ) → k ≡ length past → wait_deadline (first k past) p ≡
-    wait_deadline past p
+pub deadline_whole : (past : Past) (k p : ℕ) → k ≡ length past →
+    wait_deadline (first k past) p ≡ wait_deadline past p
 deadline_whole past k p e = ap (λ it. wait_deadline it p) (first-all past k e)
 
 -- what leaves no record of the process leaves its deadline

@@ -53,8 +53,8 @@ pub new_deadlines : (lock : LockId) (n : ℕ) → n ≤ 32 →
 new_deadlines lock n few = deadlines_fit (nones 33) lock [] (λ p lt. none-at 33 p lt)
     1 n (omega arith)
 
-pub map-some : {A B : Type 0} (f : A → B) (xs : List A) → map (λ x. Some (f x)) xs ≡
-    map (λ (y : B). Some y) (map f xs)
+pub map-some : {A B : Type 0} (f : A → B) (xs : List A) →
+    map (λ x. Some (f x)) xs ≡ map (λ (y : B). Some y) (map f xs)
 map-some f [] = refl
 map-some f (x ∷ xs) = ap (λ (ys : List (Option _)). Some (f x) ∷ ys) (map-some f xs)
 

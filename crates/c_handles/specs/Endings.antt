@@ -37,8 +37,8 @@ Ends at old new before after NotWaiting = (new ≡ old) × (after ≡ before) ×
 abbrev pub GivesEnd : {A : Type 0} → Option Deadline → (Option Ending → A) →
     Option (Ticket Record) → Option (Ticket Record) → List ℕ → List ℕ → A → Type 0
 GivesEnd at says None None before after code = (code ≡ says None) × (after ≡ before)
-GivesEnd at says (Some old) (Some new) before after code = (e : Ending) × Ends at old new before
-    after e × (code ≡ says (Some e))
+GivesEnd at says (Some old) (Some new) before after code = (e : Ending) ×
+    Ends at old new before after e × (code ≡ says (Some e))
 GivesEnd at says None (Some new) before after code = ⊥
 GivesEnd at says (Some old) None before after code = ⊥
 

@@ -14,12 +14,12 @@ use Rattle.c_handles.specs.declared.requests.Moment.{Moment}
 
 -- the error of a malformed name
 abbrev pub name_fault : List ℕ → Option Fault
-name_fault name = if is_name name then None else (if has_name_form name then Some NameTooLong
-    else Some Invalid)
+name_fault name = if is_name name then None
+    else (if has_name_form name then Some NameTooLong else Some Invalid)
 
 abbrev pub access_of : ℕ → Option Access
-access_of n = if n == 0 then Some Read else (if n == 1 then Some Write else
-    (if n == 2 then Some Both else None))
+access_of n = if n == 0 then Some Read
+    else (if n == 1 then Some Write else (if n == 2 then Some Both else None))
 
 -- the flags, if the access mode is valid
 abbrev pub flags_of : Opening → OpenFlags

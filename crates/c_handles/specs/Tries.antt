@@ -23,8 +23,8 @@ Tries call old new t = TriesWith (Unit {0}) call old new t
 abbrev pub GivesWith : {R A : Type 0} → Type 0 → (Ticket Record → Ticket Record → R → Type 0) →
     (Option (Tried R) → A) → Option (Ticket Record) → Option (Ticket Record) → A → Type 0
 GivesWith kept call says None None code = (code ≡ says None) × kept
-GivesWith {R} kept call says (Some old) (Some new) code = (t : Tried R) × TriesWith kept call old
-    new t × (code ≡ says (Some t))
+GivesWith {R} kept call says (Some old) (Some new) code = (t : Tried R) ×
+    TriesWith kept call old new t × (code ≡ says (Some t))
 GivesWith kept call says None (Some new) code = ⊥
 GivesWith kept call says (Some old) None code = ⊥
 

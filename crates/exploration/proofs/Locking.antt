@@ -12,8 +12,8 @@ one-of : {X : Type 0} (p : X → Bool) (xs : List X) (x : X) → Contains xs x �
     list_any p xs ≡ true
 one-of {X} p xs x (k, within, at) e = grind (arith, list_any_at)
 
-clash : (lock : Lock) (x y : Effect) → x.object ≡ y.object → x.looks ≡ false → are_on_lock x y ≡
-    true →
+clash : (lock : Lock) (x y : Effect) → x.object ≡ y.object → x.looks ≡ false →
+    are_on_lock x y ≡ true →
     can_unlock lock x.kind ≡ true → can_lock lock y ≡ true → (not (commute x y) && not (lets x y)) ≡
     true
 clash lock x y same changes on unlocks locks = grind (arith, eq-eqb)

@@ -107,8 +107,8 @@ module _ {S I : Type 0} (shows : S → List I) (fixes : S → List ℕ) (author 
 
   -- a process in its critical section stays there while another process takes a step
   comes_on : (at : ℕ → At) (k : ℕ) (p : At) (c : Course I) → is_inside (at k) ≡ false →
-      Comes shows fixes author answered about at c → Comes shows fixes author answered about
-      (moved_to at k p) c
+      Comes shows fixes author answered about at c →
+      Comes shows fixes author answered about (moved_to at k p) c
   comes_on at k p c out h = ⊎_elim (λ e. inl e) (λ t. let ne : t.0 ≢ k = (λ e. let q : true ≡
       false = sym t.1 ∙ ap (λ z. is_inside (at z)) e ∙ out in absurd (cc)) in
       inr (t.0, ap is_inside (moved_else at k t.0 p ne) ∙ t.1, t.2)) h
@@ -121,8 +121,8 @@ module _ {S I : Type 0} (shows : S → List I) (fixes : S → List ℕ) (author 
 
   -- a step of seat k that neither enters nor leaves
   quiet : (s : St) (r : Rule s) (id k : ℕ) (old p : At) (found : List I) (fixed : Fixed)
-      (l : List I) (more : List (Claim I)) (plan : Plan I) (n : ℕ) → get_elem? s.views id ≡
-      some (seat old k found fixed l more plan n)
+      (l : List I) (more : List (Claim I)) (plan : Plan I) (n : ℕ) →
+      get_elem? s.views id ≡ some (seat old k found fixed l more plan n)
       → is_inside old ≡ false → is_inside p ≡ false → (words : List ℕ) →
       IsSafeWorld about.count words r.course.marks (moved_to r.at k p)
       → Rule record {
@@ -183,8 +183,8 @@ module _ {S I : Type 0} (shows : S → List I) (fixes : S → List ℕ) (author 
 
   -- a step that admits seat k
   enters : (s : St) (r : Rule s) (id k : ℕ) (old p : At) (found : List I) (fixed : Fixed)
-      (l : List I) (more : List (Claim I)) (plan : Plan I) (n : ℕ) → get_elem? s.views id ≡
-      some (seat old k found fixed l more plan n)
+      (l : List I) (more : List (Claim I)) (plan : Plan I) (n : ℕ) →
+      get_elem? s.views id ≡ some (seat old k found fixed l more plan n)
       → is_inside p ≡ true → ((i : ℕ) → is_inside (r.at i) ≡ false) → (st : S) →
       s.homes ≡ some (Some st) ∷ [] → shows st ≡ r.course.now → (words : List ℕ) →
       IsSafeWorld about.count words r.course.marks (moved_to r.at k p)
@@ -243,8 +243,8 @@ module _ {S I : Type 0} (shows : S → List I) (fixes : S → List ℕ) (author 
       word ≡ word_stored k old → v ≡ value_stored k old → is_inside old ≡ false →
       is_inside (after_store old) ≡ false
       → ((words marks : List ℕ) (at : ℕ → At) → IsSafeWorld about.count words marks at → at k ≡
-      old → IsProcess about.count k → IsSafeWorld about.count (set words word v) marks
-      (moved_to at k (after_store old)))
+      old → IsProcess about.count k →
+      IsSafeWorld about.count (set words word v) marks (moved_to at k (after_store old)))
       → Allows Rule slots id (seat old k found fixed l more plan n, []) word (λ _. v)
       (λ _. IsStore (step slots word v 0 none) (seat old k found fixed l more plan n, []) v)
   stores slots id k word v old found fixed l more plan n is_line on_word with_value out out' line s
@@ -280,8 +280,7 @@ module _ {S I : Type 0} (shows : S → List I) (fixes : S → List ℕ) (author 
       (moved_to at k (after_load about.count old (get_or words word 0))))
       → Allows Rule slots id (seat old k found fixed l more plan n, []) word (λ n. n)
       (IsLoad (step slots word 0 0 none) (seat old k found fixed l more plan n, []))
-  loads slots id k word old found fixed l more plan n is_line on_word out out' line s
-      r len at small =
+  loads slots id k word old found fixed l more plan n is_line on_word out out' line s r len at small =
       let mine : Fit r.at r.course (seat old k found fixed l more plan n) = r.seats id _ at in
       let v : ℕ = get_or s.words word 0 in
       let count : fixed.0 ≡ about.count = ap (λ z. z.0) mine.good.0.0 in
@@ -308,14 +307,15 @@ module _ {S I : Type 0} (shows : S → List I) (fixes : S → List ℕ) (author 
 
   -- a line that loads, and admits a seat that finds its number
   tests : (slots id k word : ℕ) (old : At) (found : List I) (fixed : Fixed) (l : List I)
-      (plan : Plan I) (n : ℕ) → tests_line old ≡ true → word ≡ word_loaded old → is_inside old ≡
-      false → is_inside (point_admitted old) ≡ true → is_inside (point_refused old) ≡ false
+      (plan : Plan I) (n : ℕ) → tests_line old ≡ true → word ≡ word_loaded old →
+      is_inside old ≡ false → is_inside (point_admitted old) ≡ true →
+      is_inside (point_refused old) ≡ false
       → ((words marks : List ℕ) (at : ℕ → At) → IsSafeWorld about.count words marks at →
-      get_or words word 0 ≡ k → at k ≡ old → IsSafeWorld about.count words marks
-      (moved_to at k (point_admitted old)))
+      get_or words word 0 ≡ k → at k ≡ old →
+      IsSafeWorld about.count words marks (moved_to at k (point_admitted old)))
       → ((words marks : List ℕ) (at : ℕ → At) → IsSafeWorld about.count words marks at →
-      get_or words word 0 ≢ k → at k ≡ old → IsSafeWorld about.count words marks
-      (moved_to at k (point_refused old)))
+      get_or words word 0 ≢ k → at k ≡ old →
+      IsSafeWorld about.count words marks (moved_to at k (point_refused old)))
       → Allows Rule slots id (seat old k found fixed l [] plan n, []) word (λ n. n)
       (IsTest shows fixes author answered (step slots word 0 0 none)
       (seat old k found fixed l [] plan n, []))
@@ -326,8 +326,9 @@ module _ {S I : Type 0} (shows : S → List I) (fixes : S → List ℕ) (author 
       let back : s.words ≡ set s.words word v = sym (set_back s.words word) in
       dite (ℕ_discrete v k)
       (λ e. let world = hit s.words r.course.marks r.at r.world e mine.stands.0 in
-      let nobody : (i : ℕ) → is_inside (r.at i) ≡ false = found_nobody about.count s.words
-      r.course.marks r.at k old (point_admitted old) world mine.stands.0 out is in
+      let nobody : (i : ℕ) →
+      is_inside (r.at i) ≡ false = found_nobody about.count s.words r.course.marks r.at k old
+      (point_admitted old) world mine.stands.0 out is in
       let home = r.home nobody in
       let st : S = home.0 in
       let number = number_good k fixed r.course.now l mine.good.0 in (
@@ -389,8 +390,8 @@ module _ {S I : Type 0} (shows : S → List I) (fixes : S → List ℕ) (author 
   left_home : (s : St) (r : Rule s) (id k : ℕ) (p : At) (found : List I) (fixed : Fixed)
       (l : List I) (more : List (Claim I)) (plan : Plan I) (n : ℕ) (st : S) → is_inside p ≡ true →
       GrowsBy author k found (shows st) → fixes st ≡ fixed.1
-      → Shows answered fixed.0 found plan (shows st) → get_elem? s.views id ≡
-      some (seat p k found fixed l more plan n)
+      → Shows answered fixed.0 found plan (shows st) →
+      get_elem? s.views id ≡ some (seat p k found fixed l more plan n)
       → Rule record {
         words = set s.words 1 0;
         homes = set s.homes 0 (some (Some st));
@@ -489,16 +490,17 @@ module _ {S I : Type 0} (shows : S → List I) (fixes : S → List ℕ) (author 
   )
 
   -- the one seat of a new table
-  only_first : (id : ℕ) (v : View I) → get_elem? (first_view (resting {I = I}) shows fixes about ∷
-      []) id ≡ some v → v ≡ first_view resting shows fixes about
+  only_first : (id : ℕ) (v : View I) →
+      get_elem? (first_view (resting {I = I}) shows fixes about ∷ []) id ≡ some v →
+      v ≡ first_view resting shows fixes about
   only_first zero v e = sym (some-injective _ _ e)
   only_first (suc id) v e = absurd (some-ne-none v (sym e))
 
   total_new : sum_over many (first_view (resting {I = I}) shows fixes about ∷ []) ≡ about.count
   total_new = let h = length-new_claims (shows about.state.value) 1 about.count in omega arith
 
-  new_claims_rest : (left : List I) (k n : ℕ) → Each (λ (c : Claim I). Rest ≡ Rest)
-      (new_claims left k n)
+  new_claims_rest : (left : List I) (k n : ℕ) →
+      Each (λ (c : Claim I). Rest ≡ Rest) (new_claims left k n)
   new_claims_rest left k zero = tt
   new_claims_rest left k (suc n) = (refl, new_claims_rest left (suc k) n)
 
@@ -526,8 +528,8 @@ module _ {S I : Type 0} (shows : S → List I) (fixes : S → List ℕ) (author 
         comes = inl refl;
         idle = λ _. refl;
         marked = marks_new answered about.count now words first safe;
-        seats = λ j d e. let P : View I → Type 0 = λ w. Fit (λ _. Rest) course w in
-            subst P (sym (only_first j d e)) record {
+        seats = λ j d e. let P : View I →
+            Type 0 = λ w. Fit (λ _. Rest) course w in subst P (sym (only_first j d e)) record {
               stands = new_claims_stand now about.count;
               found = λ q. absurd (cc);
               planned = λ q. absurd (cc);
@@ -551,8 +553,9 @@ module _ {S I : Type 0} (shows : S → List I) (fixes : S → List ℕ) (author 
   all_rest at (c ∷ cs) h = h
 
   -- a step of a seat at Rest leaves the process in its critical section there
-  still_inside : (vs : List (View I)) (id j : ℕ) (v w d : View I) → v.at ≡ Rest → is_inside d.at ≡
-      true → get_elem? vs id ≡ some v → get_elem? vs j ≡ some d → get_elem? (set vs id w) j ≡ some d
+  still_inside : (vs : List (View I)) (id j : ℕ) (v w d : View I) → v.at ≡ Rest →
+      is_inside d.at ≡ true → get_elem? vs id ≡ some v → get_elem? vs j ≡ some d →
+      get_elem? (set vs id w) j ≡ some d
   still_inside vs id j v w d o i at g = set_else vs id j w (λ e. let P : ℕ → Type 0 = λ n. get_elem?
       vs n ≡ some d in
       let same : d ≡ v = some-injective d v (sym (subst P e g) ∙ at) in let x : true ≡ false =
@@ -572,9 +575,10 @@ module _ {S I : Type 0} (shows : S → List I) (fixes : S → List ℕ) (author 
       (good.0.1) (good.0.2) k q given i adds same low high up
 
   -- the store of the word s of process q, in the critical section
-  marks_home : (s : St) (r : Rule s) → Stays → (id k : ℕ) (p : At) (found : List I) (fixed : Fixed)
-      (l : List I) (plan : Plan I) (n : ℕ) (st : S) (q : ℕ) → is_inside p ≡ true →
-      GrowsBy author k found (shows st) → MayCome answered plan (shows st) → 1 ≤ q → q ≤ fixed.0
+  marks_home : (s : St) (r : Rule s) → Stays →
+      (id k : ℕ) (p : At) (found : List I) (fixed : Fixed) (l : List I) (plan : Plan I) (n : ℕ)
+      (st : S) (q : ℕ) → is_inside p ≡ true → GrowsBy author k found (shows st) →
+      MayCome answered plan (shows st) → 1 ≤ q → q ≤ fixed.0
       → get_elem? s.views id ≡ some (seat p k found fixed l [] plan n)
       → Rule record {
         words = set s.words (fixed.0 + 1 + q) (flag (answered q (shows st)));
@@ -595,7 +599,8 @@ module _ {S I : Type 0} (shows : S → List I) (fixes : S → List ℕ) (author 
       let same : (shows st ≡ r.course.next) ⊎ (r.course.done ≡ []) =
       ⊎_elim (λ e. inl (e ∙ declared.0)) (λ e. inr (sym declared.1 ∙ e)) may in
       let course : Course I = course_marked answered about.count q (shows st) r.course in
-      let World : ℕ → Type 0 = λ n. IsSafeWorld about.count
+      let World : ℕ →
+      Type 0 = λ n. IsSafeWorld about.count
       (set s.words (n + 1 + q) (flag (answered q (shows st)))) course.marks r.at in
       let someone : ((i : ℕ) → is_inside (r.at i) ≡ false) →
       ⊥ = (λ none_in. let z : true ≡ false = sym mine_in ∙ none_in k in cc) in record {
@@ -660,8 +665,8 @@ module _ {S I : Type 0} (shows : S → List I) (fixes : S → List ℕ) (author 
 
   -- the load of the own word s
   looks_home : (s : St) (r : Rule s) (id k : ℕ) (found : List I) (fixed : Fixed) (l : List I)
-      (plan : Plan I) (n : ℕ) (word : ℕ) → word ≡ mark_in r.course.marks k → get_elem? s.views id ≡
-      some (seat Rest k found fixed l [] plan n)
+      (plan : Plan I) (n : ℕ) (word : ℕ) → word ≡ mark_in r.course.marks k →
+      get_elem? s.views id ≡ some (seat Rest k found fixed l [] plan n)
       → Rule record {
         words = s.words;
         homes = s.homes;
@@ -853,8 +858,8 @@ module _ {S I : Type 0} (shows : S → List I) (fixes : S → List ℕ) (author 
       let at : get_elem? s.views id ≡ some v = fin.1.1 in
       let r : Rule s = fin.1.0 in
       let mine : Fit r.at r.course v = r.seats id v at in
-      let nobody : (i : ℕ) → is_inside (r.at i) ≡ false = λ i. false_from_ne_true
-      (is_inside (r.at i)) (λ z.
+      let nobody : (i : ℕ) →
+      is_inside (r.at i) ≡ false = λ i. false_from_ne_true (is_inside (r.at i)) (λ z.
       let a = r.away i z in
       let f : Fit r.at r.course a.2 = r.seats a.1 a.2 a.3 in
       let one : 1 ≤ length a.2.claims = some_claim r.at a.2.at a.2.claims f.stands a.4 in
@@ -883,12 +888,13 @@ module _ {S I : Type 0} (shows : S → List I) (fixes : S → List ℕ) (author 
       word ≡ word_stored k old → v ≡ value_stored k old → is_inside old ≡ false →
       is_inside (after_store old) ≡ false
       → ((words marks : List ℕ) (at : ℕ → At) → IsSafeWorld about.count words marks at → at k ≡
-      old → IsProcess about.count k → IsSafeWorld about.count (set words word v) marks
-      (moved_to at k (after_store old)))
-      → me ≡ me_at old k found fixed l plan n → Allows Rule slots id me word (λ _. v)
-      (λ _. IsStore (step slots word v 0 none) me v)
+      old → IsProcess about.count k →
+      IsSafeWorld about.count (set words word v) marks (moved_to at k (after_store old)))
+      → me ≡ me_at old k found fixed l plan n →
+      Allows Rule slots id me word (λ _. v) (λ _. IsStore (step slots word v 0 none) me v)
   stores_at slots id k word v old me found fixed l plan n is_line on_word with_value out out' line
-      e = let P : Me (Opt S) (View I) → Type 0 = λ m. Allows Rule slots id m word (λ _. v)
+      e = let P : Me (Opt S) (View I) →
+      Type 0 = λ m. Allows Rule slots id m word (λ _. v)
       (λ _. IsStore (step slots word v 0 none) m v) in
       subst P (sym e) (stores slots id k word v old found fixed l [] plan n is_line on_word
       with_value out out' line)
@@ -900,11 +906,11 @@ module _ {S I : Type 0} (shows : S → List I) (fixes : S → List ℕ) (author 
       → ((words marks : List ℕ) (at : ℕ → At) → IsSafeWorld about.count words marks at → at k ≡
       old → IsSafeWorld about.count words marks
       (moved_to at k (after_load about.count old (get_or words word 0))))
-      → me ≡ me_at old k found fixed l plan n → Allows Rule slots id me word (λ n. n)
-      (IsLoad (step slots word 0 0 none) me)
+      → me ≡ me_at old k found fixed l plan n →
+      Allows Rule slots id me word (λ n. n) (IsLoad (step slots word 0 0 none) me)
   loads_at slots id k word old me found fixed l plan n is_line on_word out out' line e =
-      let P : Me (Opt S) (View I) → Type 0 = λ m. Allows Rule slots id m word (λ n. n)
-      (IsLoad (step slots word 0 0 none) m) in
+      let P : Me (Opt S) (View I) →
+      Type 0 = λ m. Allows Rule slots id m word (λ n. n) (IsLoad (step slots word 0 0 none) m) in
       subst P (sym e) (loads slots id k word old found fixed l [] plan n is_line
       on_word out out' line)
 
@@ -913,16 +919,18 @@ module _ {S I : Type 0} (shows : S → List I) (fixes : S → List ℕ) (author 
       word ≡ word_loaded old → is_inside old ≡ false → is_inside (point_admitted old) ≡ true →
       is_inside (point_refused old) ≡ false
       → ((words marks : List ℕ) (at : ℕ → At) → IsSafeWorld about.count words marks at →
-      get_or words word 0 ≡ k → at k ≡ old → IsSafeWorld about.count words marks
-      (moved_to at k (point_admitted old)))
+      get_or words word 0 ≡ k → at k ≡ old →
+      IsSafeWorld about.count words marks (moved_to at k (point_admitted old)))
       → ((words marks : List ℕ) (at : ℕ → At) → IsSafeWorld about.count words marks at →
-      get_or words word 0 ≢ k → at k ≡ old → IsSafeWorld about.count words marks
-      (moved_to at k (point_refused old)))
-      → me ≡ me_at old k found fixed l plan n → Allows Rule slots id me word (λ n. n)
-      (IsTest shows fixes author answered (step slots word 0 0 none) me)
+      get_or words word 0 ≢ k → at k ≡ old →
+      IsSafeWorld about.count words marks (moved_to at k (point_refused old)))
+      → me ≡ me_at old k found fixed l plan n →
+      Allows Rule slots id me word (λ n. n) (IsTest shows fixes author answered
+      (step slots word 0 0 none) me)
   tests_at slots id k word old me found fixed l plan n is_line on_word out is out' hit miss e =
-      let P : Me (Opt S) (View I) → Type 0 = λ m. Allows Rule slots id m word (λ n. n)
-      (IsTest shows fixes author answered (step slots word 0 0 none) m) in
+      let P : Me (Opt S) (View I) →
+      Type 0 = λ m. Allows Rule slots id m word (λ n. n) (IsTest shows fixes author answered
+      (step slots word 0 0 none) m) in
       subst P (sym e) (tests slots id k word old found fixed l plan n is_line on_word out
       is out' hit miss)
 
@@ -942,8 +950,8 @@ module _ {S I : Type 0} (shows : S → List I) (fixes : S → List ℕ) (author 
     pub raises_at : (old : At) → (old ≡ Rest) ⊎ (old ≡ Start) →
         me ≡ (seat old k found fixed l [] plan n, slots_at old) →
         Allows Rule slots id me (k + 1) (λ _. 1) (λ _. IsStore (step slots (k + 1) 1 0 none) me 1)
-    raises_at old is e = let P : At → Type 0 = λ p. me ≡
-        (seat p k found fixed l [] plan n, slots_at p) in
+    raises_at old is e = let P : At →
+        Type 0 = λ p. me ≡ (seat p k found fixed l [] plan n, slots_at p) in
         ⊎_elim (λ q. raises_rest_at (subst P q e)) (λ q. raises_start_at (subst P q e)) is
 
     pub lowers_back_at : me ≡ me_at BackB k found fixed l plan n →
@@ -961,13 +969,13 @@ module _ {S I : Type 0} (shows : S → List I) (fixes : S → List ℕ) (author 
     lowers_leaving_at = stores_at slots id k (k + 1) 0 Leaving me found fixed l plan n refl refl
         refl refl refl (λ ws ms at w e p. lowers_leaving about.count ws ms at w k e p)
 
-    pub sets_x_at : me ≡ me_at SetX k found fixed l plan n → Allows Rule slots id me 0 (λ _. k)
-        (λ _. IsStore (step slots 0 k 0 none) me k)
+    pub sets_x_at : me ≡ me_at SetX k found fixed l plan n →
+        Allows Rule slots id me 0 (λ _. k) (λ _. IsStore (step slots 0 k 0 none) me k)
     sets_x_at = stores_at slots id k 0 k SetX me found fixed l plan n refl refl refl refl refl
         (λ ws ms at w e p. sets_x about.count ws ms at w k e)
 
-    pub sets_y_at : me ≡ me_at SetY k found fixed l plan n → Allows Rule slots id me 1 (λ _. k)
-        (λ _. IsStore (step slots 1 k 0 none) me k)
+    pub sets_y_at : me ≡ me_at SetY k found fixed l plan n →
+        Allows Rule slots id me 1 (λ _. k) (λ _. IsStore (step slots 1 k 0 none) me k)
     sets_y_at = stores_at slots id k 1 k SetY me found fixed l plan n refl refl refl refl refl
         (λ ws ms at w e p. sets_y about.count ws ms at w k e)
 
@@ -1004,14 +1012,16 @@ module _ {S I : Type 0} (shows : S → List I) (fixes : S → List ℕ) (author 
         (λ v. scan_outside j (eqb v 1) (eqb j fixed.0)) (λ ws ms at w e. loads_flag about.count
         ws ms at w k j e)
 
-    pub tests_x_at : me ≡ me_at TestX k found fixed l plan n → Allows Rule slots id me 0 (λ n. n)
-        (IsTest shows fixes author answered (step slots 0 0 0 none) me)
+    pub tests_x_at : me ≡ me_at TestX k found fixed l plan n →
+        Allows Rule slots id me 0 (λ n. n) (IsTest shows fixes author answered
+        (step slots 0 0 0 none) me)
     tests_x_at = tests_at slots id k 0 TestX me found fixed l plan n refl refl refl refl refl
         (λ ws ms at w is e. admits_fast about.count ws ms at w k is e)
         (λ ws ms at w ne e. refuses_fast about.count ws ms at w k ne e)
 
-    pub tests_y_at : me ≡ me_at SlowY k found fixed l plan n → Allows Rule slots id me 1 (λ n. n)
-        (IsTest shows fixes author answered (step slots 1 0 0 none) me)
+    pub tests_y_at : me ≡ me_at SlowY k found fixed l plan n →
+        Allows Rule slots id me 1 (λ n. n) (IsTest shows fixes author answered
+        (step slots 1 0 0 none) me)
     tests_y_at = tests_at slots id k 1 SlowY me found fixed l plan n refl refl refl refl refl
         (λ ws ms at w is e. admits_slow about.count ws ms at w k is e)
         (λ ws ms at w ne e. refuses_slow about.count ws ms at w k ne e)
@@ -1027,11 +1037,12 @@ module _ {S I : Type 0} (shows : S → List I) (fixes : S → List ℕ) (author 
 
   pub looks_at : Stays → (slots id k word : ℕ) (me : Me (Opt S) (View I)) (found : List I)
       (fixed : Fixed) (l : List I) (plan : Plan I) (n : ℕ) → word ≡ fixed.0 + 1 + k →
-      me ≡ me_at Rest k found fixed l plan n → Allows Rule slots id me word (λ n. n)
-      (IsLook answered (step slots word 0 0 none) me)
+      me ≡ me_at Rest k found fixed l plan n →
+      Allows Rule slots id me word (λ n. n) (IsLook answered (step slots word 0 0 none) me)
   looks_at stays slots id k word me found fixed l plan n on_word e = let P : ℕ →
-      Me (Opt S) (View I) → Type 0 = λ w m. Allows Rule slots id m w (λ n. n)
-      (IsLook answered (step slots w 0 0 none) m) in
+      Me (Opt S) (View I) →
+      Type 0 = λ w m. Allows Rule slots id m w (λ n. n) (IsLook answered (step slots w 0 0 none) m)
+      in
       subst (λ w. P w me) (sym on_word) (subst (P (fixed.0 + 1 + k)) (sym e)
       (looks stays slots id k found fixed l plan n))
 
@@ -1065,16 +1076,17 @@ module _ {S I : Type 0} (shows : S → List I) (fixes : S → List ℕ) (author 
       (step slots (me.0.fixed.0 + 1 + q) (flag (answered q (shows st))) 0 none) m
       (flag (answered q (shows st)))) in
       let two = subst P (sym (ready_is me r)) one in
-      let Q : ℕ → ℕ → Type 0 = λ w x. Allows Rule slots id me w (λ _. x) (λ _. IsMark shows answered
+      let Q : ℕ → ℕ →
+      Type 0 = λ w x. Allows Rule slots id me w (λ _. x) (λ _. IsMark shows answered
       (step slots w x 0 none) me x) in
       subst (λ w. Q w v) (sym on_word) (subst (Q (me.0.fixed.0 + 1 + q))
       (sym (with_value ∙ ap (λ l. flag (answered q l)) given)) two)
 
   -- the store of 0 to y by a seat that is ready
   pub leaves_ready : (slots id : ℕ) (me : Me (Opt S) (View I)) →
-      IsReady shows fixes author answered me → Shows answered me.0.fixed.0 me.0.found me.0.plan
-      (list_in shows me.1) → Allows Rule slots id me 1 (λ _. 0)
-      (λ _. IsLeave shows (step slots 1 0 0 none) me 0)
+      IsReady shows fixes author answered me →
+      Shows answered me.0.fixed.0 me.0.found me.0.plan (list_in shows me.1) →
+      Allows Rule slots id me 1 (λ _. 0) (λ _. IsLeave shows (step slots 1 0 0 none) me 0)
   leaves_ready slots id me r shown =
       let st : S = r.full.0 in
       let given : list_in shows me.1 ≡ shows st = ap (list_in shows) r.full.1 in
@@ -1184,10 +1196,8 @@ module _ {S I : Type 0} (shows : S → List I) (fixes : S → List ℕ) (author 
       let more : me'.0.accesses ≡ me.0.accesses + 1 =
       ap (λ (m : Me (Opt S) (View I)). m.0.accesses) e in
       let D : List ℕ → Type 0 = λ l. Done answered me0.0.found (list_in shows me0.1) (k + 1) l in
-      let P : Me (Opt S) (View I) → Type 0 = λ m. m ≡ (
-        view_planned m.0.plan m.0.accesses me0.0,
-        me0.1,
-      ) in record {
+      let P : Me (Opt S) (View I) →
+      Type 0 = λ m. m ≡ (view_planned m.0.plan m.0.accesses me0.0, me0.1) in record {
         view = subst P (sym e)
             (ap (λ (m : Me (Opt S) (View I)). (
               view_planned (plan_of (list_in shows me.1) (k ∷ me.0.plan.stored) me.0.plan.told)
@@ -1245,8 +1255,9 @@ module _ {S I : Type 0} where
 
   -- the step that a mark tells of is that of this process
   pub marked_is : (shows : S → List I) (answered : ℕ → List I → Bool) (slots word v found q : ℕ)
-      (me me' : Me (Opt S) (View I)) → IsMark shows answered (step slots word v 0 none) me found
-      me' → word ≡ me.0.fixed.0 + 1 + q → me' ≡ (view_marked q (list_in shows me.1) me.0, me.1)
+      (me me' : Me (Opt S) (View I)) →
+      IsMark shows answered (step slots word v 0 none) me found me' → word ≡ me.0.fixed.0 + 1 + q →
+      me' ≡ (view_marked q (list_in shows me.1) me.0, me.1)
   marked_is shows answered slots word v found q me me' h on_word = let e : word ≡
       me.0.fixed.0 + 1 + h.process = h.on.0 in
       let same : h.process ≡ q = omega arith in h.goes ∙

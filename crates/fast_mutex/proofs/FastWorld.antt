@@ -73,28 +73,28 @@ module _ (n : ℕ) (words marks : List ℕ) (at : ℕ → At) (w : IsSafeWorld n
         (flag_sets w.flags k v t p.0 (omega (arith, p.1)) is);
   }
 
-  pub raises_rest : at k ≡ Rest → IsProcess n k → IsSafeWorld n (set words (k + 1) 1) marks
-      (moved_to at k SetX)
+  pub raises_rest : at k ≡ Rest → IsProcess n k →
+      IsSafeWorld n (set words (k + 1) 1) marks (moved_to at k SetX)
   raises_rest e p = stores_flag Rest 1 true e p refl (λ b' m f. Steps.at_Rest n w.x w.y k _ b'
       at _ w.safe p m f)
 
-  pub raises_start : at k ≡ Start → IsProcess n k → IsSafeWorld n (set words (k + 1) 1) marks
-      (moved_to at k SetX)
+  pub raises_start : at k ≡ Start → IsProcess n k →
+      IsSafeWorld n (set words (k + 1) 1) marks (moved_to at k SetX)
   raises_start e p = stores_flag Start 1 true e p refl (λ b' m f. Steps.at_Start n w.x w.y k _ b'
       at _ w.safe m f)
 
-  pub lowers_back : at k ≡ BackB → IsProcess n k → IsSafeWorld n (set words (k + 1) 0) marks
-      (moved_to at k AwaitY)
+  pub lowers_back : at k ≡ BackB → IsProcess n k →
+      IsSafeWorld n (set words (k + 1) 0) marks (moved_to at k AwaitY)
   lowers_back e p = stores_flag BackB 0 false e p refl (λ b' m f. Steps.at_BackB n w.x w.y k _ b'
       at _ w.safe m f)
 
-  pub lowers_slow : at k ≡ SlowB → IsProcess n k → IsSafeWorld n (set words (k + 1) 0) marks
-      (moved_to at k (Scan 1))
+  pub lowers_slow : at k ≡ SlowB → IsProcess n k →
+      IsSafeWorld n (set words (k + 1) 0) marks (moved_to at k (Scan 1))
   lowers_slow e p = stores_flag SlowB 0 false e p refl (λ b' m f. Steps.at_SlowB n w.x w.y k _ b'
       at _ w.safe m f)
 
-  pub lowers_leaving : at k ≡ Leaving → IsProcess n k → IsSafeWorld n (set words (k + 1) 0) marks
-      (moved_to at k Rest)
+  pub lowers_leaving : at k ≡ Leaving → IsProcess n k →
+      IsSafeWorld n (set words (k + 1) 0) marks (moved_to at k Rest)
   lowers_leaving e p = stores_flag Leaving 0 false e p refl (λ b' m f. Steps.at_Leaving n w.x w.y k
       _ b' at _ w.safe m f)
 
@@ -121,9 +121,9 @@ module _ (n : ℕ) (words marks : List ℕ) (at : ℕ → At) (w : IsSafeWorld n
   }
 
   -- y := 0
-  clears_y : (P : At) → at k ≡ P → (Moves k P Leaving at (moved_to at k Leaving) → Safe n w.x 0
-      (flag_in w.flags) (moved_to at k Leaving)) → IsSafeWorld n (set words 1 0) marks
-      (moved_to at k Leaving)
+  clears_y : (P : At) → at k ≡ P →
+      (Moves k P Leaving at (moved_to at k Leaving) → Safe n w.x 0 (flag_in w.flags)
+      (moved_to at k Leaving)) → IsSafeWorld n (set words 1 0) marks (moved_to at k Leaving)
   clears_y P e law = record {
     x = w.x;
     y = 0;
@@ -133,8 +133,8 @@ module _ (n : ℕ) (words marks : List ℕ) (at : ℕ → At) (w : IsSafeWorld n
     safe = law (moves_to at k P Leaving e);
   }
 
-  pub leaves_world : IsInsidePoint (at k) → IsSafeWorld n (set words 1 0) marks
-      (moved_to at k Leaving)
+  pub leaves_world : IsInsidePoint (at k) →
+      IsSafeWorld n (set words 1 0) marks (moved_to at k Leaving)
   leaves_world h = ⊎_elim (λ e. clears_y Fast e (λ m. Steps.at_Fast n w.x w.y k _ at _ w.safe m))
       (λ e. clears_y Slow e (λ m. Steps.at_Slow n w.x w.y k _ at _ w.safe m)) h
 
@@ -187,26 +187,28 @@ module _ (n : ℕ) (words marks : List ℕ) (at : ℕ → At) (w : IsSafeWorld n
   -- the load of x that finds k, and that finds another number
   pub admits_fast : get_or words 0 0 ≡ k → at k ≡ TestX →
       IsSafeWorld n words marks (moved_to at k Fast)
-  admits_fast is e = let P : Bool → Type 0 = λ t. IsSafeWorld n words marks
-      (moved_to at k (cond t Fast SlowB)) in subst P (eq-eqb k k refl) (loads_x k is e)
+  admits_fast is e = let P : Bool →
+      Type 0 = λ t. IsSafeWorld n words marks (moved_to at k (cond t Fast SlowB)) in
+      subst P (eq-eqb k k refl) (loads_x k is e)
 
   pub refuses_fast : get_or words 0 0 ≢ k → at k ≡ TestX →
       IsSafeWorld n words marks (moved_to at k SlowB)
-  refuses_fast ne e = let P : Bool → Type 0 = λ t. IsSafeWorld n words marks
-      (moved_to at k (cond t Fast SlowB)) in subst P (ne_eqb (get_or words 0 0) k ne)
-      (loads_x _ refl e)
+  refuses_fast ne e = let P : Bool →
+      Type 0 = λ t. IsSafeWorld n words marks (moved_to at k (cond t Fast SlowB)) in
+      subst P (ne_eqb (get_or words 0 0) k ne) (loads_x _ refl e)
 
   -- the same of the load of y at SlowY
   pub admits_slow : get_or words 1 0 ≡ k → at k ≡ SlowY →
       IsSafeWorld n words marks (moved_to at k Slow)
-  admits_slow is e = let P : Bool → Type 0 = λ t. IsSafeWorld n words marks
-      (moved_to at k (cond t Slow SlowAwait)) in subst P (eq-eqb k k refl) (loads_slow_y k is e)
+  admits_slow is e = let P : Bool →
+      Type 0 = λ t. IsSafeWorld n words marks (moved_to at k (cond t Slow SlowAwait)) in
+      subst P (eq-eqb k k refl) (loads_slow_y k is e)
 
   pub refuses_slow : get_or words 1 0 ≢ k → at k ≡ SlowY →
       IsSafeWorld n words marks (moved_to at k SlowAwait)
-  refuses_slow ne e = let P : Bool → Type 0 = λ t. IsSafeWorld n words marks
-      (moved_to at k (cond t Slow SlowAwait)) in subst P (ne_eqb (get_or words 1 0) k ne)
-      (loads_slow_y _ refl e)
+  refuses_slow ne e = let P : Bool →
+      Type 0 = λ t. IsSafeWorld n words marks (moved_to at k (cond t Slow SlowAwait)) in
+      subst P (ne_eqb (get_or words 1 0) k ne) (loads_slow_y _ refl e)
 
   -- at most one process is in its critical section
   pub others_outside : is_inside (at k) ≡ true → (j : ℕ) → j ≢ k → is_inside (at j) ≡ false
@@ -216,8 +218,8 @@ module _ (n : ℕ) (words marks : List ℕ) (at : ℕ → At) (w : IsSafeWorld n
 
 -- the words s are no part of the condition
 module _ (n : ℕ) (words marks : List ℕ) (at : ℕ → At) (w : IsSafeWorld n words marks at) where
-  pub sets_mark : (p v : ℕ) → 1 ≤ p → IsSafeWorld n (set words (n + 1 + p) v)
-      (set marks (p - 1) v) at
+  pub sets_mark : (p v : ℕ) → 1 ≤ p →
+      IsSafeWorld n (set words (n + 1 + p) v) (set marks (p - 1) v) at
   sets_mark p v some = record {
     x = w.x;
     y = w.y;

@@ -31,8 +31,8 @@ set_mark_here : (marks : List ℕ) (p v : ℕ) → 1 ≤ p → p ≤ length mark
     mark_in (set marks (p - 1) v) p ≡ v
 set_mark_here marks p v low high = grind (arith, get_or-set_same)
 
-set_mark_else : (marks : List ℕ) (p q v : ℕ) → 1 ≤ p → q ≢ p → mark_in (set marks (p - 1) v) q ≡
-    mark_in marks q
+set_mark_else : (marks : List ℕ) (p q v : ℕ) → 1 ≤ p → q ≢ p →
+    mark_in (set marks (p - 1) v) q ≡ mark_in marks q
 set_mark_else marks p q v low ne = grind (arith, get_or-set_other)
 
 module _ {I : Type 0} (answered : ℕ → List I → Bool) (n : ℕ) where
@@ -73,8 +73,9 @@ module _ {I : Type 0} (answered : ℕ → List I → Bool) (n : ℕ) where
   course_left given c = record { now = given; next = given; done = []; marks = c.marks }
 
   pub marks_left : (c : Course I) (given : List I) → Marked answered n c →
-      (given ≡ c.next) ⊎ (c.done ≡ []) → ((p : ℕ) → 1 ≤ p → p ≤ n → has p c.done ≡ false →
-      answered p c.now ≡ answered p given) → Marked answered n (course_left given c)
+      (given ≡ c.next) ⊎ (c.done ≡ []) →
+      ((p : ℕ) → 1 ≤ p → p ≤ n → has p c.done ≡ false → answered p c.now ≡ answered p given) →
+      Marked answered n (course_left given c)
   marks_left c given m same unstored = (
     m.0,
     λ p low high. split (has p c.done) (λ b. has p c.done ≡ b → mark_in c.marks p ≡
@@ -118,8 +119,8 @@ module _ {I : Type 0} (answered : ℕ → List I → Bool) (n : ℕ) where
         ))
 
     -- what k adds takes no answer of p away
-    still : (k p : ℕ) (now next : List I) → k ≢ p → GrowsBy author k now next → answered p now ≡
-        true → answered p next ≡ true
+    still : (k p : ℕ) (now next : List I) → k ≢ p → GrowsBy author k now next →
+        answered p now ≡ true → answered p next ≡ true
     still k p now next ne g a = let others : Each (λ x. author x ≢ p) g.behind =
         each_weaker (λ x. author x ≡ k) (λ x. author x ≢ p) (λ x e q. ne (sym e ∙ q)) g.behind
         (recursion_from_All (λ x. author x ≡ k) g.behind g.mine) in
@@ -244,8 +245,8 @@ flag_same a b e = grind arith
 -- The words up to that of process k are done. `stored` has those that differ.
 module _ {I : Type 0} (answered : ℕ → List I → Bool) (found given : List I) where
   abbrev pub Done : ℕ → List ℕ → Type 0
-  Done k stored = (q : ℕ) → 1 ≤ q → q < k → has q stored ≡ false → answered q found ≡
-      answered q given
+  Done k stored = (q : ℕ) → 1 ≤ q → q < k → has q stored ≡ false →
+      answered q found ≡ answered q given
 
   pub done_none : (stored : List ℕ) → Done 1 stored
   done_none stored q low high not_in = absurd (omega arith)

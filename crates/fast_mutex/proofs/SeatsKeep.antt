@@ -22,8 +22,8 @@ module _ {I : Type 0} (lock : LockId) (left : List I) where
       ap (λ z. tickets_with lock left (suc k) n ++ ticket_with lock left z ∷ []) e)
 
   pub tickets_pushed : {A : Type 0} (f : A → Ticket I) (xs ys : List A) (x : A) (k : ℕ) → 1 ≤ k →
-      ys ≡ xs ++ x ∷ [] → f x ≡ ticket_with lock left k → map f xs ≡ tickets_with lock left 1
-      (k - 1) → map f ys ≡ tickets_with lock left 1 k
+      ys ≡ xs ++ x ∷ [] → f x ≡ ticket_with lock left k →
+      map f xs ≡ tickets_with lock left 1 (k - 1) → map f ys ≡ tickets_with lock left 1 k
   tickets_pushed f xs ys x k low e fx h =
       let a : 1 + (k - 1) ≡ k = omega arith in
       let b : suc (k - 1) ≡ k = omega arith in
@@ -71,8 +71,8 @@ module _ {V I : Type 0} (r : Resting V I) where
 
 module _ {S V I : Type 0} (r : Resting V I) where
   -- the seat of one process
-  pub alone_claims : (me : Me (Opt S) V) (k : ℕ) → IsAlone r k me → r.claims me.0 ≡
-      claim_of r k me.0 ∷ []
+  pub alone_claims : (me : Me (Opt S) V) (k : ℕ) → IsAlone r k me →
+      r.claims me.0 ≡ claim_of r k me.0 ∷ []
   alone_claims me k e = ap (λ m. r.claims m.0) e ∙ r.rest_claims me.0 (r.fixed me.0)
       (claim_of r k me.0 ∷ [])
 
@@ -83,8 +83,8 @@ module _ {S V I : Type 0} (r : Resting V I) where
 
   -- the ticket of a seat that has left the list that all have left
   pub last_ticket : (s : Seat (Opt S) V) (z : TableId) (f : Fixed) (left : List I) (k n : ℕ) →
-      s.table_id ≡ z → s.me ≡ (fresh r f (new_claims left k (suc n)), []) → ticket_of r k s ≡
-      ticket_with (lock_id z f) left k
+      s.table_id ≡ z → s.me ≡ (fresh r f (new_claims left k (suc n)), []) →
+      ticket_of r k s ≡ ticket_with (lock_id z f) left k
   last_ticket s z f left k n own me =
       let v : s.me.0 ≡ fresh r f (new_claims left k (suc n)) = ap (λ m. m.0) me in
       let t : r.told s.me.0 ≡ false = ap r.told v ∙ r.fresh_told f (new_claims left k (suc n)) in

@@ -69,12 +69,12 @@ module _ {A : Type 0} where
   each_weaker P Q h (x ∷ xs) p = (h x p.0, each_weaker P Q h xs p.1)
 
 module _ {I : Type 0} where
-  pub times_here : (k : ℕ) (l : List I) (cs : List (Claim I)) → times k ((k, l) ∷ cs) ≡
-      1 + times k cs
+  pub times_here : (k : ℕ) (l : List I) (cs : List (Claim I)) →
+      times k ((k, l) ∷ cs) ≡ 1 + times k cs
   times_here k l cs = ap (λ b. cond b 1 0 + times k cs) (eq-eqb k k refl)
 
-  pub times_other : (k j : ℕ) (l : List I) (cs : List (Claim I)) → j ≢ k → times k ((j, l) ∷ cs) ≡
-      times k cs
+  pub times_other : (k j : ℕ) (l : List I) (cs : List (Claim I)) → j ≢ k →
+      times k ((j, l) ∷ cs) ≡ times k cs
   times_other k j l cs n = ap (λ b. cond b 1 0 + times k cs) (ne_eqb j k n) ∙ omega arith
 
   pub times-append : (k : ℕ) (cs ds : List (Claim I)) → times k (cs ++ ds) ≡ times k cs + times k ds

@@ -119,8 +119,8 @@ module _ {S I : Type 0} (shows : S → List I) (fixes : S → List ℕ) (author 
   pub record Fits (at : ℕ → At) (course : Course I) (v : View I) : Type 0 where
     pub stands : Stands at v.at v.claims
     pub found : is_inside v.at ≡ true → v.found ≡ course.now
-    pub planned : is_inside v.at ≡ true → (v.plan.next ≡ course.next) ×
-        (v.plan.stored ≡ course.done)
+    pub planned : is_inside v.at ≡ true →
+        (v.plan.next ≡ course.next) × (v.plan.stored ≡ course.done)
     pub told : is_inside v.at ≡ false → v.plan.told ≡ true →
         mark_in course.marks (number_in v.claims) ≡ 1
     pub good : Each (IsGood fixes author about v.fixed course.now) v.claims

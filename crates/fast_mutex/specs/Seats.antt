@@ -76,8 +76,8 @@ pub record Resting (V I : Type 0) : Type 0 where
   pub blank : V
   pub rest_fixed : (v : V) (f : Fixed) (cs : List (Claim I)) → fixed (rest v f cs) ≡ f
   pub rest_claims : (v : V) (f : Fixed) (cs : List (Claim I)) → claims (rest v f cs) ≡ cs
-  pub rest_again : (v : V) (f g : Fixed) (cs ds : List (Claim I)) → rest (rest v f cs) g ds ≡
-      rest v g ds
+  pub rest_again : (v : V) (f g : Fixed) (cs ds : List (Claim I)) →
+      rest (rest v f cs) g ds ≡ rest v g ds
   pub fresh_told : (f : Fixed) (cs : List (Claim I)) → told (rest blank f cs) ≡ false
 
 module _ {V I : Type 0} (r : Resting V I) where

@@ -128,9 +128,9 @@ enters : (past : Past) (r : Record) (q w : ℕ) → entered past r.entry q ≡ S
     is_in (admitted (r ∷ past) q) w ≡ true
 enters past r q w e = rw e (rw (eq-eqb w w refl) refl)
 
-entered-got : (past : Past) (r : Record) (q w m : ℕ) (a n : Option ℕ) → r.entry.reply ≡
-    reply.Got m a n → a ≡ Some w → is_in (blocked_sends past q) w ≡ true → entered past r.entry q ≡
-    Some w
+entered-got : (past : Past) (r : Record) (q w m : ℕ) (a n : Option ℕ) →
+    r.entry.reply ≡ reply.Got m a n → a ≡ Some w → is_in (blocked_sends past q) w ≡ true →
+    entered past r.entry q ≡ Some w
 entered-got past r q w m a n is e blocked = grind arith
 
 -- a waiting send that a receive admits is in the queue
@@ -318,8 +318,8 @@ completed-accepted time histories (r ∷ past) linear begun index k o prio messa
     ]
 
 -- what was accepted stays accepted
-pub accepted-later : (before past : Past) (q m : ℕ) → Ends before past → is_accepted before q m ≡
-    true → is_accepted past q m ≡ true
+pub accepted-later : (before past : Past) (q m : ℕ) → Ends before past →
+    is_accepted before q m ≡ true → is_accepted past q m ≡ true
 accepted-later before [] q m ends h = subst (λ (x : Past). is_accepted x q m ≡ true) ends h
 accepted-later before (r ∷ past) q m ends h = elim ends [
   | inl same ↦ subst (λ (x : Past). is_accepted x q m ≡ true) same h

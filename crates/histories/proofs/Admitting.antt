@@ -33,8 +33,8 @@ pub record IsAdmitted (histories : Histories) (past : Past) (index w m : ℕ)
   pub named : Has named_wait past m w
   pub kept : is_handed past m ≡ false
 
-kept-older : (past : Past) (r : Record) (m w : ℕ) → Has named_wait past m w → is_handed past m ≡
-    false → is_handed (r ∷ past) m ≡ false
+kept-older : (past : Past) (r : Record) (m w : ℕ) → Has named_wait past m w →
+    is_handed past m ≡ false → is_handed (r ∷ past) m ≡ false
 kept-older past r m w named e = grind (arith, has-record, record_at-older, record_at-below)
 
 pub some-not-none : (past : Past) (p w : ℕ) → open_wait past p ≡ Some w →
@@ -104,8 +104,8 @@ admitted-step histories past r linear index w m o x = split (r.entry.process == 
 
 admitted-later : (histories : Histories) (base full : Past) → IsLinearization histories full →
     Ends base full → (index w m : ℕ) (o : Operation) →
-    IsAdmitted histories base index w m o → IsAdmitted histories full index w m o ⊎
-    (may_enter o.outcome ≡ true)
+    IsAdmitted histories base index w m o →
+    IsAdmitted histories full index w m o ⊎ (may_enter o.outcome ≡ true)
 admitted-later histories base [] linear ends index w m o x =
     inl (subst (λ (p : Past). IsAdmitted histories p index w m o) ends x)
 admitted-later histories base (r ∷ full) linear ends index w m o x = elim ends [

@@ -53,11 +53,12 @@ rec p call y payload = record {
 
 -- of the queues that were created, this one has the name
 abbrev pub HasName : List ℕ → Past → ℕ → Type 0
-HasName name past q = (k : ℕ) → is_in (created past) k ≡ true → bytes_eq (name_of past k) name ≡
-    (k == q)
+HasName name past q = (k : ℕ) → is_in (created past) k ≡ true →
+    bytes_eq (name_of past k) name ≡ (k == q)
 
-got-here : (past : Past) → Legal past → (p : ℕ) (call : Call) (h : Description) (m : ℕ)
-    (a n : Option ℕ) (payload : List ℕ) → BestReply past h (reply.Got m a n) →
+got-here : (past : Past) → Legal past →
+    (p : ℕ) (call : Call) (h : Description) (m : ℕ) (a n : Option ℕ) (payload : List ℕ) →
+    BestReply past h (reply.Got m a n) →
     length (present (rec p call (reply.Got m a n) payload ∷ past) h.queue) + 1 ≤ length
     (present past h.queue) + one_if (is_some a)
 got-here past legal p call h m a n payload says = grind (
@@ -71,8 +72,9 @@ got-here past legal p call h m a n payload says = grind (
 )
 
 -- what a receive does to a queue, if it is on it or not
-got-at : (past : Past) → Legal past → (p : ℕ) (call : Call) (h : Description) (m : ℕ)
-    (a n : Option ℕ) (payload : List ℕ) → BestReply past h (reply.Got m a n) → (q : ℕ) →
+got-at : (past : Past) → Legal past →
+    (p : ℕ) (call : Call) (h : Description) (m : ℕ) (a n : Option ℕ) (payload : List ℕ) →
+    BestReply past h (reply.Got m a n) → (q : ℕ) →
     length (present (rec p call (reply.Got m a n) payload ∷ past) q) + if_on (h.queue == q) 1 ≤
     length (present past q) + if_on (h.queue == q) (one_if (is_some a))
 got-at past legal p call h m a n payload says q = split (h.queue == q)
@@ -108,8 +110,9 @@ present-step past legal p call y payload says q = grind (
   got-at,
 )
 
-balanced-on : (on : Bool) (y : Reply) → if_on on (came y) + if_on on (own_gain y + one_if (hands y))
-    ≤ if_on on (gone y) + if_on on (own_come y + one_if (is_some (admits y)))
+balanced-on : (on : Bool) (y : Reply) →
+    if_on on (came y) + if_on on (own_gain y + one_if (hands y)) ≤ if_on on (gone y) + if_on on
+    (own_come y + one_if (is_some (admits y)))
 balanced-on on y = grind arith
 
 -- a call that brings in or takes out a message is on the queue if and only if its operation is

@@ -164,9 +164,9 @@ sent-begun time prio message histories (r ∷ past) linear begun =
     rw (by_then, sends_it) refl) in
     omega (arith, before, longer, grows, le))
   where
-    by_call : ends_wait r.entry.call ≡ false → (r.entry.call ≡ Collect) ⊎
-        (IsWithdrawalOf r linear.2.operation ⊎ IsCallOf r linear.2.operation) →
-        IsCallOf r linear.2.operation
+    by_call : ends_wait r.entry.call ≡ false →
+        (r.entry.call ≡ Collect) ⊎ (IsWithdrawalOf r linear.2.operation ⊎
+        IsCallOf r linear.2.operation) → IsCallOf r linear.2.operation
     by_call own (inl collects) = absurd (let bad : true ≡ false = subst (λ (c : Call). ends_wait c ≡
         false) collects own in cc)
     by_call own (inr (inl withdraws)) =
@@ -182,8 +182,8 @@ completed_receives prio message histories past index =
     of_process (λ (v : Vec Operation Global). count_by (receives prio message)
     (take (completed past (index + 1)) v.items)) (slice_get histories index)
 
-pub length-with : (o : Option Place) (xs : List ℕ) → length (with_place o xs) ≡
-    length xs + one_if (is_some o)
+pub length-with : (o : Option Place) (xs : List ℕ) →
+    length (with_place o xs) ≡ length xs + one_if (is_some o)
 length-with o xs = grind arith
 
 -- what the record of an operation adds to the receives that are completed

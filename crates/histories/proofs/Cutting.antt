@@ -81,8 +81,8 @@ none-left histories past begin time (suc n) i none less below =
     ]
 
 begun-or-cut : (time : ℕ) (histories : Histories) (past : Past)
-    (linear : IsLinearization histories past) → AreBegun time histories past linear ⊎
-    IsCut time histories past
+    (linear : IsLinearization histories past) →
+    AreBegun time histories past linear ⊎ IsCut time histories past
 begun-or-cut time histories [] linear = inl tt
 begun-or-cut time histories (r ∷ past) linear = elim (begun-or-cut time histories past linear.0) [
   | inr c ↦ inr (record {
@@ -100,8 +100,8 @@ begun-or-cut time histories (r ∷ past) linear = elim (begun-or-cut time histor
       ]
 ]
 
-pub through-each : (histories : Histories) (past : Past) (n i : ℕ) → are_through histories past n ≡
-    true → i < n → is_through (current_of histories past i) ≡ true
+pub through-each : (histories : Histories) (past : Past) (n i : ℕ) →
+    are_through histories past n ≡ true → i < n → is_through (current_of histories past i) ≡ true
 through-each histories past zero i through below = absurd (omega (arith, below))
 through-each histories past (suc n) i through below =
     let parts = and_parts (are_through histories past n) (is_through (current_of histories past n))

@@ -59,8 +59,8 @@ own_come (reply.Queued n) = 1
 own_come (reply.Handed w) = 1
 own_come _ = 0
 
-answer-step : (a c : Bool) (o : Option ℕ) (k n : ℕ) → n + one_if (is_some o && c) ≤ n + one_if
-    (is_some (if a then Some k else o) && c)
+answer-step : (a c : Bool) (o : Option ℕ) (k n : ℕ) →
+    n + one_if (is_some o && c) ≤ n + one_if (is_some (if a then Some k else o) && c)
 answer-step a c o k n = grind arith
 
 other-entered : (time : ℕ) (name : List ℕ) (histories : Histories) (past : Past) (r : Record)
@@ -78,8 +78,8 @@ other-entered time name histories past r i other =
     let now : enters_now time (current_of histories (r ∷ past) i) ≡
     enters_now time (current_of histories past i) = ap (enters_now time)
     (current-other histories past r i other) in
-    let c : Bool = is_on_now name histories past i && enters_now time
-    (current_of histories past i) in
+    let c : Bool = is_on_now name histories past i &&
+    enters_now time (current_of histories past i) in
     let both : (is_on_now name histories (r ∷ past) i && enters_now time
     (current_of histories (r ∷ past) i)) ≡ c =
     ap (λ (b : Bool). b && enters_now time (current_of histories (r ∷ past) i)) on ∙
@@ -396,8 +396,8 @@ admits-one time name histories full past r linear begun stays whole ends through
     one-on true = refl
     one-on false = refl
 
-admitting-got : (y : Reply) (w : ℕ) → admits y ≡ Some w → (m : ℕ) × (n : Option ℕ) ×
-    (y ≡ reply.Got m (Some w) n)
+admitting-got : (y : Reply) (w : ℕ) → admits y ≡ Some w →
+    (m : ℕ) × (n : Option ℕ) × (y ≡ reply.Got m (Some w) n)
 admitting-got y w e = grind arith
 
 -- what one record adds to the messages that entered

@@ -64,8 +64,8 @@ fits-shape : (past : Past) (r : Reply) (outcome : Outcome) → is_collected r �
 fits-shape past r outcome not = grind (arith, opens-shape, shows-shape, notice-shape, refuses-shape)
 
 pub shape-same : (to : ℕ → ℕ) (x y : Past) (p : Process) (call : Call) (given : List ℕ) →
-    StepsEquivalent to x y p call given → shape (reply_to y p call given) ≡
-    shape (reply_to x p call given)
+    StepsEquivalent to x y p call given →
+    shape (reply_to y p call given) ≡ shape (reply_to x p call given)
 shape-same to x y p call given steps = sym (shape-outline (reply_to y p call given)) ∙
     ap shape steps.reply ∙ shape-outline (reply_to x p call given)
 
@@ -139,9 +139,9 @@ fits_answer m outcomes.Done = not (is_some m)
 fits_answer m (outcomes.Got prio message) = is_message_of m prio message.items
 fits_answer m _ = false
 
-answer-fits : (past : Past) (by : Place) (r : Record) (outcome : Outcome) → record_at past by ≡
-    Some r → hands r.entry.reply ≡ is_send r.entry.call → fits past (replies.Collected by) outcome ≡
-    fits_answer (told r) outcome
+answer-fits : (past : Past) (by : Place) (r : Record) (outcome : Outcome) →
+    record_at past by ≡ Some r → hands r.entry.reply ≡ is_send r.entry.call →
+    fits past (replies.Collected by) outcome ≡ fits_answer (told r) outcome
 answer-fits past by r outcome is handed = grind arith
 
 -- the answers to the wait of a process, by their places
@@ -170,8 +170,8 @@ collect-fits to x y p outcome alike _ _ at_x at_y some_x some_y = absurd (cc)
 -- a call ------------------------------------------------------------------------------------------
 
 pub fits-alike : (to : ℕ → ℕ) (x y : Past) (p : Process) (call : Call) (given : List ℕ)
-    (outcome : Outcome) → EquivalentUnder to x y → may_call x p call ≡ true → may_call y p call ≡
-    true → StepsEquivalent to x y p call given →
+    (outcome : Outcome) → EquivalentUnder to x y → may_call x p call ≡ true →
+    may_call y p call ≡ true → StepsEquivalent to x y p call given →
     fits y (reply_to y p call given) outcome ≡ fits x (reply_to x p call given) outcome
 fits-alike to x y p Collect given outcome alike can_x can_y steps =
     collect-fits to x y p outcome alike (answered_by x p) (answered_by y p) refl refl can_x can_y

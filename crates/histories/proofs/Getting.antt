@@ -94,8 +94,8 @@ own_gain _ = 0
 abbrev pub if_on : Bool → ℕ → ℕ
 if_on on n = if on then n else 0
 
-wait-step : (a b c d : Bool) (n : ℕ) → n + one_if ((if a then b else c) && d) ≤ n + one_if
-    (c && d) + if_on d (one_if (a && b))
+wait-step : (a b c d : Bool) (n : ℕ) →
+    n + one_if ((if a then b else c) && d) ≤ n + one_if (c && d) + if_on d (one_if (a && b))
 wait-step a b c d n = grind arith
 
 pub same-now : (name : List ℕ) (histories : Histories) (past : Past) (r : Record) (i : ℕ) →
@@ -280,8 +280,9 @@ got-step time name histories past r linear begun stays = split (hands r.entry.re
     legal : Legal past
     legal = legal-linear histories past linear.0
 
-    handed : (w : ℕ) → r.entry.reply ≡ reply.Handed w → total (got_by name histories (r ∷ past))
-        (length histories) ≤ total (got_by name histories past) (length histories) + if_on
+    handed : (w : ℕ) → r.entry.reply ≡ reply.Handed w →
+        total (got_by name histories (r ∷ past)) (length histories) ≤ total
+        (got_by name histories past) (length histories) + if_on
         (record_on name histories past r linear) 1
     handed w is =
         let says : Says past r.entry.process r.entry.call (reply.Handed w) =

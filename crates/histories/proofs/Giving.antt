@@ -31,21 +31,22 @@ use Rattle.histories.specs.Outcomes.{hands, is_handed, is_message}
 
 -- a send of this message that did not fail
 abbrev pub is_sending : ℕ → List ℕ → Record → Bool
-is_sending prio message r = is_send r.entry.call && is_sent r.entry.reply && priority_given
-    r.entry.call == prio && bytes_eq r.payload message
+is_sending prio message r = is_send r.entry.call && is_sent r.entry.reply &&
+    priority_given r.entry.call == prio && bytes_eq r.payload message
 
 -- their places
 abbrev pub sent_of : ℕ → List ℕ → Past → List ℕ
 sent_of prio message [] = []
-sent_of prio message (r ∷ past) = if is_sending prio message r then length past ∷
-    sent_of prio message past else sent_of prio message past
+sent_of prio message (r ∷ past) = if is_sending prio message r
+    then length past ∷ sent_of prio message past else sent_of prio message past
 
 sent-more : (prio : ℕ) (message : List ℕ) (past : Past) (r : Record) (m : ℕ) →
     is_in (sent_of prio message past) m ≡ true → is_in (sent_of prio message (r ∷ past)) m ≡ true
 sent-more prio message past r m before = grind arith
 
-sent-in : (prio : ℕ) (message : List ℕ) (past : Past) (m : ℕ) (r : Record) → record_at past m ≡
-    Some r → is_sending prio message r ≡ true → is_in (sent_of prio message past) m ≡ true
+sent-in : (prio : ℕ) (message : List ℕ) (past : Past) (m : ℕ) (r : Record) →
+    record_at past m ≡ Some r → is_sending prio message r ≡ true →
+    is_in (sent_of prio message past) m ≡ true
 sent-in prio message [] m r there is = absurd (cc)
 sent-in prio message (s ∷ past) m r there is = split (m == length past)
     (λ t.
@@ -76,8 +77,8 @@ handed-at : (past : Past) (m : ℕ) → is_handed past m ≡ true → HandedAt p
 handed-at past m e = grind (arith, handing)
 
 -- the message at the place of a record
-message-of : (past : Past) (m prio : ℕ) (message : List ℕ) (r : Record) → record_at past m ≡
-    Some r → is_message past m prio message ≡ true →
+message-of : (past : Past) (m prio : ℕ) (message : List ℕ) (r : Record) →
+    record_at past m ≡ Some r → is_message past m prio message ≡ true →
     ((priority_given r.entry.call == prio) ≡ true) × (bytes_eq r.payload message ≡ true)
 message-of past m prio message r there e = grind (arith, and_parts)
 

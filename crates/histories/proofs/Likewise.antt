@@ -35,13 +35,13 @@ use Rattle.histories.proofs.Linearizing.{schedule-makes-linearization}
 -- how far the processes are -----------------------------------------------------------------------
 
 current-alike : (histories : Histories) (x y : Past) (index : ℕ) → Equivalent x y →
-    HaveBegunAlike (length histories) x y → current_of histories y index ≡
-    current_of histories x index
+    HaveBegunAlike (length histories) x y →
+    current_of histories y index ≡ current_of histories x index
 current-alike histories x y index alike begun = grind (arith, slice_get_within)
 
 none-ended-alike : (histories : Histories) (x y : Past) (moment n : ℕ) → Equivalent x y →
-    HaveBegunAlike (length histories) x y → none_ended histories y moment n ≡
-    none_ended histories x moment n
+    HaveBegunAlike (length histories) x y →
+    none_ended histories y moment n ≡ none_ended histories x moment n
 none-ended-alike histories x y moment zero alike begun = refl
 none-ended-alike histories x y moment (suc n) alike begun =
     grind (arith, current-alike, none-ended-alike histories x y moment n alike begun)
@@ -75,8 +75,8 @@ call-alike x y n index call given alike begun can_x =
       };
     }
 
-may-of : (past : Past) (p : Process) (call : Call) (given : List ℕ) → can_call past p call given ≡
-    true → may_call past p call ≡ true
+may-of : (past : Past) (p : Process) (call : Call) (given : List ℕ) →
+    can_call past p call given ≡ true → may_call past p call ≡ true
 may-of past p call given can = let one = and_parts _ _ can in let two = and_parts _ _ one.0 in two.1
 
 fitting-alike : (x y : Past) (n index : ℕ) (outcome : Outcome) (call : Call) (given : List ℕ) →
@@ -87,10 +87,10 @@ fitting-alike x y n index outcome call given alike begun =
     let p = index + 1 in
     let to = alike.to in
     let steps = steps-equivalent to x y alike.equivalent p call given in
-    let longer : Past → Bool → Option Past = λ past can. if can then Some
-    (record_of_call past p call given ∷ past) else None in
-    let after : Past → Bool → Bool → Option Past = λ past fit can. if fit then longer past
-    can else None in
+    let longer : Past → Bool → Option Past = λ past can. if can
+    then Some (record_of_call past p call given ∷ past) else None in
+    let after : Past → Bool → Bool → Option Past = λ past fit can. if fit
+    then longer past can else None in
     let by_fit : (f g : Bool) → g ≡ f → can_call x p call given ≡ true →
     AreBothAlike (GrownAlike n) (after x f true) (after y g true) =
     λ (f g : Bool). elim f as (λ f. g ≡ f → can_call x p call given ≡ true → AreBothAlike
@@ -138,9 +138,9 @@ end-alike : (x y : Past) (n index : ℕ) (operation : Operation) → Equivalent 
     AreBothAlike (GrownAlike n) (with_end x index operation) (with_end y index operation)
 end-alike x y n index operation alike begun =
     let p = index + 1 in
-    let ends : Past → Bool → Option Past = λ past b. if b then with_fitting past index
-    operation.outcome Collect [] else with_withdrawal past index operation.outcome
-    (deadline_of operation.call) in
+    let ends : Past → Bool → Option Past = λ past b. if b
+    then with_fitting past index operation.outcome Collect []
+    else with_withdrawal past index operation.outcome (deadline_of operation.call) in
     let goes : (b : Bool) → AreBothAlike (GrownAlike n) (ends x b) (ends y b) =
     λ (b : Bool). elim b as (λ b. AreBothAlike (GrownAlike n) (ends x b) (ends y b)) [
       | true ↦ fitting-alike x y n index operation.outcome Collect [] alike begun
@@ -148,8 +148,8 @@ end-alike x y n index operation alike begun =
           (deadline_of operation.call) alike begun
     ]
     in
-    let P : Bool → Type 0 = λ b. AreBothAlike (GrownAlike n) (ends x (can_call x p Collect []))
-    (ends y b) in
+    let P : Bool →
+    Type 0 = λ b. AreBothAlike (GrownAlike n) (ends x (can_call x p Collect [])) (ends y b) in
     let steps = steps-equivalent alike.to x y alike.equivalent p Collect [] in
     subst P (sym (can-alike x y p Collect [] steps.turn (shape-same alike.to x y p Collect []
     steps))) (goes (can_call x p Collect []))
@@ -169,8 +169,8 @@ timely-alike : (histories : Histories) (x y : Past) (index : ℕ) (o : Option Op
 timely-alike histories x y index None alike begun = tt
 timely-alike histories x y index (Some operation) alike begun =
     let n = length histories in
-    let timed : Past → Bool → Option Past = λ past b. if b then with_operation past index
-    operation else None in
+    let timed : Past → Bool → Option Past = λ past b. if b then with_operation past index operation
+    else None in
     let goes : (b : Bool) → AreBothAlike (GrownAlike n) (timed x b) (timed y b) =
     λ (b : Bool). elim b as (λ b. AreBothAlike (GrownAlike n) (timed x b) (timed y b)) [
       | true ↦
@@ -178,7 +178,8 @@ timely-alike histories x y index (Some operation) alike begun =
       | false ↦ tt
     ]
     in
-    let P : Bool → Type 0 = λ b. AreBothAlike (GrownAlike n)
+    let P : Bool →
+    Type 0 = λ b. AreBothAlike (GrownAlike n)
     (timed x (none_ended histories x operation.begin n)) (timed y b) in
     subst P (sym (none-ended-alike histories x y operation.begin n alike begun))
     (goes (none_ended histories x operation.begin n))

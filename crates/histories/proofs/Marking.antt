@@ -39,15 +39,15 @@ any-append test name marks (x ∷ xs) o =
     (λ t. rw (t, rest) (or-same (test x) _ _))
     (λ f. rw (f, rest) refl)
 
-take-at : {A : Type 0} (xs : List A) (k : ℕ) (x : A) → slice_get xs k ≡ Some x → take (suc k) xs ≡
-    take k xs ++ x ∷ []
+take-at : {A : Type 0} (xs : List A) (k : ℕ) (x : A) → slice_get xs k ≡ Some x →
+    take (suc k) xs ≡ take k xs ++ x ∷ []
 take-at [] k x is = absurd (let bad : None ≡ Some x = is in cc)
 take-at (y ∷ ys) zero x is = let both : Some y ≡ Some x = is in let same : y ≡ x =
     cc in ap (λ z. z ∷ []) same
 take-at (y ∷ ys) (suc k) x is = ap (λ zs. y ∷ zs) (take-at ys k x is)
 
-pub marks-next : (name : List ℕ) (xs : List Operation) (k : ℕ) (o : Operation) → slice_get xs k ≡
-    Some o →
+pub marks-next : (name : List ℕ) (xs : List Operation) (k : ℕ) (o : Operation) →
+    slice_get xs k ≡ Some o →
     marks_of name no_marks (take (k + 1) xs) ≡
     marks_after name (marks_of name no_marks (take k xs)) o
 marks-next name xs k o is = ap (λ n. marks_of name no_marks (take n xs)) (add-one k) ∙
@@ -65,8 +65,8 @@ any-next test name xs k o is = ap (λ n. list_any test (calls_from name no_marks
 -- what a test finds -------------------------------------------------------------------------------
 
 pub none-on : (test : Operation → Bool) (name : List ℕ) (marks : Marks) (xs : List Operation)
-    (k : ℕ) (o : Operation) → list_any test (calls_from name marks xs) ≡ false → slice_get xs k ≡
-    Some o →
+    (k : ℕ) (o : Operation) → list_any test (calls_from name marks xs) ≡ false →
+    slice_get xs k ≡ Some o →
     is_marked (marks_of name marks (take k xs)) (descriptor_of o.call) ≡ true → test o ≡ false
 none-on test name marks [] k o none is on = absurd (let bad : None ≡ Some o = is in cc)
 none-on test name marks (x ∷ xs) zero o none is on =
@@ -182,14 +182,14 @@ none-has test histories index k o none is = by (slice_get histories index) refl 
         none-any test v.items k o inner e
 
 pub none-has-on : (test : Operation → Bool) (name : List ℕ) (histories : Histories) (index k : ℕ)
-    (o : Operation) → has_any_on name test histories ≡ false → operation_at histories index k ≡
-    Some o →
+    (o : Operation) → has_any_on name test histories ≡ false →
+    operation_at histories index k ≡ Some o →
     is_marked (marks_at name histories index k) (descriptor_of o.call) ≡ true → test o ≡ false
 none-has-on test name histories index k o none is on = by (slice_get histories index) refl is on
   where
     by : (v : Option (Vec Operation Global)) → slice_get histories index ≡ v →
-        operation_at histories index k ≡ Some o → is_marked (marks_at name histories index k)
-        (descriptor_of o.call) ≡ true → test o ≡ false
+        operation_at histories index k ≡ Some o →
+        is_marked (marks_at name histories index k) (descriptor_of o.call) ≡ true → test o ≡ false
     by None there e marked = absurd (let bad : None ≡ Some o = rw there at e in cc)
     by (Some v) there e marked =
         let inner = none-any (λ (w : Vec Operation Global). list_any test (calls_on name w.items))

@@ -56,8 +56,8 @@ open-payload call y given e = grind arith
 
 -- an open that creates a queue found its name unbound
 creates-unbound : (past : Past) (r : Record) → IsLegalNext past r →
-    creates r.entry.call r.entry.reply ≡ true → (is_open r.entry.call ≡ true) ×
-    (bound_queue past r.payload ≡ None)
+    creates r.entry.call r.entry.reply ≡ true →
+    (is_open r.entry.call ≡ true) × (bound_queue past r.payload ≡ None)
 creates-unbound past r legal is = grind (arith, opened-says, none-of)
 
 -- what a call does to the name --------------------------------------------------------------------
@@ -322,8 +322,8 @@ call-marked time name histories past r linear begun stays own q on =
 
 -- the name has one queue --------------------------------------------------------------------------
 
-unlinks-own : (call : Call) (y : Reply) → unlinks call y ≡ true → (ends_wait call ≡ false) ×
-    (is_unlink call ≡ true) × (y ≡ reply.Done)
+unlinks-own : (call : Call) (y : Reply) → unlinks call y ≡ true →
+    (ends_wait call ≡ false) × (is_unlink call ≡ true) × (y ≡ reply.Done)
 unlinks-own call y e = grind arith
 
 done-went : (past : Past) (x : Outcome) → fits past reply.Done x ≡ true → has_failed x ≡ false
@@ -365,8 +365,8 @@ is-bound time name histories (r ∷ past) linear begun stays q made named =
 pub one-of-name : (time : ℕ) (name : List ℕ) (histories : Histories) (past : Past)
     (linear : IsLinearization histories past) → AreBegun time histories past linear →
     KeepsName time name histories →
-    (q k : ℕ) → is_in (created past) q ≡ true → is_in (created past) k ≡ true → name_of past q ≡
-    name → name_of past k ≡ name → q ≡ k
+    (q k : ℕ) → is_in (created past) q ≡ true → is_in (created past) k ≡ true →
+    name_of past q ≡ name → name_of past k ≡ name → q ≡ k
 one-of-name time name histories past linear begun stays q k first second named named_too =
     let a = is-bound time name histories past linear begun stays q first named in
     let b = is-bound time name histories past linear begun stays k second named_too in
@@ -404,8 +404,8 @@ call-placed time name histories past index k place x stays o is q on =
 
 pub created-placed : (time : ℕ) (histories : Histories) (past : Past) (index k place : ℕ)
     (x : IsCallAt time histories past index k place) → (q : ℕ) →
-    called_queue x.before x.r.entry.process x.r.entry.call ≡ Some q → is_in (created x.before) q ≡
-    true
+    called_queue x.before x.r.entry.process x.r.entry.call ≡ Some q →
+    is_in (created x.before) q ≡ true
 created-placed time histories past index k place x q on = called-created x.before
     (legal-linear histories x.before x.linear.0) x.r.entry.process q x.r.entry.call on
 
@@ -414,8 +414,9 @@ pub placed-marked : (time : ℕ) (name : List ℕ) (histories : Histories) (past
     (index k place : ℕ) (x : IsCallAt time histories past index k place) →
     KeepsName time name histories → (o : Operation) → operation_at histories index k ≡ Some o →
     (q : ℕ) → called_queue x.before x.r.entry.process x.r.entry.call ≡ Some q →
-    (is_in (created past) q ≡ true) × (is_marked (marks_at name histories index k)
-    (descriptor_of o.call) ≡ bytes_eq (name_of past q) name)
+    (is_in (created past) q ≡ true) ×
+    (is_marked (marks_at name histories index k) (descriptor_of o.call) ≡
+    bytes_eq (name_of past q) name)
 placed-marked time name histories past index k place x stays o is q on =
     let later = name-later x.before past q (ends-older x.r x.before past x.ends)
     (created-placed time histories past index k place x q on) in (

@@ -56,8 +56,8 @@ begun-le time prio message histories past i = grind (arith, of_process, count-le
 
 -- no message is received more often than it was sent
 received-le-sent : (time prio : ℕ) (message : List ℕ) (histories : Histories) (past : Past) →
-    IsCut time histories past → times_received time prio message histories ≤ times_sent time prio
-    message histories
+    IsCut time histories past →
+    times_received time prio message histories ≤ times_sent time prio message histories
 received-le-sent time prio message histories past c =
     let n = length histories in
     let received = total-sum (λ (v : Vec Operation Global). count_by (receives prio message)

@@ -140,8 +140,9 @@ got-of p prio bytes message same equal =
 
 -- what a reply that gives the message shows of its operation
 gives-it : (time : ℕ) (o : Operation) (prio : ℕ) (message : List ℕ) → o.begin ≤ time →
-    is_receive o.call ≡ true → (has_got prio message o.outcome ≡ true) ⊎
-    (is_pending o.outcome ≡ true) → may_receive time prio message o ≡ true
+    is_receive o.call ≡ true →
+    (has_got prio message o.outcome ≡ true) ⊎ (is_pending o.outcome ≡ true) →
+    may_receive time prio message o ≡ true
 gives-it time o prio message begun receive how = grind (arith, le-leb, or_right)
 
 got-outcome : (past : Past) (m prio : ℕ) (message : List ℕ) (a n : Option ℕ) (x : Outcome) →
@@ -238,8 +239,9 @@ served-step time histories past r linear index w m prio message o begun receive 
         (legal_says past r linear.1))
 
 served-later : (time : ℕ) (histories : Histories) (base full : Past) →
-    IsLinearization histories full → Ends base full → (index w m prio : ℕ) (message : List ℕ)
-    (o : Operation) → o.begin ≤ time → is_receive o.call ≡ true →
+    IsLinearization histories full → Ends base full →
+    (index w m prio : ℕ) (message : List ℕ) (o : Operation) → o.begin ≤ time →
+    is_receive o.call ≡ true →
     IsServed histories base index w m prio message o →
     IsServed histories full index w m prio message o ⊎ (may_receive time prio message o ≡ true)
 served-later time histories base [] linear ends index w m prio message o begun receive x =

@@ -28,8 +28,8 @@ own-call histories past r from own = grind arith
 
 -- the current operation of another process stays
 pub current-other : (histories : Histories) (past : Past) (r : Record) (i : ℕ) →
-    (r.entry.process == i + 1) ≡ false → current_of histories (r ∷ past) i ≡
-    current_of histories past i
+    (r.entry.process == i + 1) ≡ false →
+    current_of histories (r ∷ past) i ≡ current_of histories past i
 current-other histories past r i other = ap (λ (n : ℕ). operation_at histories i n) (rw other refl)
 
 -- the record at this place is of the call of the k-th operation of a process
@@ -74,8 +74,8 @@ pub record IsWaiting (time : ℕ) (histories : Histories) (past : Past) (p w : �
   pub waits : is_wait r.entry.reply ≡ true
   pub placed : IsCallAt time histories past index (completed past (index + 1)) w
 
-pub ending-waits-not : (past : Past) (r : Record) → IsLegalNext past r → is_wait r.entry.reply ≡
-    true → ends_wait r.entry.call ≡ false
+pub ending-waits-not : (past : Past) (r : Record) → IsLegalNext past r →
+    is_wait r.entry.reply ≡ true → ends_wait r.entry.call ≡ false
 ending-waits-not past r legal waits = grind arith
 
 pub waits-for : (time : ℕ) (histories : Histories) (past : Past)

@@ -41,8 +41,8 @@ is_marked marks (Some d) = nat_lt d 16 && slice_index_or marks d false
 abbrev pub calls_from : List ℕ → Marks → List Operation → List Operation
 calls_from name marks [] = []
 calls_from name marks (o ∷ operations) =
-    if is_marked marks (descriptor_of o.call) then o ∷ calls_from name
-    (marks_after name marks o) operations
+    if is_marked marks (descriptor_of o.call)
+    then o ∷ calls_from name (marks_after name marks o) operations
     else calls_from name (marks_after name marks o) operations
 
 -- the operations of a process on the queue
@@ -75,8 +75,7 @@ unbinds time name o =
     nat_le o.begin time && (has_unlinked name o || is_open o.call && is_pending o.outcome)
 
 -- Nothing unbinds the name by this time, and no two of the processes are threads of one, which
--- would
--- share their descriptors.
+-- would share their descriptors.
 pub record KeepsName (time : ℕ) (name : List ℕ) (histories : Histories) : Type 0 where
   pub few : length histories ≤ most_processes
   pub stays : has_any (unbinds time name) histories ≡ false

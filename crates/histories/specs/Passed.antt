@@ -45,14 +45,14 @@ got_other prio (Some other) outcome = has_got prio other.items outcome
 -- such a receive, which began after this time
 abbrev pub passes_over : ℕ → ℕ → Option (Vec ℕ Global) → Operation → Bool
 passes_over time prio other o =
-    is_receive o.call && nat_lt time o.begin && (passes prio o.outcome || got_other prio
-    other o.outcome)
+    is_receive o.call && nat_lt time o.begin &&
+    (passes prio o.outcome || got_other prio other o.outcome)
 
 -- a call that began by this time, and received this message or is a receive that had not returned
 abbrev pub may_receive : ℕ → ℕ → List ℕ → Operation → Bool
 may_receive time prio message o =
-    nat_le o.begin time && (has_got prio message o.outcome ||
-    (is_receive o.call && is_pending o.outcome))
+    nat_le o.begin time &&
+    (has_got prio message o.outcome || (is_receive o.call && is_pending o.outcome))
 
 -- a send of the other message, if there is one, that began by the time `from`
 abbrev pub sends_other_of : ℕ → ℕ → Option (Vec ℕ Global) → Operation → Bool
@@ -71,9 +71,8 @@ is_part Received e o = may_receive e.to e.prio e.message.items o
 
 -- Of the calls on the queue of the name: a send of the message had returned by the time `from`. A
 -- receive that began later, and had returned by the time `to`, found no message of its priority or
--- a
--- higher one, or got another message of the priority, of which no send had begun by `from`. No call
--- that began by `to` may have received the message. Nothing unbinds the name until then.
+-- a higher one, or got another message of the priority, of which no send had begun by `from`. No
+-- call that began by `to` may have received the message. Nothing unbinds the name until then.
 pub record IsPassed (histories : Histories) (e : Passed) : Type 0 where
   pub sent : has_returned_on e.from e.name.items (is_part Sent e) histories ≡ true
   pub passed : has_returned_on e.to e.name.items (is_part PassedOver e) histories ≡ true

@@ -30,6 +30,6 @@ operation_of histories (r ∷ past) place =
 -- any two records, the operation of the first began no later than that of the second ended.
 abbrev pub AgreesWithRealTime : Histories → Past → Type 0
 AgreesWithRealTime histories past =
-    (i j : Place) (before behind : Operation) → i < j → operation_of histories past i ≡
-    Some before →
+    (i j : Place) (before behind : Operation) → i < j →
+    operation_of histories past i ≡ Some before →
     operation_of histories past j ≡ Some behind → before.begin ≤ behind.end

@@ -17,15 +17,15 @@ use Rattle.history_judge.specs.declared.line.Called.{Called}
 abbrev operations_seen : ℕ → List SeenCall → List Seen
 operations_seen process [] = []
 operations_seen process (c ∷ calls) =
-    if c.process == process then c.operation ∷ operations_seen process calls else
-    operations_seen process calls
+    if c.process == process then c.operation ∷ operations_seen process calls
+    else operations_seen process calls
 
 if-seen : (b : Bool) (o : Operation) (xs : List Operation) (ys : List Seen) → map seen xs ≡ ys →
     map seen (if b then o ∷ xs else xs) ≡ (if b then seen o ∷ ys else ys)
 if-seen b o xs ys e = grind arith
 
-operations_of-seen : (p : ℕ) (calls : List Called) → map seen (operations_of p calls) ≡
-    operations_seen p (map seen_call calls)
+operations_of-seen : (p : ℕ) (calls : List Called) →
+    map seen (operations_of p calls) ≡ operations_seen p (map seen_call calls)
 operations_of-seen p [] = refl
 operations_of-seen p (c ∷ calls) = if-seen (c.process == p) c.operation (operations_of p calls)
     (operations_seen p (map seen_call calls)) (operations_of-seen p calls)
@@ -44,8 +44,8 @@ count-seen [] = refl
 count-seen (c ∷ calls) = ap (λ n. max (if is_process c.process then c.process else 0) n)
     (count-seen calls)
 
-pub process_count-alike : (xs ys : List Called) → AreSameCalls xs ys → process_count xs ≡
-    process_count ys
+pub process_count-alike : (xs ys : List Called) → AreSameCalls xs ys →
+    process_count xs ≡ process_count ys
 process_count-alike xs ys same = count-seen xs ∙ ap count_seen same ∙ sym (count-seen ys)
 
 -- by own numbers ----------------------------------------------------------------------------------
@@ -56,8 +56,8 @@ own_reply numbers (Some (reply.Opened d created)) =
     Some (reply.Opened (lowest_free numbers) created)
 own_reply numbers (Some r) = Some r
 
-own_message-is : (numbers : Numbers) (o : Outcome) → message_of (own_outcome numbers o) ≡
-    message_of o
+own_message-is : (numbers : Numbers) (o : Outcome) →
+    message_of (own_outcome numbers o) ≡ message_of o
 own_message-is numbers o = grind arith
 
 abbrev after_reply : Numbers → Call → Option Reply → Numbers
@@ -67,15 +67,15 @@ after_reply numbers call (Some (reply.Opened d created)) = after_opened numbers
 after_reply numbers call (Some reply.Done) = after_closed numbers call
 after_reply numbers call (Some r) = numbers
 
-after_reply-is : (numbers : Numbers) (call : Call) (o : Outcome) → numbers_after numbers call o ≡
-    after_reply numbers call (written_reply o)
+after_reply-is : (numbers : Numbers) (call : Call) (o : Outcome) →
+    numbers_after numbers call o ≡ after_reply numbers call (written_reply o)
 after_reply-is numbers call o = grind arith
 
 abbrev own_seen : Numbers → Seen → Seen
 own_seen numbers s = record s { call = own_call numbers s.call; reply = own_reply numbers s.reply }
 
-own_seen-is : (numbers : Numbers) (o : Operation) → seen (own_operation numbers o) ≡
-    own_seen numbers (seen o)
+own_seen-is : (numbers : Numbers) (o : Operation) →
+    seen (own_operation numbers o) ≡ own_seen numbers (seen o)
 own_seen-is numbers o = grind (arith, own_message-is)
 
 abbrev renamed_seen : Numbers → List Seen → List Seen

@@ -37,8 +37,8 @@ pending-by-alike : (p : ℕ) (a b : Option Called) → option_map seen_call a �
     is_pending_by p a ≡ is_pending_by p b
 pending-by-alike p a b same = grind (arith, pending-alike)
 
-begins-alike : (xs ys : List Called) (p n : ℕ) → AreSameCalls xs ys → latest (λ o. o.begin) xs p n ≡
-    latest (λ o. o.begin) ys p n
+begins-alike : (xs ys : List Called) (p n : ℕ) → AreSameCalls xs ys →
+    latest (λ o. o.begin) xs p n ≡ latest (λ o. o.begin) ys p n
 begins-alike xs ys p zero same = refl
 begins-alike xs ys p (suc n) same = rw (
   begins-alike xs ys p n same,
@@ -46,8 +46,8 @@ begins-alike xs ys p (suc n) same = rw (
       (slice_get ys n) (at-alike xs ys n same),
 ) refl
 
-ends-alike : (xs ys : List Called) (p n : ℕ) → AreSameCalls xs ys → latest (λ o. o.end) xs p n ≡
-    latest (λ o. o.end) ys p n
+ends-alike : (xs ys : List Called) (p n : ℕ) → AreSameCalls xs ys →
+    latest (λ o. o.end) xs p n ≡ latest (λ o. o.end) ys p n
 ends-alike xs ys p zero same = refl
 ends-alike xs ys p (suc n) same = rw (
   ends-alike xs ys p n same,
@@ -55,8 +55,8 @@ ends-alike xs ys p (suc n) same = rw (
       (slice_get ys n) (at-alike xs ys n same),
 ) refl
 
-has-pending-alike : (xs ys : List Called) (p n : ℕ) → AreSameCalls xs ys → has_pending xs p n ≡
-    has_pending ys p n
+has-pending-alike : (xs ys : List Called) (p n : ℕ) → AreSameCalls xs ys →
+    has_pending xs p n ≡ has_pending ys p n
 has-pending-alike xs ys p zero same = refl
 has-pending-alike xs ys p (suc n) same = rw (
   has-pending-alike xs ys p n same,
@@ -100,8 +100,8 @@ formed-alike xs ys same formed n = fault-at-alike xs ys n (slice_get xs n) (slic
 
 -- ---- their numbers fit
 
-outcome-fits-alike : (o d : Outcome) → written_reply o ≡ written_reply d → message_of o ≡
-    message_of d → OutcomeFits d → OutcomeFits o
+outcome-fits-alike : (o d : Outcome) → written_reply o ≡ written_reply d →
+    message_of o ≡ message_of d → OutcomeFits d → OutcomeFits o
 outcome-fits-alike o d reply message fits = grind arith
 
 fits-alike : (c d : Called) → seen_call c ≡ seen_call d → Fits d → Fits c

@@ -98,8 +98,8 @@ tail-of k c calls n (Some d) = same-fault _ _ _ _ _ _ d
     ∙ max-assoc (k.end d.process) (moment_by (λ o. o.end) d.process (Some c))
     (latest (λ o. o.end) calls d.process n))
 
-tail : (k : Known) (c : Called) (calls : List Called) (n : ℕ) → fault_from k (c ∷ calls) (suc n) ≡
-    fault_from (after k c) calls n
+tail : (k : Known) (c : Called) (calls : List Called) (n : ℕ) →
+    fault_from k (c ∷ calls) (suc n) ≡ fault_from (after k c) calls n
 tail k c calls n = tail-of k c calls n (slice_get calls n)
 
 max-zero : (a : ℕ) → max a 0 ≡ a
@@ -117,8 +117,8 @@ formed-of k (c ∷ calls) none = (
       none (suc n)),
 )
 
-of-formed : (k : Known) (calls : List Called) → Formed k calls → (n : ℕ) → fault_from k calls n ≡
-    None
+of-formed : (k : Known) (calls : List Called) → Formed k calls → (n : ℕ) →
+    fault_from k calls n ≡ None
 of-formed k [] formed n = refl
 of-formed k (c ∷ calls) formed zero = head k c calls ∙ formed.0
 of-formed k (c ∷ calls) formed (suc n) = tail k c calls n ∙ of-formed (after k c) calls formed.1 n
@@ -150,8 +150,8 @@ record IsFree (pending : Bool) (before : LatestMoments) (c : Called) : Type 0 wh
   pub ordered : nat_lt c.operation.end c.operation.begin ≡ false
   pub given : is_payload c.operation.call Done c.operation.given.items ≡ true
 
-free-of : (pending : Bool) (before : LatestMoments) (c : Called) → fault_behind pending before c ≡
-    None → IsFree pending before c
+free-of : (pending : Bool) (before : LatestMoments) (c : Called) →
+    fault_behind pending before c ≡ None → IsFree pending before c
 free-of pending before c none = grind arith
 
 none-of : (pending : Bool) (before : LatestMoments) (c : Called) → IsFree pending before c →
@@ -167,8 +167,8 @@ record InStep (limit : ℕ) (pending : Bool) (begin end : ℕ) (pending' : Bool)
   pub order : begin ≤ end
   pub same : begin < limit → begin' ≡ begin
   pub free : begin < limit → pending' ≡ false → (pending ≡ false) × (end' ≡ end) × (end < limit)
-  pub under : begin < limit → pending' ≡ true → ((pending ≡ true) ⊎ (limit ≤ end)) ×
-      (end' ≡ 2 ^ 64 - 1)
+  pub under : begin < limit → pending' ≡ true →
+      ((pending ≡ true) ⊎ (limit ≤ end)) × (end' ≡ 2 ^ 64 - 1)
 
 -- what is known of a call without a fault: whether it returned, and when it began and ended
 record Follows (pending : Bool) (begin end : ℕ) (is : Bool) (b e : ℕ) : Type 0 where
@@ -451,8 +451,8 @@ apart-rest moment held c calls apart p is = let none = apart p is in grind arith
 
 one-more : (returned begun : Bool) (moment : ℕ) (held : ℕ → Bool) (k f : Known) (c : Called)
     (front : List Called) →
-    had_returned moment (held c.process) c.operation ≡ returned → nat_le c.operation.begin moment ≡
-    begun → AreInStep moment held k f → Fits c →
+    had_returned moment (held c.process) c.operation ≡ returned →
+    nat_le c.operation.begin moment ≡ begun → AreInStep moment held k f → Fits c →
     (held c.process ≡ true → c.operation.begin ≡ moment → ⊥) → fault_in k c ≡ None →
     ((g : Known) → AreInStep moment held (after k c) g → Formed g front) →
     Formed f (if returned then c ∷ front else if begun then under_way c ∷ front else front)

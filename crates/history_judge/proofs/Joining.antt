@@ -18,8 +18,8 @@ reply-parts (r ∷ rs) [] some = ap (λ (ws : List Word). join_with_byte 32 ws) 
     sym (append-nil (join_with_byte 32 (r ∷ rs)))
 reply-parts (r ∷ rs) (b ∷ bytes) some = join-more r rs (34 ∷ escaped (b ∷ bytes) ++ 34 ∷ []) []
 
-some-append : (rs ws : List Word) → 0 < length rs → spaced (rs ++ ws) ≡
-    32 ∷ join_with_byte 32 (rs ++ ws)
+some-append : (rs ws : List Word) → 0 < length rs →
+    spaced (rs ++ ws) ≡ 32 ∷ join_with_byte 32 (rs ++ ws)
 some-append [] ws some = absurd (omega arith)
 some-append (r ∷ rs) ws some = refl
 

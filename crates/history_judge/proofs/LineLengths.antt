@@ -12,8 +12,8 @@ use Rattle.history_judge.specs.Text.{called_words, end_of, line_text, message_of
 use Rattle.history_judge.specs.declared.line.Called.{Called}
 use Rattle.history_judge.proofs.Written.{end_fits, process_fits}
 
-result-size : (o : Outcome) → OutcomeFits o → size (result_words (written_reply o) (message_of o)) ≤
-    3 * length (message_of o) + 200
+result-size : (o : Outcome) → OutcomeFits o →
+    size (result_words (written_reply o) (message_of o)) ≤ 3 * length (message_of o) + 200
 result-size Pending fits = omega arith
 result-size Done fits = omega (
   arith,
@@ -51,8 +51,9 @@ result-size (Refused fault) fits = omega (
   reply-size (reply.Refused fault) tt,
 )
 
-pub line-length : (c : Called) → Fits c → length (line_text c) ≤ 3 * length c.operation.given.items
-    + 3 * length (message_of c.operation.outcome) + 700
+pub line-length : (c : Called) → Fits c →
+    length (line_text c) ≤ 3 * length c.operation.given.items + 3 * length
+    (message_of c.operation.outcome) + 700
 unfolding line_text
 line-length c fits =
     let o = c.operation in

@@ -142,8 +142,8 @@ pub found_at_end : (result : Result (Vec Called Global) JournalFault) (calls : V
     IfOk result (λ read. text ≡ history_text read.items)
 found_at_end result calls text rest h whole = grind (arith, found_of, early_some)
 
-early_fault : (line : ℕ) (calls : List Called) (rest more : List ℕ) → AllFit calls → has_feed rest ≡
-    false → line ≡ length calls + 1 →
+early_fault : (line : ℕ) (calls : List Called) (rest more : List ℕ) → AllFit calls →
+    has_feed rest ≡ false → line ≡ length calls + 1 →
     (MOST_LINE < length rest) ⊎ (can_go_on rest ≡ false) →
     IsAtFault line (history_text calls ++ (rest ++ more))
 early_fault line calls rest more fits none number (inl long) =
@@ -187,9 +187,9 @@ only_from (Err fault) text history fits is found all stops no_input =
 
 -- ---- where it stops
 
-none_in : (rest line others more : List ℕ) → has_feed rest ≡ true → lines_of rest ≡
-    line ∷ lines_of others → IsNoLine line → (c : Called) (behind : List ℕ) → Fits c →
-    rest ++ more ≢ line_text c ++ behind
+none_in : (rest line others more : List ℕ) → has_feed rest ≡ true →
+    lines_of rest ≡ line ∷ lines_of others → IsNoLine line → (c : Called) (behind : List ℕ) →
+    Fits c → rest ++ more ≢ line_text c ++ behind
 unfolding line_text
 none_in rest line others more some lines none c behind fits is =
     none c fits (first_in rest line others more (join_with_byte 32 (called_words c)) behind some
@@ -197,8 +197,9 @@ none_in rest line others more some lines none c behind fits is =
 
 -- at the next line, whatever comes after it
 pub stops_in : (line : ℕ) (text rest first others more : List ℕ) (calls : List Called) →
-    text ≡ history_text calls ++ rest → AllFit calls → line ≡ length calls + 1 → has_feed rest ≡
-    true → lines_of rest ≡ first ∷ lines_of others → IsNoLine first → StopsAt line (text ++ more)
+    text ≡ history_text calls ++ rest → AllFit calls → line ≡ length calls + 1 →
+    has_feed rest ≡ true → lines_of rest ≡ first ∷ lines_of others → IsNoLine first →
+    StopsAt line (text ++ more)
 stops_in line text rest first others more calls so_far fits number some lines none =
     grind (arith, common_steps, feed_some, none_in)
 

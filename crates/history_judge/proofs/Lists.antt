@@ -7,8 +7,8 @@ get-same [] i v h = absurd (omega arith)
 get-same (x ∷ xs) zero v h = refl
 get-same (x ∷ xs) (suc i) v h = get-same xs i v (omega arith)
 
-pub get-other : {A : Type 0} (xs : List A) (i j : ℕ) (v : A) → j ≢ i → slice_get (set xs i v) j ≡
-    slice_get xs j
+pub get-other : {A : Type 0} (xs : List A) (i j : ℕ) (v : A) → j ≢ i →
+    slice_get (set xs i v) j ≡ slice_get xs j
 get-other (x ∷ xs) zero zero v h = absurd (h refl)
 get-other (x ∷ xs) (suc i) (suc j) v h = get-other xs i j v (λ e. h (ap suc e))
 get-other _ _ _ v h = refl

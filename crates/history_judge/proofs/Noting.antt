@@ -89,8 +89,8 @@ noted-next calls n c begins ends pending begin end returned is below before begi
     (slice_set ends c.process end) (slice_set pending c.process pends)) (sym (add-one n)) next
 
 -- a process of a call is one of 33
-pub few : (calls : List Called) (n : ℕ) (c : Called) → AreOfProcesses calls → slice_get calls n ≡
-    Some c → c.process < 33
+pub few : (calls : List Called) (n : ℕ) (c : Called) → AreOfProcesses calls →
+    slice_get calls n ≡ Some c → c.process < 33
 few [] n c all is = cc
 few (d ∷ calls) zero c all is = grind (arith, and_parts, leb-true)
 few (d ∷ calls) (suc n) c all is =

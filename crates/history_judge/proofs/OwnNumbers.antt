@@ -281,8 +281,8 @@ module _ (held : List ℕ) (numbers : Numbers) (h : Holds held numbers) where
       small i inside = h.few i (is_in-filter (λ k. not (k == d)) held i inside).0
 
   after-holds : (call : Call) (outcome : Outcome) → NamesOwn held call →
-      ((d : ℕ) → outcome ≡ Opened d → IsLowestFree held d) → Holds (held_then held call outcome)
-      (numbers_after numbers call outcome)
+      ((d : ℕ) → outcome ≡ Opened d → IsLowestFree held d) →
+      Holds (held_then held call outcome) (numbers_after numbers call outcome)
   after-holds call (Opened d) names lowest =
       let l = lowest d refl in
       let yes : nat_lt d 16 ≡ true = few-true d l.few in
@@ -295,8 +295,8 @@ module _ (held : List ℕ) (numbers : Numbers) (h : Holds held numbers) where
   after-holds call outcome names lowest = h
 
 pub renamed-stays : (held : List ℕ) (numbers : Numbers) → Holds held numbers →
-    (operations : List Operation) → HaveOwnNumbers held operations → renamed numbers operations ≡
-    operations
+    (operations : List Operation) → HaveOwnNumbers held operations →
+    renamed numbers operations ≡ operations
 renamed-stays held numbers h [] own = refl
 renamed-stays held numbers h (o ∷ operations) own =
     let same = call-stays held numbers h o.call own.0 in

@@ -49,8 +49,8 @@ of-renamed numbers (o ∷ operations) pending =
     (own-pending numbers o.outcome ∙ parts.0) (of-renamed after operations parts.1)
 
 -- none is left to be completed
-pending-of : (outcome : Outcome) → is_none (written_reply outcome) ≡ true → is_pending outcome ≡
-    true
+pending-of : (outcome : Outcome) → is_none (written_reply outcome) ≡ true →
+    is_pending outcome ≡ true
 pending-of outcome e = grind arith
 
 through : (operations : List Operation) (k : ℕ) → all (map seen operations) ≡ true →
@@ -61,8 +61,9 @@ through (o ∷ operations) zero pending = pending-of o.outcome
 through (o ∷ operations) (suc k) pending = through operations k
     (and_parts (is_none (written_reply o.outcome)) (all (map seen operations)) pending).1
 
-through-at : (histories : Histories) → ((index : ℕ) (operations : Vec Operation Global) →
-    slice_get histories index ≡ Some operations → all (map seen operations.items) ≡ true) →
+through-at : (histories : Histories) →
+    ((index : ℕ) (operations : Vec Operation Global) → slice_get histories index ≡ Some operations →
+    all (map seen operations.items) ≡ true) →
     (n : ℕ) → are_through histories [] n ≡ true
 through-at histories each zero = refl
 through-at histories each (suc n) = grind (arith, through, and_from, through-at histories each n)

@@ -95,8 +95,8 @@ fits_seen past r (Some (reply.Notice value)) message = is_notice r value
 fits_seen past r (Some (reply.Refused fault)) message = refuses r fault
 fits_seen past r (Some other) message = true
 
-fits-alike : (past : Past) (r : Reply) (x y : Operation) → seen x ≡ seen y → fits past r x.outcome ≡
-    fits past r y.outcome
+fits-alike : (past : Past) (r : Reply) (x y : Operation) → seen x ≡ seen y →
+    fits past r x.outcome ≡ fits past r y.outcome
 fits-alike past r x y same = grind arith
 
 ended-alike : (a b : Histories) → AreAlike a b → (past : Past) (moment n : ℕ) →
@@ -104,15 +104,15 @@ ended-alike : (a b : Histories) → AreAlike a b → (past : Past) (moment n : �
 ended-alike a b alike past moment zero = refl
 ended-alike a b alike past moment (suc n) = grind (arith, ended-alike a b alike past moment n)
 
-through-alike : (a b : Histories) → AreAlike a b → (past : Past) (n : ℕ) → are_through a past n ≡
-    are_through b past n
+through-alike : (a b : Histories) → AreAlike a b → (past : Past) (n : ℕ) →
+    are_through a past n ≡ are_through b past n
 through-alike a b alike past zero = refl
 through-alike a b alike past (suc n) = grind (arith, through-is, through-alike a b alike past n)
 
 -- linearizations ----------------------------------------------------------------------------------
 
-call-alike : (r : Record) (x y : Operation) → seen x ≡ seen y → (r.entry.call ≡ Collect) ⊎
-    (IsWithdrawalOf r x ⊎ IsCallOf r x) →
+call-alike : (r : Record) (x y : Operation) → seen x ≡ seen y →
+    (r.entry.call ≡ Collect) ⊎ (IsWithdrawalOf r x ⊎ IsCallOf r x) →
     (r.entry.call ≡ Collect) ⊎ (IsWithdrawalOf r y ⊎ IsCallOf r y)
 call-alike r x y same h = grind arith
 

@@ -6,8 +6,8 @@ use Rattle.history_judge.specs.Text.{history_text, line_text}
 use Rattle.history_judge.specs.declared.line.Called.{Called}
 
 -- a call after others
-pub history_text-last : (calls : List Called) (c : Called) → history_text (calls ++ c ∷ []) ≡
-    history_text calls ++ line_text c
+pub history_text-last : (calls : List Called) (c : Called) →
+    history_text (calls ++ c ∷ []) ≡ history_text calls ++ line_text c
 history_text-last [] c = append-nil (line_text c)
 history_text-last (d ∷ calls) c = grind (arith, common_steps, history_text-last calls c)
 

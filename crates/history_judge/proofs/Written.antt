@@ -151,8 +151,8 @@ parts_are c line words fits cut is = ap parts_at cut ∙ ap (λ t. parts_at (wor
     line_again c fits
 
 outcome_is : (c : Called) (line : List ℕ) (words : List Word) (p : PartsSeen) → Fits c →
-    words ≡ words_of line → line ≡ line_text c → parts_at words ≡ Some p → outcome_at p.result ≡
-    Some (shown c.operation.outcome)
+    words ≡ words_of line → line ≡ line_text c → parts_at words ≡ Some p →
+    outcome_at p.result ≡ Some (shown c.operation.outcome)
 outcome_is c line words p fits cut is read =
     let same : p ≡ parts_from c = some_is p (parts_from c)
     (sym read ∙ parts_are c line words fits cut is) in
@@ -166,8 +166,8 @@ no_parts c line words fits cut is none = let some = parts_are c line words fits 
 
 -- nor are those of another process
 pub no_process : (c : Called) (line : List ℕ) (words : List Word) (p : PartsSeen) → Fits c →
-    words ≡ words_of line → line ≡ line_text c → parts_at words ≡ Some p → is_process p.process ≡
-    false → ⊥
+    words ≡ words_of line → line ≡ line_text c → parts_at words ≡ Some p →
+    is_process p.process ≡ false → ⊥
 no_process c line words p fits cut is read other =
     let same : p ≡ parts_from c = some_is p (parts_from c)
     (sym read ∙ parts_are c line words fits cut is) in
@@ -177,8 +177,8 @@ no_process c line words p fits cut is read other =
 
 -- nor words whose last ones are no result of a call
 pub no_outcome : (c : Called) (line : List ℕ) (words : List Word) (p : PartsSeen) → Fits c →
-    words ≡ words_of line → line ≡ line_text c → parts_at words ≡ Some p → outcome_at p.result ≡
-    None → ⊥
+    words ≡ words_of line → line ≡ line_text c → parts_at words ≡ Some p →
+    outcome_at p.result ≡ None → ⊥
 no_outcome c line words p fits cut is read none = let some =
     outcome_is c line words p fits cut is read in cc
 
@@ -197,8 +197,8 @@ read_seen c line words p s fits cut is read came =
 -- the same of the call that is made of what was read
 pub built_seen : (c : Called) (line : List ℕ) (words : List Word) (p : PartsSeen) (s : Shown)
     (given : List ℕ) (end : ℕ) → Fits c →
-    words ≡ words_of line → line ≡ line_text c → parts_at words ≡ Some p → outcome_at p.result ≡
-    Some s →
+    words ≡ words_of line → line ≡ line_text c → parts_at words ≡ Some p →
+    outcome_at p.result ≡ Some s →
     given ≡ percent_decode p.quoted → end ≡ unwrap_or p.end (2 ^ 64 - 1) →
     ◌≡◌ {A = SeenCall} (record {
       process = p.process;
@@ -223,8 +223,8 @@ end-is o d ended written end last same is pending returned = grind arith
 -- the same, if a call that had not returned ends at the greatest time
 pub ended_seen : (c : Called) (line : List ℕ) (words : List Word) (p : PartsSeen) (o : Outcome)
     (given : List ℕ) (end : ℕ) → Fits c →
-    words ≡ words_of line → line ≡ line_text c → parts_at words ≡ Some p → outcome_at p.result ≡
-    Some (shown o) →
+    words ≡ words_of line → line ≡ line_text c → parts_at words ≡ Some p →
+    outcome_at p.result ≡ Some (shown o) →
     given ≡ percent_decode p.quoted → (is_pending o ≡ true → end ≡ 2 ^ 64 - 1) →
     (is_pending o ≡ false → end ≡ unwrap_or p.end (2 ^ 64 - 1)) →
     ◌≡◌ {A = SeenCall} (record {
@@ -262,8 +262,8 @@ line_by c end =
     c.operation.given (result_words c.operation.reply c.operation.message))
     ++ 10 ∷ []
 
-line_by-is : (c : Called) → line_text c ≡ line_by (seen_call c)
-    (end_by (written_reply c.operation.outcome) c.operation.end)
+line_by-is : (c : Called) →
+    line_text c ≡ line_by (seen_call c) (end_by (written_reply c.operation.outcome) c.operation.end)
 unfolding line_text
 line_by-is c = ap (λ end. line_by (seen_call c) end) (end_by-is c.operation.end c.operation.outcome)
 

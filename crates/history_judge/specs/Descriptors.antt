@@ -54,8 +54,8 @@ own_operation numbers o = record o {
 -- What is held after a call with this library's number: the descriptor of an open that returned,
 -- under the lowest number that was free; and a close that succeeded frees its number.
 abbrev pub after_opened : Numbers → ℕ → ℕ → Numbers
-after_opened numbers number d = if nat_lt number 16 then slice_set numbers number
-    (Some d) else numbers
+after_opened numbers number d = if nat_lt number 16 then slice_set numbers number (Some d)
+    else numbers
 
 abbrev pub after_closed : Numbers → Call → Numbers
 after_closed numbers (MqClose d) = if nat_lt d 16 then slice_set numbers d None else numbers

@@ -28,8 +28,8 @@ pub record AreReturnsOf (calls : List Called) (returns : List Return) : Type 0 w
 
 -- the call is of process p and returned at this time; and it is of process p and began at this time
 abbrev pub ends_at : ℕ → ℕ → Called → Bool
-ends_at p moment c = (c.process == p) && (not (is_pending c.operation.outcome) &&
-    c.operation.end == moment)
+ends_at p moment c = (c.process == p) &&
+    (not (is_pending c.operation.outcome) && c.operation.end == moment)
 
 abbrev pub begins_at : ℕ → ℕ → Called → Bool
 begins_at p moment c = (c.process == p) && c.operation.begin == moment
@@ -38,8 +38,8 @@ begins_at p moment c = (c.process == p) && c.operation.begin == moment
 -- in a line behind, and p makes no call at that time, so that they return together with it.
 abbrev pub is_held : Return → ℕ → List Called → Bool
 is_held last p calls =
-    list_any (ends_at p last.0) (drop (last.1 + 1) calls) && not
-    (list_any (begins_at p last.0) calls)
+    list_any (ends_at p last.0) (drop (last.1 + 1) calls) &&
+    not (list_any (begins_at p last.0) calls)
 
 -- the list says so of each process that it has, from process 0 on
 abbrev pub AreHeld : Return → List Called → List Bool → Type 0

@@ -24,8 +24,8 @@ process_count (c ∷ calls) = max (if is_process c.process then c.process else 0
 abbrev pub operations_of : ℕ → List Called → List Operation
 operations_of process [] = []
 operations_of process (c ∷ calls) =
-    if c.process == process then c.operation ∷ operations_of process calls else
-    operations_of process calls
+    if c.process == process then c.operation ∷ operations_of process calls
+    else operations_of process calls
 
 -- The operations of the first processes, each process's in the order of its calls. Those of process
 -- p are at p - 1.

@@ -24,7 +24,8 @@ shown outcome = (written_reply outcome, message_of outcome)
 -- a message and its priority; the message is in the third word, if there is one
 abbrev pub message_at : ℕ → List Word → Option Shown
 message_at prio words =
-    if nat_lt prio (2 ^ 32) then Some (
+    if nat_lt prio (2 ^ 32)
+    then Some (
       Some (reply.Got prio None None),
       percent_decode
           (quoted_at (drop 1 (drop 1 words))).0,

@@ -36,8 +36,7 @@ count_text most capacity =
 
 -- A message that was received more often than it was sent, or that lay in the queue while a
 -- receive passed over it; or a send that found a queue full that was not. Messages are written as
--- in
--- a line of a history.
+-- in a line of a history.
 abbrev pub contradiction_text : Contradiction → List ℕ
 contradiction_text (Excess e) =
     codes "; " ++ (decimal e.received ++ (codes " receives, " ++ (decimal e.sent ++

@@ -28,8 +28,8 @@ use Rattle.history_judge.specs.declared.judgement.Judgement.TheVariants.{Possibl
 -- this library's numbers of descriptors.
 pub record AreHistoriesOf (calls : List Called) (histories : Histories) : Type 0 where
   pub count : length histories ≡ process_count calls
-  pub each : (index : ℕ) (operations : Vec Operation Global) → slice_get histories index ≡
-      Some operations →
+  pub each : (index : ℕ) (operations : Vec Operation Global) →
+      slice_get histories index ≡ Some operations →
       AreSameOperations operations.items (renamed no_numbers (operations_of (index + 1) calls))
 
 -- the journal is a linearization of these calls in which each call that returned is completed
@@ -80,11 +80,9 @@ abbrev pub tries : ℕ → ℕ
 tries count = 64 - count_leading_zeros 64 count + 2
 
 -- The budget for each prefix of this number of calls: enough for an order that is found at once,
--- and
--- a part of the whole. All together they have no more than the whole, or a hundred steps each. The
--- result is known by then, so the longer the history, the less each prefix is worth; and a step
--- back
--- costs as much as the history is long.
+-- and a part of the whole. All together they have no more than the whole, or a hundred steps each.
+-- The result is known by then, so the longer the history, the less each prefix is worth; and a step
+-- back costs as much as the history is long.
 abbrev pub front_budget : ℕ → ℕ → ℕ
 front_budget budget count =
     min (2 * count + budget / (1 + count / 50) / (1 + count / 50)) (max (budget / tries count)
@@ -108,8 +106,8 @@ pub record IsImpossibleFront (budget : ℕ) (calls : List Called) (call : ℕ) (
   pub reason : IfSome found (HasContradiction (front_part calls returns number))
   pub shortest : is_shortest ≡ true → (before : ℕ) → before + 1 ≡ number →
       IsPossible (front_part calls returns before)
-  pub unsure : is_shortest ≡ false → (before : ℕ) × (before < number) × UsesUp budget
-      (front_part calls returns before)
+  pub unsure : is_shortest ≡ false →
+      (before : ℕ) × (before < number) × UsesUp budget (front_part calls returns before)
 
 abbrev pub IsJudgement : ℕ → List Called → Judgement → Type 0
 IsJudgement budget calls (Possible journal) = IsExplainedBy calls journal.items

@@ -1,6 +1,5 @@
 -- Well-formed histories: each process makes its calls one after the other, and each call is given
--- the
--- bytes that it takes.
+-- the bytes that it takes.
 use Rattle.std.specs.Prelude.{◌≡◌, ◌<◌, ◌+◌, ℕ, zero, suc, Bool, true, false, not, ◌&&◌, ◌||◌, ◌==◌, nat_lt, max, List, Option, Some, None, codes, slice_get, if◌then◌else◌}
 use Rattle.std.specs.Option.{option_and_then}
 use Rattle.mq_model.specs.Legality.{is_payload}

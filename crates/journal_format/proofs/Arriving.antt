@@ -52,8 +52,8 @@ all_at_end xs all new n k front count at = grind (
   append-nil,
 )
 
-all_taken : (xs all : List ℕ) (new : Option (List ℕ)) (n : ℕ) → IsFront xs all new → length xs + 0 ≡
-    n → take n all ≡ xs
+all_taken : (xs all : List ℕ) (new : Option (List ℕ)) (n : ℕ) → IsFront xs all new →
+    length xs + 0 ≡ n → take n all ≡ xs
 all_taken xs all new n front count = front_taken xs all new n 0 front count ∙ append-nil xs
 
 -- if nothing more is read, these are all bytes
@@ -152,8 +152,8 @@ found_of result journal text rest fits is whole = grind (arith, append-nil)
 
 -- the same of an input in which no more is read
 pub found_at_end : (result : Result Journal JournalFault) (journal : Journal)
-    (text rest bytes : List ℕ) → AllFit journal.records → bytes ≡ journal_text journal.records ++
-    rest →
+    (text rest bytes : List ℕ) → AllFit journal.records →
+    bytes ≡ journal_text journal.records ++ rest →
     (text ≡ bytes) ⊎ EndsEarly rest bytes text →
     IfOk result (λ read. (read ≡ journal) × (rest ≡ [])) →
     IfOk result (λ read. AllFit read.records × (text ≡ journal_text read.records))

@@ -117,8 +117,8 @@ caller_again p fits = split (nat_le p 32)
     rw f (around_again (owner_of p) (thread_of p) s.process s.long_process s.thread s.long_thread ∙
     by_again p more fits))
 
-pub caller_at_again : (p : ℕ) (ws : List Word) → p < 2 ^ 32 → caller_at (caller_word p ∷ ws) ≡
-    Some (p, ws)
+pub caller_at_again : (p : ℕ) (ws : List Word) → p < 2 ^ 32 →
+    caller_at (caller_word p ∷ ws) ≡ Some (p, ws)
 unfolding caller_at word_at
 caller_at_again p ws fits = rw (caller_again p fits) refl
 

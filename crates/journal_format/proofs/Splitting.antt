@@ -166,8 +166,8 @@ pub first-whole : (text line others : List ℕ) → lines_of text ≡ line ∷ l
 first-whole text line others lines = sym (concat-lines text) ∙ ap concat lines ∙ ap (λ t. line ++ t)
     (concat-lines others)
 
-pub lines_of-front : (u rest : List ℕ) → HasNoFeed u → lines_of (u ++ 10 ∷ rest) ≡ (u ++ 10 ∷ []) ∷
-    lines_of rest
+pub lines_of-front : (u rest : List ℕ) → HasNoFeed u →
+    lines_of (u ++ 10 ∷ rest) ≡ (u ++ 10 ∷ []) ∷ lines_of rest
 lines_of-front [] rest none = refl
 lines_of-front (b ∷ u) rest none =
     let other : (b == 10) ≡ false = grind (arith, nat_tests) in
@@ -206,8 +206,8 @@ no_line place rest more small none bad r behind fits is =
     let both : false ≡ true = sym bad ∙ good in cc
 
 -- each line of a journal has one line feed
-pub feeds-journal : (past : Past) → AllFit past → length past < 2 ^ 64 → feeds (journal_text past) ≡
-    length past
+pub feeds-journal : (past : Past) → AllFit past → length past < 2 ^ 64 →
+    feeds (journal_text past) ≡ length past
 unfolding line_text
 feeds-journal [] fits small = refl
 feeds-journal (r ∷ past) fits small =
@@ -231,8 +231,8 @@ pub read_is : (place : ℕ) (r : Record) (e : Entry) (quoted : Word) → place <
     ◌≡◌ {A = Record} (record { entry = e; payload = percent_decode quoted }) r
 read_is place r e quoted small fits read = grind (arith, line_again, record_is, payload_again)
 
-one_record : (place : ℕ) (r s : Record) → place < 2 ^ 64 → Fits r → Fits s → line_text place r ≡
-    line_text place s → r ≡ s
+one_record : (place : ℕ) (r s : Record) → place < 2 ^ 64 → Fits r → Fits s →
+    line_text place r ≡ line_text place s → r ≡ s
 one_record place r s small r_fits s_fits same =
     let r_read = line_again place r small r_fits in
     let s_read : entry_at (words_of (line_text place s)) ≡ Some (r.entry, escaped r.payload) =
@@ -281,13 +281,13 @@ abbrev pub onto : Past → List Record → Past
 onto past [] = past
 onto past (r ∷ later) = onto (r ∷ past) later
 
-onto-last : (past : Past) (later : List Record) (r : Record) → onto past (later ++ r ∷ []) ≡
-    r ∷ onto past later
+onto-last : (past : Past) (later : List Record) (r : Record) →
+    onto past (later ++ r ∷ []) ≡ r ∷ onto past later
 onto-last past [] r = refl
 onto-last past (s ∷ later) r = onto-last (s ∷ past) later r
 
-length-onto : (past : Past) (later : List Record) → length (onto past later) ≡
-    length past + length later
+length-onto : (past : Past) (later : List Record) →
+    length (onto past later) ≡ length past + length later
 length-onto past [] = omega arith
 length-onto past (s ∷ later) = omega (arith, length-onto (s ∷ past) later)
 
@@ -325,8 +325,8 @@ from_start (r ∷ a) fits =
     }
 
 next : (a : Past) (r : Record) (b : Past) (rest : List ℕ) (later : List Record) →
-    length b < 2 ^ 64 → Fits r → AllFit later → a ≡ onto b later → line_text (length b) r ++ rest ≡
-    lines_text (length b) later → GoesOn a (r ∷ b) rest
+    length b < 2 ^ 64 → Fits r → AllFit later → a ≡ onto b later →
+    line_text (length b) r ++ rest ≡ lines_text (length b) later → GoesOn a (r ∷ b) rest
 next a r b rest [] small fits all is text = let some = line-some (length b) r rest in
     absurd (omega (arith, ap length text, some))
 next a r b rest (s ∷ later) small fits all is text = grind (arith, one_line)
@@ -350,8 +350,8 @@ no_more a b (r ∷ later) is text = let some = line-some (length b) r
     (lines_text (suc (length b)) later) in absurd (omega (arith, ap length text, some))
 
 -- journals with one text are one
-pub one_journal : (a b : Past) → AllFit a → AllFit b → length b < 2 ^ 64 → journal_text a ≡
-    journal_text b → b ≡ a
+pub one_journal : (a b : Past) → AllFit a → AllFit b → length b < 2 ^ 64 →
+    journal_text a ≡ journal_text b → b ≡ a
 one_journal a b a_fits b_fits small same =
     let on = goes_on a b [] a_fits b_fits small (same ∙ sym (append-nil (journal_text b))) in
     no_more a b on.later on.is on.text
@@ -374,8 +374,8 @@ stops_none line text a stops small fits is =
 -- a text that was read up to a line, read up to the next one
 pub next_line : (text rest line others : List ℕ) (past new : Past) (place : ℕ) (r : Record) →
     text ≡ journal_text past ++ rest → lines_of rest ≡ line ∷ lines_of others →
-    line ≡ line_text place r → place ≡ length past → new ≡ r ∷ past → text ≡ journal_text new ++
-    others
+    line ≡ line_text place r → place ≡ length past → new ≡ r ∷ past →
+    text ≡ journal_text new ++ others
 next_line text rest line others past new place r so_far lines is count pushed =
     grind (arith, common_steps, first-whole)
 
@@ -428,8 +428,8 @@ line_feed place r behind =
     ap has_feed (append_assoc u (10 ∷ []) behind) ∙ feed_behind u behind
 
 -- if a text has a line feed, its first line does not depend on what follows the text
-pub first_in : (rest line others more u behind : List ℕ) → has_feed rest ≡ true → lines_of rest ≡
-    line ∷ lines_of others → HasNoFeed u → rest ++ more ≡ (u ++ 10 ∷ []) ++ behind →
+pub first_in : (rest line others more u behind : List ℕ) → has_feed rest ≡ true →
+    lines_of rest ≡ line ∷ lines_of others → HasNoFeed u → rest ++ more ≡ (u ++ 10 ∷ []) ++ behind →
     line ≡ u ++ 10 ∷ []
 first_in rest line others more u behind some lines none is =
     let cut = cut_at rest some in

@@ -26,16 +26,16 @@ pub number_at_again : (k n : ℕ) (ws : List Word) → n < 2 ^ k → n < 2 ^ 64 
 unfolding number_at word_at
 number_at_again k n ws fits small = rw (number_again k n fits small) refl
 
-pub small_at_again : (n : ℕ) (ws : List Word) → n < 2 ^ 32 → number_at 32 (decimal n ∷ ws) ≡
-    Some (n, ws)
+pub small_at_again : (n : ℕ) (ws : List Word) → n < 2 ^ 32 →
+    number_at 32 (decimal n ∷ ws) ≡ Some (n, ws)
 small_at_again n ws fits = number_at_again 32 n ws fits (omega (arith, fits))
 
-pub place_at_again : (n : ℕ) (ws : List Word) → n < 2 ^ 64 → number_at 64 (decimal n ∷ ws) ≡
-    Some (n, ws)
+pub place_at_again : (n : ℕ) (ws : List Word) → n < 2 ^ 64 →
+    number_at 64 (decimal n ∷ ws) ≡ Some (n, ws)
 place_at_again n ws fits = number_at_again 64 n ws fits fits
 
-pub integer_at_again : (z : ℤ) (ws : List Word) → IsLong z → integer_at (signed_decimal z ∷ ws) ≡
-    Some (z, ws)
+pub integer_at_again : (z : ℤ) (ws : List Word) → IsLong z →
+    integer_at (signed_decimal z ∷ ws) ≡ Some (z, ws)
 unfolding integer_at word_at
 integer_at_again z ws fits = rw (integer_again z fits) refl
 
@@ -53,8 +53,8 @@ flag_at_again true ws = refl
 flag_at_again false ws = refl
 
 -- a number is no word that is not one
-other_word : (n : ℕ) (w : Word) → n < 2 ^ 64 → number_written 64 w ≡ None → bytes_eq (decimal n) w ≡
-    false
+other_word : (n : ℕ) (w : Word) → n < 2 ^ 64 → number_written 64 w ≡ None →
+    bytes_eq (decimal n) w ≡ false
 other_word n w small none = elim (cases_Bool (bytes_eq (decimal n) w)) [
   | inl same ↦
       let is : decimal n ≡ w = (bytes_eq-Decides (decimal n) w).0 same in
@@ -64,8 +64,8 @@ other_word n w small none = elim (cases_Bool (bytes_eq (decimal n) w)) [
   | inr other ↦ other
 ]
 
-pub number_or_at_again : (none : Word) (n : Option ℕ) (ws : List Word) → number_written 64 none ≡
-    None → bytes_eq none none ≡ true → IfSome n (λ n. n < 2 ^ 64) →
+pub number_or_at_again : (none : Word) (n : Option ℕ) (ws : List Word) →
+    number_written 64 none ≡ None → bytes_eq none none ≡ true → IfSome n (λ n. n < 2 ^ 64) →
     number_or_at none (number_or none n ∷ ws) ≡ Some (n, ws)
 unfolding number_or_at word_at
 number_or_at_again none None ws never same fits = rw same refl

@@ -113,8 +113,8 @@ record-words place r small fits = grind (
   call-words,
 )
 
-entry_again : (place : ℕ) (r : Record) → Fits r → entry_at (record_words place r) ≡
-    Some (r.entry, escaped r.payload)
+entry_again : (place : ℕ) (r : Record) → Fits r →
+    entry_at (record_words place r) ≡ Some (r.entry, escaped r.payload)
 unfolding entry_at word_at
 entry_again place r fits =
     let behind = payload_words r.payload ++ codes "->" ∷ reply_words r.entry.reply in

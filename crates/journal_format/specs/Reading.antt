@@ -320,8 +320,8 @@ reply_at words = do
 -- what is between quotes, or nothing if the next word does not begin with a quote
 abbrev pub quoted_or : Word → List Word → Word × List Word
 quoted_or [] words = ([], [] ∷ words)
-quoted_or (b ∷ bytes) words = if b == 34 then (take (length bytes - 1) bytes, words) else
-    ([], (b ∷ bytes) ∷ words)
+quoted_or (b ∷ bytes) words = if b == 34 then (take (length bytes - 1) bytes, words)
+    else ([], (b ∷ bytes) ∷ words)
 
 unfoldable pub quoted_at : List Word → Word × List Word
 quoted_at [] = ([], [])

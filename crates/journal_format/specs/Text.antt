@@ -118,8 +118,8 @@ thread_of caller = (caller - 1) / most_processes + 1
 
 -- a caller: the number of its process, and behind a dot that of the thread, unless it is the first
 abbrev pub caller_word : ℕ → Word
-caller_word caller = if nat_le caller most_processes then decimal caller else decimal
-    (owner_of caller) ++ 46 ∷ decimal (thread_of caller)
+caller_word caller = if nat_le caller most_processes then decimal caller
+    else decimal (owner_of caller) ++ 46 ∷ decimal (thread_of caller)
 
 -- the words of a record: its place, its caller, the call with its name or message, an arrow, and
 -- the reply

@@ -10,8 +10,8 @@ pub processes_to-zero : (past : Past) → processes_to 0 past ≡ 0
 unfolding processes_to
 processes_to-zero past = refl
 
-pub processes_to-more : (past : Past) (n : ℕ) → processes_to (n + 1) past ≡ processes_to n past +
-    (if has_process past (n + 1) then 1 else 0)
+pub processes_to-more : (past : Past) (n : ℕ) →
+    processes_to (n + 1) past ≡ processes_to n past + (if has_process past (n + 1) then 1 else 0)
 unfolding processes_to
 processes_to-more past n = rw add-one refl
 
@@ -24,8 +24,8 @@ any_drop test (suc n) [] some = some
 any_drop test (suc n) (r ∷ past) some = let rest = any_drop test n past some in
     grind (arith, nat_tests)
 
-pub any_first : (p k : ℕ) (past : Past) → has_process (first k past) p ≡ true → has_process past p ≡
-    true
+pub any_first : (p k : ℕ) (past : Past) → has_process (first k past) p ≡ true →
+    has_process past p ≡ true
 any_first p k past some = any_drop (λ r. owner_of r.entry.process == p) (length past - k) past some
 
 -- a record of the process was found

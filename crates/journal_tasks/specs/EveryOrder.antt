@@ -74,8 +74,8 @@ has_deadlock found = list_any (λ one. one.outcome.stuck) found
 -- the result of trying the interleavings
 abbrev pub ending_of : Collected → Ending
 ending_of collected =
-    if has_deadlock collected.found.items then Deadlock else
-    (if collected.complete then Well else OutOfBudget)
+    if has_deadlock collected.found.items then Deadlock
+    else (if collected.complete then Well else OutOfBudget)
 
 abbrev pub ending_if : Collected → Option Witnessed → Ending
 ending_if collected None = if collected.complete then NoSuch else NotReached

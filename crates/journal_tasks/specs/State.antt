@@ -23,8 +23,8 @@ entries_wanted wanted past = first (count_wanted wanted past) past
 -- why there is no state: the journal has fewer entries, or one of them is not legal
 abbrev pub LacksState : Wanted → Past → NoState → Type 0
 LacksState wanted past (Beyond len) = (len ≡ length past) × (length past < count_wanted wanted past)
-LacksState wanted past (Illegal place) = (count_wanted wanted past ≤ length past) × IsFirstIllegal
-    (entries_wanted wanted past) place
+LacksState wanted past (Illegal place) = (count_wanted wanted past ≤ length past) ×
+    IsFirstIllegal (entries_wanted wanted past) place
 
 -- the text of the state after these entries, which are legal
 pub record IsTextOf (wanted : Wanted) (past : Past) (text : List ℕ) : Type 0 where

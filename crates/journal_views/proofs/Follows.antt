@@ -56,8 +56,8 @@ bound-more past k r queues lt is bound = grind (arith, record-here, length-first
 
 -- a queue is bound to its name
 pub named-by : (past : Past) (q : ℕ) (queues : List ℕ) (o : Option ℕ) →
-    AreBound past (length past) queues → o ≡ bound_in past queues (name_of past q) → is_place q o ≡
-    is_named past q
+    AreBound past (length past) queues → o ≡ bound_in past queues (name_of past q) →
+    is_place q o ≡ is_named past q
 named-by past q queues o bound e = grind (arith, first-all)
 
 -- queues of entries -------------------------------------------------------------------------------
@@ -81,22 +81,22 @@ on-here past i r on q o is lt are count read = grind (arith, common_steps)
 
 -- one more entry ----------------------------------------------------------------------------------
 
-pub follows-none : (past : Past) (f : Followed) (n m : ℕ) → n ≤ 33 → f.owners.items ≡
-    replicate n free_owner → length f.owners.items ≡ 33 → f.callers.items ≡
-    replicate m free_caller → length f.callers.items ≡ 2049 → f.bound.items ≡ [] → f.on.items ≡ [] →
-    Follows past 0 f
+pub follows-none : (past : Past) (f : Followed) (n m : ℕ) → n ≤ 33 →
+    f.owners.items ≡ replicate n free_owner → length f.owners.items ≡ 33 →
+    f.callers.items ≡ replicate m free_caller → length f.callers.items ≡ 2049 → f.bound.items ≡ [] →
+    f.on.items ≡ [] → Follows past 0 f
 follows-none past f n m few owners count callers number bound on =
     grind (arith, first-none, owners-start, callers-start)
 
 pub follows-more : (past : Past) (k : ℕ) (r : Record) (f new : Followed) (q : ℕ) (o : Option ℕ) →
     Legal (first (k + 1) past) → k < length past → first (k + 1) past ≡ r ∷ first k past →
     Follows past k f →
-    KeepsMirror f.owners.items r.entry q new.owners.items → length new.owners.items ≡
-    length f.owners.items →
-    KeepsCallers f.callers.items k r.entry q new.callers.items → length new.callers.items ≡
-    length f.callers.items →
-    new.bound.items ≡ bound_after past k r.entry r.payload f.bound.items → new.on.items ≡
-    f.on.items ++ o ∷ [] →
+    KeepsMirror f.owners.items r.entry q new.owners.items →
+    length new.owners.items ≡ length f.owners.items →
+    KeepsCallers f.callers.items k r.entry q new.callers.items →
+    length new.callers.items ≡ length f.callers.items →
+    new.bound.items ≡ bound_after past k r.entry r.payload f.bound.items →
+    new.on.items ≡ f.on.items ++ o ∷ [] →
     o ≡ called_in f.owners.items r.entry.process r.entry.call →
     ((d : ℕ) (created : Bool) → r.entry.reply ≡ Opened d created → q ≡ opened_queue (first k past)
     r.payload created) → (r.entry.reply ≡ Waits → q ≡ unwrap_or o 0) →

@@ -8,8 +8,8 @@ pub lines-none : (past : Past) (from : Place) → lines_text past from 0 ≡ []
 unfolding lines_text
 lines-none past from = refl
 
-pub lines-more : (past : Past) (from : Place) (k : ℕ) → lines_text past from (k + 1) ≡
-    lines_text past from k ++ last_line (first (from + k + 1) past)
+pub lines-more : (past : Past) (from : Place) (k : ℕ) →
+    lines_text past from (k + 1) ≡ lines_text past from k ++ last_line (first (from + k + 1) past)
 unfolding lines_text
 lines-more past from k = rw add-one refl
 

@@ -14,8 +14,8 @@ pub processes-nil : processes [] ≡ []
 unfolding processes
 processes-nil = refl
 
-pub processes-more : (r : Record) (past : Past) → processes (r ∷ past) ≡
-    with_process r.entry.process (processes past)
+pub processes-more : (r : Record) (past : Past) →
+    processes (r ∷ past) ≡ with_process r.entry.process (processes past)
 unfolding processes
 processes-more r past = refl
 
@@ -25,8 +25,8 @@ pub heads-none : (x : ℕ) (number : List ℕ) → heads_text x number 0 ≡ []
 unfolding heads_text
 heads-none x number = refl
 
-pub heads-more : (x n : ℕ) (number : List ℕ) → heads_text x number (n + 1) ≡
-    heads_text x number n ++ head_text x (n * 816 + 48) number
+pub heads-more : (x n : ℕ) (number : List ℕ) →
+    heads_text x number (n + 1) ≡ heads_text x number n ++ head_text x (n * 816 + 48) number
 unfolding heads_text
 heads-more x n number = rw add-one refl
 
@@ -45,9 +45,9 @@ entries-more past ps from count k = rw add-one refl
 
 pub ruleset entries_steps = (entries-none, entries-more, append-nil, append_assoc)
 
-pub ending-more : (wait : Place) (r : Record) (past : Past) → ending wait (r ∷ past) ≡
-    option_or (ending wait past) (if nat_lt wait (length past) && is_place wait
-    (ended_wait r.entry.reply) then Some (length past) else None)
+pub ending-more : (wait : Place) (r : Record) (past : Past) →
+    ending wait (r ∷ past) ≡ option_or (ending wait past) (if nat_lt wait (length past) && is_place
+    wait (ended_wait r.entry.reply) then Some (length past) else None)
 unfolding ending
 ending-more wait r past = refl
 
@@ -66,7 +66,8 @@ pub wait_begun-nil : (p : Process) → wait_begun [] p ≡ None
 unfolding wait_begun
 wait_begun-nil p = refl
 
-pub wait_begun-more : (r : Record) (past : Past) (p : Process) → wait_begun (r ∷ past) p ≡
+pub wait_begun-more : (r : Record) (past : Past) (p : Process) →
+    wait_begun (r ∷ past) p ≡
     (if r.entry.process == p then (if is_wait r.entry.reply then Some (length past) else None) else
     wait_begun past p)
 unfolding wait_begun

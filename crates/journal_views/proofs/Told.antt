@@ -25,8 +25,8 @@ pub value-mine : (past : Past) (k p m : ℕ) (r : Record) (place : Option ℕ) (
 value-mine past k p m r place v is here lt le mine value = grind (arith, record_at-of_first, eq-eqb)
 
 pub value-other : (past : Past) (k p m : ℕ) (r : Record) (place : Option ℕ) → place ≡ Some m →
-    first (m + 1) past ≡ r ∷ first m past → m < k → k ≤ length past → shares r.entry.process p ≡
-    false →
+    first (m + 1) past ≡ r ∷ first m past → m < k → k ≤ length past →
+    shares r.entry.process p ≡ false →
     None ≡ value_notified (first k past) p place
 value-other past k p m r place is here lt le other = grind (arith, record_at-of_first)
 
@@ -56,8 +56,8 @@ pub at-beyond : (written : ℕ → Record → List ℕ) (past : Past) (place : �
 at-beyond written past place le = let none = record_at-past past place le in rw none refl
 
 pub at-here : (written : ℕ → Record → List ℕ) (past : Past) (place : ℕ) (r : Record) →
-    first (place + 1) past ≡ r ∷ first place past → place < length past → at written past place ≡
-    written place r
+    first (place + 1) past ≡ r ∷ first place past → place < length past →
+    at written past place ≡ written place r
 at-here written past place r is lt = let found = record-here past place r is lt in rw found refl
 
 filter-none : (t : ℕ → Bool) (low n : ℕ) → ((p : ℕ) → low ≤ p → p < low + n → t p ≡ false) →
@@ -67,8 +67,8 @@ filter-none t low (suc n) none = rw (none low (omega arith) (omega arith))
     (filter-none t (low + 1) n (λ p le lt. none p (omega (arith, le)) (omega (arith, lt))))
 
 filter-beyond : (t : ℕ → Bool) (low n more : ℕ) →
-    ((p : ℕ) → low + n ≤ p → p < low + (n + more) → t p ≡ false) → filter t (numbers_from low n) ≡
-    filter t (numbers_from low (n + more))
+    ((p : ℕ) → low + n ≤ p → p < low + (n + more) → t p ≡ false) →
+    filter t (numbers_from low n) ≡ filter t (numbers_from low (n + more))
 filter-beyond t low zero more none =
     sym (filter-none t low more (λ p le lt. none p (omega (arith, le)) (omega (arith, lt)))) ∙
     ap (λ k. filter t (numbers_from low k)) (let e : more ≡ 0 + more = omega arith in e)

@@ -17,8 +17,8 @@ use Rattle.journal_views.specs.declared.followed.Followed.{Followed}
 -- the first of these queues that was created under a name
 abbrev pub bound_in : Past → List ℕ → List ℕ → Option ℕ
 bound_in past [] name = None
-bound_in past (q ∷ queues) name = if bytes_eq (name_of past q) name then Some q else bound_in
-    past queues name
+bound_in past (q ∷ queues) name = if bytes_eq (name_of past q) name then Some q
+    else bound_in past queues name
 
 -- the queue that a call is made on, given what each process holds
 abbrev pub called_in : List Owner → ℕ → Call → Option ℕ
@@ -34,8 +34,8 @@ bound_after past k e name queues =
 
 -- After the first k entries these queues are bound to their names. The latest is first.
 abbrev pub AreBound : Past → ℕ → List ℕ → Type 0
-AreBound past k queues = (name : List ℕ) → bound_in past queues name ≡
-    bound_queue (first k past) name
+AreBound past k queues = (name : List ℕ) →
+    bound_in past queues name ≡ bound_queue (first k past) name
 
 -- each of the first k entries is made on this queue, through the descriptor that its call names
 abbrev pub AreOn : Past → ℕ → List (Option ℕ) → Type 0

@@ -10,8 +10,7 @@ use Rattle.mq_model.specs.declared.entries.Call.{Call}
 use Rattle.mq_model.specs.declared.entries.Call.TheVariants.{MqSend, MqTimedSend}
 
 -- The lane of a caller stands left of another's: processes stand by rising number, and the threads
--- of
--- one beside each other.
+-- of one beside each other.
 abbrev pub is_left : Process → Process → Bool
 is_left q p = nat_lt (owner_of q) (owner_of p) || (shares q p && nat_lt q p)
 
@@ -20,8 +19,8 @@ abbrev pub count_left : Process → List Process → ℕ
 count_left p ps = count_by (λ q. is_left q p) ps
 
 abbrev pub with_process : Process → List Process → List Process
-with_process p ps = if list_any (λ q. q == p) ps then ps else take 41
-    (insert ps (count_left p ps) p)
+with_process p ps = if list_any (λ q. q == p) ps then ps
+    else take 41 (insert ps (count_left p ps) p)
 
 -- the callers that occur, in the order of their lanes: at most the first 41
 unfoldable pub processes : Past → List Process
@@ -50,8 +49,8 @@ descriptor_sent call = None
 unfoldable pub queue_named : Past → Process → Descriptor → List ℕ
 queue_named [] p d = []
 queue_named (r ∷ past) p d =
-    if shares r.entry.process p && is_place d (opened_number r.entry.call r.entry.reply) then
-    r.payload
+    if shares r.entry.process p && is_place d (opened_number r.entry.call r.entry.reply)
+    then r.payload
     else queue_named past p d
 
 abbrev pub name_under : Past → Process → Option Descriptor → List ℕ

@@ -34,8 +34,8 @@ height count = depth count + 20
 
 -- the entry at the place `other`, if that is before `place`
 unfoldable pub entry_before : Past → Place → Place → Option Entry
-entry_before past place other = if nat_lt other place then option_map (λ r. r.entry)
-    (record_at past other) else None
+entry_before past place other = if nat_lt other place
+    then option_map (λ r. r.entry) (record_at past other) else None
 
 -- The bar of a wait of process p that ended at this place. If it did not end by the last entry
 -- shown, the bar goes to the lower edge.
@@ -57,8 +57,8 @@ bar past ps from count p wait = bar_to ps from count p wait
 
 -- the bar of the wait that an entry begins
 abbrev pub bar_of : Past → List Process → Place → ℕ → Place → Entry → Option Stroke
-bar_of past ps from count place e = if is_wait e.reply then bar past ps from count
-    e.process place else None
+bar_of past ps from count place e = if is_wait e.reply then bar past ps from count e.process place
+    else None
 
 -- the bar of the wait that a process is in when the picture starts
 abbrev pub bar_before : Past → List Process → Place → ℕ → Process → Option Stroke

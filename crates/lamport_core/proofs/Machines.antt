@@ -16,8 +16,8 @@ pub of_process_read : {A : Type 0} (d : A) (xs : List A) (i : ℕ) (x : A) → I
 of_process_read d xs i x p e = grind (arith, get_or_read)
 
 -- a write at index i - 1 gives process i its item
-pub set_place : {A : Type 0} (xs : List A) (i : ℕ) (v : A) → 0 < i → set xs (i - 1) v ≡
-    with_process xs i v
+pub set_place : {A : Type 0} (xs : List A) (i : ℕ) (v : A) → 0 < i →
+    set xs (i - 1) v ≡ with_process xs i v
 set_place xs i v h = grind (arith, set)
 
 pub stepped_sound : (m : Machine) (i : ℕ) → IsSound m → IsProcess (count m) i →

@@ -19,8 +19,8 @@ pub of-with_other : {A : Type 0} (d : A) (xs : List A) (i j : ℕ) (v : A) → j
     of_process d (with_process xs i v) j ≡ of_process d xs j
 of-with_other d xs i j v ne = grind (arith, get_or-set_other)
 
-pub length-with : {A : Type 0} (xs : List A) (i : ℕ) (v : A) → length (with_process xs i v) ≡
-    length xs
+pub length-with : {A : Type 0} (xs : List A) (i : ℕ) (v : A) →
+    length (with_process xs i v) ≡ length xs
 length-with xs i v = grind (arith, length-set)
 
 module _ (w : State) (i : ℕ) (s : IsSafe w) (p : IsProcess (process_count w) i) where
@@ -39,8 +39,8 @@ module _ (w : State) (i : ℕ) (s : IsSafe w) (p : IsProcess (process_count w) i
   }
 
   -- the world after a step that leaves the flags as they are
-  kept_world : (x y : ℕ) (Q : At) → Safe (process_count w) x y (flag_of w)
-      (λ j. of_process Rest (with_process w.points i Q) j) →
+  kept_world : (x y : ℕ) (Q : At) →
+      Safe (process_count w) x y (flag_of w) (λ j. of_process Rest (with_process w.points i Q) j) →
       IsSafe (record { x = x; y = y; flags = w.flags; points = with_process w.points i Q })
   kept_world x y Q h = record { same_count = length-with w.points i Q ∙ s.same_count; safe = h }
 

@@ -20,21 +20,22 @@ module _ (w : State) (i : ℕ) (s : IsSafe w) (p : IsProcess (process_count w) i
   there = subst (λ n. IsProcess n i) (sym s.same_count) p
 
   -- process i moves from P to Q, and y does not change
-  goes : (P Q : At) → point_of w i ≡ P → rank (w.y == 0) (process_count w) Q < rank (w.y == 0)
-      (process_count w) P → sum_by (rank (w.y == 0) (process_count w))
-      (with_process w.points i Q) < measure w
+  goes : (P Q : At) → point_of w i ≡ P →
+      rank (w.y == 0) (process_count w) Q < rank (w.y == 0) (process_count w) P →
+      sum_by (rank (w.y == 0) (process_count w)) (with_process w.points i Q) < measure w
   goes P Q at less = grind (arith, total_less, there)
 
-  flagged : (P Q : At) (v : Bool) → point_of w i ≡ P → free_rank (process_count w) Q < free_rank
-      (process_count w) P → taken_rank (process_count w) Q < taken_rank (process_count w) P →
+  flagged : (P Q : At) (v : Bool) → point_of w i ≡ P →
+      free_rank (process_count w) Q < free_rank (process_count w) P →
+      taken_rank (process_count w) Q < taken_rank (process_count w) P →
       Outcome w (with_point (with_flag w i v) i Q)
   flagged P Q v at f t =
       inr ((subst (λ n. sum_by (rank (w.y == 0) n) (with_process w.points i Q) < measure w)
       (sym (length-with w.flags i v)) (goes P Q at (lower (w.y == 0) (process_count w) P Q f t))))
 
-  moved : (P Q : At) → point_of w i ≡ P → free_rank (process_count w) Q < free_rank
-      (process_count w) P → taken_rank (process_count w) Q < taken_rank (process_count w) P →
-      Outcome w (with_point w i Q)
+  moved : (P Q : At) → point_of w i ≡ P →
+      free_rank (process_count w) Q < free_rank (process_count w) P →
+      taken_rank (process_count w) Q < taken_rank (process_count w) P → Outcome w (with_point w i Q)
   moved P Q at f t = inr ((goes P Q at (lower (w.y == 0) (process_count w) P Q f t)))
 
   waits : (P : At) → point_of w i ≡ P → Outcome w (with_point w i P)

@@ -33,8 +33,7 @@ pub record Led (n : ℕ) (schedule : List ℕ) (w : State) (steps : List ℕ) : 
 pub led_start : (n : ℕ) (schedule : List ℕ) (w : State) (steps : List ℕ) → 1 ≤ n →
     IsSchedule n schedule → w ≡ run (start n) schedule → steps ≡ [] → Led n schedule w steps
 led_start n schedule w steps some s e none = subst (λ is. Led n schedule w is) (sym none) (
-    let sound = reach_sound n w (record { schedule = schedule; processes = s; ends = e }) in
-    record {
+    let sound = reach_sound n w (record { schedule = schedule; processes = s; ends = e }) in record {
       reached = e;
       processes = tt;
       bounded = omega (arith, sound-measure-le n w sound);

@@ -16,8 +16,8 @@ use Rattle.lamport_core.specs.declared.At.{At}
 use Rattle.lamport_core.specs.declared.At.TheVariants.{Rest}
 
 -- a step does not change the points of the other processes
-pub others_from : (P : At) (w : State) (i j : ℕ) → j ≢ i → point_of (step_from P w i) j ≡
-    point_of w j
+pub others_from : (P : At) (w : State) (i j : ℕ) → j ≢ i →
+    point_of (step_from P w i) j ≡ point_of w j
 others_from P w i j ne = grind (arith, of-with_other)
 
 pub others_next : (w : State) (i j : ℕ) → j ≢ i → point_of (next w i) j ≡ point_of w j
@@ -85,8 +85,8 @@ leads_later : (w : State) (is js : List ℕ) → LeadsInside (run w is) js → L
 leads_later w [] js h = h
 leads_later w (i ∷ is) js h = inr (leads_later (next w i) is js h)
 
-pub contains_head : (i j : ℕ) (is : List ℕ) (k : ℕ) → k < length (i ∷ is) → get_or (i ∷ is) k j ≡
-    j → (i ≡ j) ⊎ Contains is j
+pub contains_head : (i j : ℕ) (is : List ℕ) (k : ℕ) → k < length (i ∷ is) →
+    get_or (i ∷ is) k j ≡ j → (i ≡ j) ⊎ Contains is j
 contains_head i j is k lt e = grind arith
 
 -- a process that is not at rest, and helps
@@ -97,8 +97,8 @@ pub record Helper (helps : State → ℕ → Type 0) (w : State) : Type 0 where
 
 -- the conditions on the measure and the helpers
 pub record Fair (n p : ℕ) (measure : State → ℕ) (helps : State → ℕ → Type 0) : Type 0 where
-  pub falls : (w : State) (i : ℕ) → Held n p w → IsProcess n i → IsOccupied (next w i) ⊎
-      (measure (next w i) ≤ measure w)
+  pub falls : (w : State) (i : ℕ) → Held n p w → IsProcess n i →
+      IsOccupied (next w i) ⊎ (measure (next w i) ≤ measure w)
   pub lowers : (w : State) (i : ℕ) → Held n p w → IsProcess n i → helps w i →
       IsOccupied (next w i) ⊎ (measure (next w i) < measure w)
   pub stays : (w : State) (i j : ℕ) → Held n p w → IsProcess n i → j ≢ i → helps w j →

@@ -84,8 +84,8 @@ module _ (n p : ℕ) where
 
   pub settles_next : (i : ℕ) (is : List ℕ) (w : State) → StaysPending n p w (i ∷ is) →
       IsProcess n i →
-      w.y ≡ 0 → ((next w i).y ≢ 0) ⊎ (unsettled (point_of (next w i) i) ≤ unsettled
-      (point_of w i) - 1)
+      w.y ≡ 0 →
+      ((next w i).y ≢ 0) ⊎ (unsettled (point_of (next w i) i) ≤ unsettled (point_of w i) - 1)
   settles_next i is w c q z = grind (arith, at_Q, inside_Q, pending_now)
 
   settles_run : (j m : ℕ) (is : List ℕ) (w : State) → StaysPending n p w is → IsSchedule n is →

@@ -109,13 +109,12 @@ way n zero w some s few = let r = mover n w some s in elim (one_step n w r.proce
   | inr (inl e) ↦ absurd (r.enabled e)
   | inr (inr less) ↦ absurd (omega arith)
 ]
-way n (suc m) w some s few = let r = mover n w some s in
-    elim (one_step n w r.process s r.numbered) [
-      | inl h ↦ no_steps n (suc m) w h
-      | inr (inl e) ↦ absurd (r.enabled e)
-      | inr (inr less) ↦ one_more_step n m w r.process r.numbered (way n m (next w r.process) some
-          (sound_next n w r.process s r.numbered) (omega arith))
-    ]
+way n (suc m) w some s few = let r = mover n w some s in elim (one_step n w r.process s r.numbered) [
+  | inl h ↦ no_steps n (suc m) w h
+  | inr (inl e) ↦ absurd (r.enabled e)
+  | inr (inr less) ↦ one_more_step n m w r.process r.numbered (way n m (next w r.process) some
+      (sound_next n w r.process s r.numbered) (omega arith))
+]
 
 pub sound-measure-le : (n : ℕ) (w : State) → IsSound n w → measure w ≤ work_bound n
 sound-measure-le n w s = subst (λ m. measure w ≤ work_bound m) s.counts

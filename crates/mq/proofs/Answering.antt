@@ -19,13 +19,13 @@ names-nothing reply e o = grind (arith)
 -- answered
 pub answers-kept : (past base : Past) (r : Record) (p : ℕ) → r.entry.process ≡ p →
     is_some (named_wait r.entry.reply) ≡ false → is_answered base p ≡ false
-    → ((q : ℕ) → is_answered past q ≡ is_answered base q) → (q : ℕ) → is_answered (r ∷ past) q ≡
-    is_answered base q
+    → ((q : ℕ) → is_answered past q ≡ is_answered base q) → (q : ℕ) →
+    is_answered (r ∷ past) q ≡ is_answered base q
 answers-kept past base r p mine quiet free same q = grind arith
 
 -- the same answers are the same bits
-pub bits-kept : (f g : ℕ → Bool) → ((q : ℕ) → f q ≡ g q) → (k m : ℕ) → answer_bits f k m ≡
-    answer_bits g k m
+pub bits-kept : (f g : ℕ → Bool) → ((q : ℕ) → f q ≡ g q) → (k m : ℕ) →
+    answer_bits f k m ≡ answer_bits g k m
 unfolding answer_bits
 bits-kept f g same k zero = refl
 bits-kept f g same k (suc m) = λ i. flag (same k i) + 2 * bits-kept f g same (suc k) m i

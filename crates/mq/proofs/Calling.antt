@@ -32,16 +32,16 @@ module _ {old stay : Ticket Record} {system : LockId} {books : Kept} {p : ℕ} w
   same-number c = c.number ∙ sym c.process
 
   -- a process that enters its critical section finds the open wait that it left
-  pub came-wait : Came old system stay books p → open_wait books.records p ≡
-      open_wait old.left old.number
+  pub came-wait : Came old system stay books p →
+      open_wait books.records p ≡ open_wait old.left old.number
   came-wait c = rw (c.process) (wait-grown c.grows)
 
-  pub came-room : Came old system stay books p → waiting_room books.records p ≡
-      waiting_room old.left old.number
+  pub came-room : Came old system stay books p →
+      waiting_room books.records p ≡ waiting_room old.left old.number
   came-room c = rw (c.process) (room-grown c.grows)
 
-  pub came-call : Came old system stay books p → waiting_call books.records p ≡
-      waiting_call old.left old.number
+  pub came-call : Came old system stay books p →
+      waiting_call books.records p ≡ waiting_call old.left old.number
   came-call c = rw (c.process) (call-grown c.grows)
 
   pub came-free : Came old system stay books p → IsFree old → open_wait books.records p ≡ None
@@ -76,8 +76,8 @@ module _ {old stay : Ticket Record} {system : LockId} {books : Kept} {p : ℕ} w
   }
 
   pub came-made : {records : Past} (call : Call) (given : List ℕ) (reply : Reply) →
-      Came old system stay books p → old.lock ≡ system → records ≡ made p call given reply ++
-      books.records → Legal records
+      Came old system stay books p → old.lock ≡ system →
+      records ≡ made p call given reply ++ books.records → Legal records
       → Calls old (record { lock = system; number = stay.number; left = records; told = false })
       (made old.number call given reply)
   came-made call given reply c lock is legal = came-calls (λ q. made q call given reply) c lock is
@@ -89,8 +89,9 @@ module _ {old stay : Ticket Record} {system : LockId} {books : Kept} {p : ℕ} w
 
   -- the journal that it found, whose bounds are those of its system
   pub came-found : {records : Past} (call : Call) (given : List ℕ) (reply : Reply) →
-      Came old system stay books p → old.lock ≡ system → records ≡ made p call given reply ++
-      books.records → HeedsBounds books.bounds books.records p call given reply
+      Came old system stay books p → old.lock ≡ system →
+      records ≡ made p call given reply ++ books.records →
+      HeedsBounds books.bounds books.records p call given reply
       → Found old (record { lock = system; number = stay.number; left = records; told = false })
       call given reply
   came-found call given reply c lock is heeds = grind (arith, came-bounds)
@@ -110,14 +111,15 @@ module _ {old stay : Ticket Record} {system : LockId} {books : Kept} {p : ℕ} w
 
   -- a call that adds no record of its process leaves the wait unchanged
   pub still-free : {records : Past} (call : Call) (given : List ℕ) (reply : Reply) →
-      Came old system stay books p → IsFree old → records ≡ made p call given reply ++
-      books.records → is_wait reply ≡ false → open_wait records stay.number ≡ None
+      Came old system stay books p → IsFree old →
+      records ≡ made p call given reply ++ books.records → is_wait reply ≡ false →
+      open_wait records stay.number ≡ None
   still-free call given reply c free is answered = grind (arith, came-free, same-number)
 
   -- if its reply serves no wait, each answer is unchanged
   pub came-quiet : {records : Past} (call : Call) (given : List ℕ) (reply : Reply) →
-      Came old system stay books p → IsFree old → records ≡ made p call given reply ++
-      books.records → is_some (named_wait reply) ≡ false
+      Came old system stay books p → IsFree old →
+      records ≡ made p call given reply ++ books.records → is_some (named_wait reply) ≡ false
       → answered_bits stay.left ≡ answered_bits records
   came-quiet call given reply c free is quiet = rw (c.found, is) (sym (by (has_entry reply) refl))
     where
@@ -145,8 +147,8 @@ free-room past p free =
 module _ {old stay : Ticket Record} {system : LockId} {books : Kept} {p : ℕ} where
   -- if it has an open wait afterwards, it waits in this call
   pub begun : {records : Past} (call : Call) (given : List ℕ) (reply : Reply) →
-      Came old system stay books p → IsFree old → records ≡ made p call given reply ++
-      books.records → IsSome (waiting_room records stay.number)
+      Came old system stay books p → IsFree old →
+      records ≡ made p call given reply ++ books.records → IsSome (waiting_room records stay.number)
       → WaitsIn (record { lock = system; number = stay.number; left = records; told = false }) call
   begun {records} call given reply c free is some = split (is_wait reply)
       (λ yes. let same = is-waits reply yes in now-waits call given c (rw same at is))

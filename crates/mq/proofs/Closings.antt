@@ -38,8 +38,8 @@ pub lowest-held : (past : Past) (p d : ℕ) → lowest_held past p ≡ Some d �
 unfolding descriptor_numbers
 lowest-held past p d is = let x = find-passes (λ d. is_some (held past p d)) 0 16 d is in (x.0, x.2)
 
-lowest-first : (past : Past) (p d e : ℕ) → lowest_held past p ≡ Some d → is_some (held past p e) ≡
-    true → d ≤ e
+lowest-first : (past : Past) (p d e : ℕ) → lowest_held past p ≡ Some d →
+    is_some (held past p e) ≡ true → d ≤ e
 unfolding descriptor_numbers
 lowest-first past p d e is some = find-first (λ d. is_some (held past p d)) 0 16 d e is
     some (omega arith)

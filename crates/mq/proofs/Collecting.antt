@@ -129,8 +129,9 @@ module _ {old stay : Ticket Record} {system : LockId} {books : Kept} {p : ℕ} w
   }
 
   pub came-withdraws : {records : Past} {now : Deadline} → Came old system stay books p →
-      old.lock ≡ system → (x : (w : ℕ) × (open_wait books.records p ≡ Some w) ×
-      (records ≡ recorded p (Withdraw now) [] (Withdrawn w) ∷ books.records)) → Legal records
+      old.lock ≡ system →
+      (x : (w : ℕ) × (open_wait books.records p ≡ Some w) × (records ≡ recorded p (Withdraw now) []
+      (Withdrawn w) ∷ books.records)) → Legal records
       → WithdrawsAt now old (record {
         lock = system;
         number = stay.number;
@@ -210,8 +211,9 @@ send-waited {old} {mid} {new} {outcome} {before} {after} {call} {bytes} start c 
 pub receive-waited : {old mid new : Ticket Record} {received : Received}
     {before between after : List ℕ} {call : Call} → is_receive call ≡ true →
     ReceiveCall start_receive_says old mid call before between (Ok None)
-    → waiting_call mid.left mid.number ≡ call → Collects mid new (GotMessage received) between
-    after → WaitedReceive old new call before after (Ok received)
+    → waiting_call mid.left mid.number ≡ call →
+    Collects mid new (GotMessage received) between after →
+    WaitedReceive old new call before after (Ok received)
 receive-waited {old} {mid} {new} {received} {before} {between} {after} {call} receives
     start called c =
     let waits : start.reply ≡ Waits = receive-waits mid.left start.reply
@@ -268,8 +270,8 @@ send-expired {gives} {old} {mid} {new} {call} {bytes} start w =
 
 pub receive-expired : {gives : Deadline → Type 0} {old mid new : Ticket Record} {call : Call}
     {before between : List ℕ} → ReceiveCall start_receive_says old mid call before between
-    (Ok None) → Withdraws gives mid new → Expired {R = Received} gives old new call []
-    (Err TimedOut) × (between ≡ before)
+    (Ok None) → Withdraws gives mid new →
+    Expired {R = Received} gives old new call [] (Err TimedOut) × (between ≡ before)
 receive-expired {gives} {old} {mid} {new} {call} {before} {between} start w =
     let waits : start.reply ≡ Waits = receive-waits mid.left start.reply
     (Ok None) start.says_so refl in

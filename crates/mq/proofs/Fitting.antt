@@ -11,8 +11,8 @@ use Rattle.mq_state.specs.declared.collected.Collected.{Collected as Outcome}
 use Rattle.mq.specs.Calls.{ReceiveCall}
 use Rattle.mq.specs.Says.{start_receive_says, FitsIn}
 
-front-fits : (message before after : List ℕ) → after ≡ with_front message before → length after ≡
-    length before → length message ≤ length before
+front-fits : (message before after : List ℕ) → after ≡ with_front message before →
+    length after ≡ length before → length message ≤ length before
 unfolding with_front
 front-fits message before after is same =
     let size : length after ≡ length message + length (drop (length message) before) =
@@ -34,6 +34,6 @@ receive-fits {new = new} {before = before} {after = after} {result = result} cal
     start-fits new.left call.reply result before after call.says_so call.buffer same
 
 pub collect-fits : (past : Past) (p : ℕ) (outcome : Outcome) (before after : List ℕ) →
-    Some outcome ≡ collected past p → after ≡ collected_into past p before → length after ≡
-    length before → FitsIn outcome (length before)
+    Some outcome ≡ collected past p → after ≡ collected_into past p before →
+    length after ≡ length before → FitsIn outcome (length before)
 collect-fits past p outcome before after value fill same = grind (arith, front-fits)

@@ -10,8 +10,8 @@ use Rattle.mq.specs.Asked.{may_reply}
 use Rattle.mq.specs.Calls.{made}
 use Rattle.mq.proofs.Returning.{no-message}
 
-pub message-kept : (past : Past) (r : Record) (m : ℕ) → r.payload ≡ [] → message_at (r ∷ past) m ≡
-    message_at past m
+pub message-kept : (past : Past) (r : Record) (m : ℕ) → r.payload ≡ [] →
+    message_at (r ∷ past) m ≡ message_at past m
 message-kept past r m empty = grind (arith, record_at-below)
 
 pub received-kept : (past : Past) (r : Record) (m : ℕ) → r.payload ≡ [] →
@@ -20,8 +20,8 @@ received-kept past r m empty low = grind (arith, record_at-below)
 
 -- the buffer that a receive fills, by the journal it leaves
 pub filled-kept : (past : Past) (p : ℕ) (call : Call) (given : List ℕ) (reply : Reply)
-    (buffer : List ℕ) → is_receive call ≡ true → filled (made p call given reply ++ past) reply
-    buffer ≡ filled past reply buffer
+    (buffer : List ℕ) → is_receive call ≡ true →
+    filled (made p call given reply ++ past) reply buffer ≡ filled past reply buffer
 filled-kept past p call given reply buffer receives = grind (arith, message-kept)
 
 -- the message of a reply, in the journal that its call leaves

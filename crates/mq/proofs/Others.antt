@@ -30,8 +30,8 @@ pub deadline-grown : {p : ℕ} {before after : Past} → Grows author p before a
 deadline-grown {p} {before} g =
     rw g.is (deadline-others before p g.behind (none-own p g.behind g.mine))
 
-record_at-grown : (more past : Past) (k : ℕ) → k < length past → record_at (more ++ past) k ≡
-    record_at past k
+record_at-grown : (more past : Past) (k : ℕ) → k < length past →
+    record_at (more ++ past) k ≡ record_at past k
 record_at-grown [] past k lt = refl
 record_at-grown (r ∷ more) past k lt = record_at-older (more ++ past) r k (below more) ∙
     record_at-grown more past k lt

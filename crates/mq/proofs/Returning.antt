@@ -13,8 +13,8 @@ use Rattle.mq.specs.Calls.{Calls, Found, made}
 use Rattle.mq.specs.Kinds.{Kind, IsKind, IsCall}
 
 -- a message is got by receives alone
-pub no-message : (call : Call) (reply : Reply) → may_reply call reply ≡ true → is_receive call ≡
-    false → gets_message reply ≡ false
+pub no-message : (call : Call) (reply : Reply) → may_reply call reply ≡ true →
+    is_receive call ≡ false → gets_message reply ≡ false
 no-message call reply may other = search rules
 
 -- what a call of a kind is, by its reply

@@ -247,8 +247,8 @@ closes p ds = map (λ d. recorded p (MqClose d) [] Done) ds
 abbrev pub AreInTurn : Option Bounds → Past → ℕ → List ℕ → Type 0
 AreInTurn bounds found p [] = Unit {0}
 AreInTurn bounds found p (d ∷ ds) = AreInTurn bounds found p ds ×
-    (lowest_held (closes p ds ++ found) p ≡ Some d) × (finds_full bounds (closes p ds ++ found) p
-    (MqClose d) [] ≡ false)
+    (lowest_held (closes p ds ++ found) p ≡ Some d) ×
+    (finds_full bounds (closes p ds ++ found) p (MqClose d) [] ≡ false)
 
 -- From the journal found to the one left, process p closed descriptors, always its lowest, and none
 -- when the journal was full.

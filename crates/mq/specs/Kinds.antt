@@ -70,5 +70,5 @@ pub record IsKind {R : Type 0} (k : Kind R) : Type 0 where
       IsWaiting k.waiting returned → reply ≡ Waits
   pub over : (past : Past) (reply : Reply) (returned : R) → k.says past reply ≡ Some returned →
       IsOver k.waiting returned → is_wait reply ≡ false
-  pub alone : (past : Past) (reply : Reply) → gets_message reply ≡ false → k.says past reply ≡
-      k.says [] reply
+  pub alone : (past : Past) (reply : Reply) → gets_message reply ≡ false →
+      k.says past reply ≡ k.says [] reply

@@ -47,8 +47,8 @@ attributes-is_kind = never-kind attributes_says attributes_kind.replies refl
 pub notice-is_kind : IsKind notice_kind
 notice-is_kind = never-kind notice_says notice_kind.replies refl
 
-pub send-waits : (reply : Reply) (returned : Result Bool Fault) → start_send_says reply ≡
-    Some returned → returned ≡ Ok false → reply ≡ Waits
+pub send-waits : (reply : Reply) (returned : Result Bool Fault) →
+    start_send_says reply ≡ Some returned → returned ≡ Ok false → reply ≡ Waits
 send-waits Waits returned e is = refl
 send-waits (Queued n) returned e is = absurd (let bad : Some (Ok true) ≡ Some (Ok false) = e ∙
     ap (λ (r : Result Bool Fault). Some r) is in cc)

@@ -11,8 +11,8 @@ use Rattle.mq_model.proofs.Prefixes.{first-more}
 abbrev recorded : Entry → List ℕ → Record
 recorded e payload = record { entry = e; payload = payload }
 
-pub entry-here : (past : Past) (place : ℕ) (e : Entry) → Some e ≡ option_map (λ r. r.entry)
-    (record_at past place) →
+pub entry-here : (past : Past) (place : ℕ) (e : Entry) →
+    Some e ≡ option_map (λ r. r.entry) (record_at past place) →
     first (place + 1) past ≡ record { entry = e; payload = name_of past place } ∷ first place past
 entry-here past place e is = grind (arith, first-more)
 

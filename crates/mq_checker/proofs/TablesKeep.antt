@@ -27,8 +27,8 @@ length-open : (owners : List Owner) (p : ℕ) (call : Call) (d q : ℕ) →
     length (noted_open owners p call d q) ≡ length owners
 length-open owners p call d q = grind (arith, length-with_slot)
 
-length-done : (owners : List Owner) (p : ℕ) (call : Call) → length (noted_done owners p call) ≡
-    length owners
+length-done : (owners : List Owner) (p : ℕ) (call : Call) →
+    length (noted_done owners p call) ≡ length owners
 length-done owners p call = grind (arith, length-with_slot)
 
 length-attributes : (owners : List Owner) (p : ℕ) (call : Call) →
@@ -70,10 +70,10 @@ queue-of past p call payload reply q says opened waits = grind (arith, waits-on)
 pub tables-keep : (past now : Past) (tables : Tables) (owners : List Owner) (callers : List Caller)
     (marks : List Bool) (r : Record) (k q : ℕ) → TablesMirror past tables → now ≡ r ∷ past →
     length past ≡ k →
-    OwnersMirror now owners → owners ≡ noted tables.owners r.entry.process r.entry.call
-    r.entry.reply q →
-    CallersMirror now callers → callers ≡ noted_waits tables.callers k r.entry.process r.entry.call
-    r.entry.reply q →
+    OwnersMirror now owners →
+    owners ≡ noted tables.owners r.entry.process r.entry.call r.entry.reply q →
+    CallersMirror now callers →
+    callers ≡ noted_waits tables.callers k r.entry.process r.entry.call r.entry.reply q →
     marks ≡ marked tables.marks (taken_by k r.entry.reply) →
     TablesMirror now (record { owners = owners; callers = callers; marks = marks })
 tables-keep past now tables owners callers marks r k q m is long held held_is waits waits_is

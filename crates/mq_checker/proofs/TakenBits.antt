@@ -9,8 +9,8 @@ use Rattle.mq_checker.specs.TakenTable.{TakenMirror, marked, unless_in, with_bes
 use Rattle.mq_model.proofs.Prefixes.{record_at-first}
 use Rattle.mq_model.proofs.Records.{record_at-past}
 
-slice_get-set : (table : List Bool) (k m : ℕ) → m < length table → slice_get (set table k true) m ≡
-    (if k == m then Some true else slice_get table m)
+slice_get-set : (table : List Bool) (k m : ℕ) → m < length table →
+    slice_get (set table k true) m ≡ (if k == m then Some true else slice_get table m)
 slice_get-set [] k m lt = absurd (omega arith)
 slice_get-set (b ∷ table) zero zero lt = refl
 slice_get-set (b ∷ table) zero (suc m) lt = rw (ne_eqb zero (suc m) (λ e. omega arith)) refl

@@ -226,8 +226,8 @@ module _ (past : Past) (a b : Request) (t : Two past a b) where
 
 -- at a queue that the second call is not about
 at-first : (past : Past) (a b : Request) (t : Two past a b) (k : ℕ) → k < length past →
-    Quiet past b a (swap past a b t) k → SameAt (both past a b (order past a b t))
-    (both past b a (order past b a (swap past a b t))) k
+    Quiet past b a (swap past a b t) k →
+    SameAt (both past a b (order past a b t)) (both past b a (order past b a (swap past a b t))) k
 at-first past a b t k lt off =
     let s = swap past a b t in
     let more : k < length (between past a b t) = omega (arith, lt) in

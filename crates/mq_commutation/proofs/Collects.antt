@@ -124,12 +124,12 @@ goes-on : (reply : Reply) → is_plain reply ≡ true → is_wait reply ≡ fals
 goes-on reply e = grind arith
 
 answer-plain : (p : ℕ) (call : Call) (payload : List ℕ) (reply : Reply) (ss : List (Option Sender))
-    (rs : List (Option ℕ)) (k : ℕ) (before : Option (Option (Option Message))) → is_plain reply ≡
-    true → after_answer p call payload reply ss rs k before ≡ before
+    (rs : List (Option ℕ)) (k : ℕ) (before : Option (Option (Option Message))) →
+    is_plain reply ≡ true → after_answer p call payload reply ss rs k before ≡ before
 answer-plain p call payload reply ss rs k before e = grind arith
 
-message-plain : (past : Past) (reply : Reply) → is_plain reply ≡ true → message_given past reply ≡
-    None
+message-plain : (past : Past) (reply : Reply) → is_plain reply ≡ true →
+    message_given past reply ≡ None
 message-plain past reply e = grind arith
 
 collected-plain : (past : Past) (reply : Reply) → is_plain reply ≡ true →
@@ -144,9 +144,10 @@ record Still (past : Past) (r : Record) : Type 0 where
   registrations : (k : ℕ) → registered_as (r ∷ past) k ≡ registered_as past k
   values : (k : ℕ) → notices (r ∷ past) k ≡ notices past k
 
-stays-still : (past : Past) → Legal past → (p : ℕ) (call : Call) (reply : Reply)
-    (payload : List ℕ) → IsLegalNext past (rec p call reply payload) → is_still call ≡ true →
-    is_quiet reply ≡ true → Still past (rec p call reply payload)
+stays-still : (past : Past) → Legal past →
+    (p : ℕ) (call : Call) (reply : Reply) (payload : List ℕ) →
+    IsLegalNext past (rec p call reply payload) → is_still call ≡ true → is_quiet reply ≡ true →
+    Still past (rec p call reply payload)
 stays-still past legal p call reply payload next still quiet =
     let says : Says past p call reply = legal_says past (rec p call reply payload) next in
     let kept : is_withdrawn reply ≡ false = kept-quiet reply quiet in

@@ -79,7 +79,8 @@ receivers-off : (p : ℕ) (call : Call) (reply : Reply) (rs : List (Option ℕ))
 receivers-off p call reply rs = grind arith
 
 registered-off : (p : ℕ) (call : Call) (reply : Reply) (before : Option Registered) →
-    is_covered call ≡ true → ((c : ℕ) → call ≡ MqClose c → (x : Registered) → before ≡ Some x →
+    is_covered call ≡ true →
+    ((c : ℕ) → call ≡ MqClose c → (x : Registered) → before ≡ Some x →
     (c == x.d && shares p x.process) ≡ false) → after_registered false p call reply before ≡ before
 registered-off p call reply before on safe = grind arith
 
@@ -105,8 +106,8 @@ after-act : (p : ℕ) (call : Call) (payload : List ℕ) (reply : Reply) (ss : L
     (if acts_on p reply (answers reply ss rs) k then acted call payload reply else before)
 after-act p call payload reply ss rs k before = grind arith
 
-pub acts-shape : (p : ℕ) (reply : Reply) (w : Option ℕ) (k : ℕ) → acts_on p (shape reply) w k ≡
-    acts_on p reply w k
+pub acts-shape : (p : ℕ) (reply : Reply) (w : Option ℕ) (k : ℕ) →
+    acts_on p (shape reply) w k ≡ acts_on p reply w k
 acts-shape p reply = grind arith
 
 pub acted-shape : (call : Call) (payload : List ℕ) (reply : Reply) →
@@ -118,16 +119,16 @@ idle-answers : (past : Past) (p : ℕ) (call : Call) (reply : Reply) (ss : List 
     answers reply ss rs ≡ None
 idle-answers past p call reply ss rs says none = grind (arith, handed-all, got-all)
 
-pub answered-same : (x y : Past) (p : ℕ) (call : Call) (a b : Reply) → called_queue y p call ≡
-    called_queue x p call → shape b ≡ shape a →
-    ((k : ℕ) → called_queue x p call ≡ Some k → SameAt x y k) → answered_at y p call b ≡
-    answered_at x p call a
+pub answered-same : (x y : Past) (p : ℕ) (call : Call) (a b : Reply) →
+    called_queue y p call ≡ called_queue x p call → shape b ≡ shape a →
+    ((k : ℕ) → called_queue x p call ≡ Some k → SameAt x y k) →
+    answered_at y p call b ≡ answered_at x p call a
 answered-same x y p call a b called same at = grind (arith, answers, called)
 
-pub told-same : (x y : Past) (p : ℕ) (call : Call) (a b : Reply) → called_queue y p call ≡
-    called_queue x p call → is_some (notified b) ≡ is_some (notified a) →
-    ((k : ℕ) → called_queue x p call ≡ Some k → SameAt x y k) → notified_registration y p call b ≡
-    notified_registration x p call a
+pub told-same : (x y : Past) (p : ℕ) (call : Call) (a b : Reply) →
+    called_queue y p call ≡ called_queue x p call → is_some (notified b) ≡ is_some (notified a) →
+    ((k : ℕ) → called_queue x p call ≡ Some k → SameAt x y k) →
+    notified_registration y p call b ≡ notified_registration x p call a
 told-same x y p call a b called same at = grind (arith, called)
 
 none-then : (k : ℕ) (o : Option ℕ) → is_place k (option_and_then (λ (q : ℕ). None) o) ≡ true → ⊥
@@ -233,8 +234,9 @@ off-queue : (past : Past) (p : ℕ) (call : Call) (reply : Reply) (k : ℕ) (val
 off-queue past p call reply k values on says off = grind (arith, gives-none, gain)
 
 closed-off : (past : Past) (p c : ℕ) (reply : Reply) (k : ℕ) (values : List ℕ) →
-    Says past p (MqClose c) reply → after_notices p (gives_notice reply)
-    (notified_registration past p (MqClose c) reply) k values ≡ values
+    Says past p (MqClose c) reply →
+    after_notices p (gives_notice reply) (notified_registration past p (MqClose c) reply) k values ≡
+    values
 closed-off past p c reply k values says = grind arith
 
 pub notices-off : (past : Past) (p : ℕ) (call : Call) (reply : Reply) (k : ℕ) (values : List ℕ) →
@@ -294,9 +296,9 @@ module _ (past : Past) (legal : Legal past) (p : ℕ) (call : Call) (reply : Rep
             (is_place k (called_queue past p call)) (registered_as past k);
       }
 
-  pub answer-acted : (k : ℕ) → answer (r ∷ past) k ≡
-      (if acts_on p reply (answered_at past p call reply) k then acted call payload reply
-      else answer past k)
+  pub answer-acted : (k : ℕ) →
+      answer (r ∷ past) k ≡ (if acts_on p reply (answered_at past p call reply) k then acted call
+      payload reply else answer past k)
   answer-acted k =
       answer-step past legal p call reply payload k says
       (λ not. no-wait past p call reply on says next.turn not)

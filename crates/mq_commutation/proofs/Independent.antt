@@ -62,8 +62,8 @@ independent-commute past a b legal first second covered_a covered_b e =
     there c covered k is = sym (touched-is past c.process c.call covered) ∙ is
 
     meets : (other : shares a.process b.process ≡ false) →
-        OneQueue (queue_touched past a) (queue_touched past b) → (passes past a b ≡ true) ⊎
-        (passes past b a ≡ true) → Commute past a b
+        OneQueue (queue_touched past a) (queue_touched past b) →
+        (passes past a b ≡ true) ⊎ (passes past b a ≡ true) → Commute past a b
     meets other q (inl p) =
         let x = and_parts (is_send a.call && passes_by past (priority_given a.call)
         (reply_of past a) (reply_of past b)) (stays_filled past (queue_touched past a)) p in

@@ -87,8 +87,8 @@ own-two p q k ne va vb h = grind (arith, eqb-true)
 
 -- what a call makes of a descriptor of caller k's process
 abbrev pub stepped : Past → Request → ℕ → ℕ → Option Description → Option Description
-stepped past c k d before = if shares c.process k then flagged c.call (reply_of past c) d
-    before else before
+stepped past c k d before = if shares c.process k then flagged c.call (reply_of past c) d before
+    else before
 
 stepped-collect : (past : Past) (c : Request) (k d : ℕ) (before : Option Description) →
     c.call ≡ Collect → stepped past c k d before ≡ before
@@ -185,8 +185,8 @@ module _ (past : Past) (a b : Request) (t : Order past a b) where
       }
 
   -- a wait that is answered has the same answer after a call of another process
-  answer-b : is_some (answered_by past b.process) ≡ true → answer mid b.process ≡
-      answer past b.process
+  answer-b : is_some (answered_by past b.process) ≡ true →
+      answer mid b.process ≡ answer past b.process
   answer-b some =
       answer-acted past t.legal a.process a.call (reply_of past a) (paid past a) t.first
       t.calls.0 b.process
@@ -237,9 +237,9 @@ module _ (past : Past) (a b : Request) (t : Order past a b) where
           ap (λ (r : Reply). flagged b.call r d (held mid k d)) shaped-b ∙ flagged-shape b.call
           (reply_of past b) d (held mid k d)
 
-  pub waits-two : (k : ℕ) → is_some (open_wait both k) ≡
-      (if b.process == k then is_wait (reply_of past b) else (if a.process == k then is_wait
-      (reply_of past a) else is_some (open_wait past k)))
+  pub waits-two : (k : ℕ) →
+      is_some (open_wait both k) ≡ (if b.process == k then is_wait (reply_of past b) else
+      (if a.process == k then is_wait (reply_of past a) else is_some (open_wait past k)))
   waits-two k =
       wait-if (b.process == k) (is_wait (reply_of mid b)) (length mid) (open_wait mid k)
       ∙ (λ i. if b.process == k then both-wait (reply_of past b) (reply_of mid b) t.reply i else
@@ -254,8 +254,8 @@ module _ (past : Past) (a b : Request) (t : Order past a b) where
   abbrev pub room_for : Request → Bool → Option ℕ
   room_for c w = if w then Some (room_of c.call) else None
 
-  pub rooms-two : (k : ℕ) → waiting_room both k ≡
-      (if b.process == k then room_for b (is_wait (reply_of past b)) else
+  pub rooms-two : (k : ℕ) →
+      waiting_room both k ≡ (if b.process == k then room_for b (is_wait (reply_of past b)) else
       (if a.process == k then room_for a (is_wait (reply_of past a)) else waiting_room past k))
   rooms-two k =
       room-step mid b.process b.call (reply_of mid b) (paid mid b) k
@@ -265,11 +265,12 @@ module _ (past : Past) (a b : Request) (t : Order past a b) where
   abbrev pub until_for : Request → Bool → Option Deadline
   until_for c w = if w then deadline_of c.call else None
 
-  pub deadlines-two : (k : ℕ) → wait_deadline both k ≡
-      (if b.process == k then until_for b (is_wait (reply_of past b)) else
+  pub deadlines-two : (k : ℕ) →
+      wait_deadline both k ≡ (if b.process == k then until_for b (is_wait (reply_of past b)) else
       (if a.process == k then until_for a (is_wait (reply_of past a)) else wait_deadline past k))
-  deadlines-two k = λ i. if b.process == k then until_for b (both-wait (reply_of past b)
-      (reply_of mid b) t.reply i) else wait_deadline mid k
+  deadlines-two k = λ i. if b.process == k
+      then until_for b (both-wait (reply_of past b) (reply_of mid b) t.reply i)
+      else wait_deadline mid k
 
   -- the notices of process k after a call
   abbrev pub noting : Request → ℕ → List ℕ → List ℕ
@@ -291,7 +292,8 @@ module _ (past : Past) (a b : Request) (t : Order past a b) where
   abbrev pub leaving : Request → Option (Option (Option Message))
   leaving c = acted c.call (paid past c) (reply_of past c)
 
-  pub answers-two : (k : ℕ) → answer both k ≡
+  pub answers-two : (k : ℕ) →
+      answer both k ≡
       (if acting b k then leaving b else (if acting a k then leaving a else answer past k))
   answers-two k =
       let w : Option ℕ = answered_at past b.process b.call (reply_of past b) in
@@ -340,10 +342,12 @@ alive-two past a b t s =
     let same : (p d : ℕ) → option_map (λ (h : Description). h.queue) (held y p d) ≡
     option_map (λ (h : Description). h.queue) (held x p d) =
     λ p d. ap (option_map (λ (h : Description). h.queue)) (held-same past a b t s p d) in
-    let low : (q : ℕ) → is_in (created x) q ≡ true → q < length past = λ q h. created-below past q
-    (subst (λ (qs : List ℕ). is_in qs q ≡ true) (created-two past a b t) h) in
-    let named : (q : ℕ) → is_in (created x) q ≡ true → is_named y q ≡ is_named x q =
-    λ q h. named-two past b a s q (low q h) ∙ sym (named-two past a b t q (low q h)) in
+    let low : (q : ℕ) → is_in (created x) q ≡ true →
+    q < length past = λ q h. created-below past q (subst (λ (qs : List ℕ). is_in qs q ≡ true)
+    (created-two past a b t) h) in
+    let named : (q : ℕ) → is_in (created x) q ≡ true →
+    is_named y q ≡ is_named x q = λ q h. named-two past b a s q (low q h) ∙
+    sym (named-two past a b t q (low q h)) in
     let holds : (q : ℕ) → is_held y q ≡ is_held x q = λ q. is_held-same x y q (λ p d e. same p d ∙
     e) (λ p d e. sym (same p d) ∙ e) in
     ap (filter (λ q. is_named y q || is_held y q)) (created-two past b a s ∙
@@ -359,9 +363,9 @@ commute-by past a b t s at-each noting-two one-answer =
     let x = both past a b t in
     let y = both past b a s in
     let ne = t.processes in
-    let below : (q : ℕ) → is_in (alive x) q ≡ true → q < length past = λ q h. created-below past q
-    (subst (λ (qs : List ℕ). is_in qs q ≡ true) (created-two past a b t)
-    (is_in-filter _ (created x) q h).0) in
+    let below : (q : ℕ) → is_in (alive x) q ≡ true →
+    q < length past = λ q h. created-below past q (subst (λ (qs : List ℕ). is_in qs q ≡ true)
+    (created-two past a b t) (is_in-filter _ (created x) q h).0) in
     let at : (q : ℕ) → is_in (alive x) q ≡ true → SameAt x y q = λ q h. at-each q (below q h) in
     record {
       second = unseen past a b t;

@@ -212,9 +212,9 @@ module _ (x y : Past) (p : ℕ) (same : (d : ℕ) → held y p d ≡ held x p d)
   receive-like (Withdraw now) given m a n says on found = absurd (cc)
   receive-like _ given m a n says on found = absurd says
 
-  send-like : (call : Call) (given : List ℕ) → is_send call ≡ true → called_queue x p call ≡
-      Some q → FoundRoom x y q → outline (reply_to y p call given) ≡
-      outline (reply_to x p call given)
+  send-like : (call : Call) (given : List ℕ) → is_send call ≡ true →
+      called_queue x p call ≡ Some q → FoundRoom x y q →
+      outline (reply_to y p call given) ≡ outline (reply_to x p call given)
   send-like (MqSend d prio len) given sends on found = send-found d prio len on found
   send-like (MqTimedSend d prio len until now) given sends on found = timed-shape until now _ _
       (send-found d prio len on found)
@@ -230,8 +230,8 @@ queued-says : (past : Past) (p : ℕ) (call : Call) (q : ℕ) → is_send call �
     Says past p call (Queued None) → called_queue past p call ≡ Some q → QueuedSays past q
 queued-says past p call q sends says on = grind arith
 
-no-least-sends : (x y : Past) (q : ℕ) → senders y q ≡ senders x q → least (waiting_sends x q) ≡
-    None → least (waiting_sends y q) ≡ None
+no-least-sends : (x y : Past) (q : ℕ) → senders y q ≡ senders x q →
+    least (waiting_sends x q) ≡ None → least (waiting_sends y q) ≡ None
 no-least-sends x y q same e = none-some (least (waiting_sends y q))
     (any-least (at sender y) (waiting_sends y q) ∙ ap (λ (ss : List (Option Sender)). any ss) same ∙
     sym (any-least (at sender x) (waiting_sends x q)) ∙ ap (λ (o : Option ℕ). is_some o) e)
@@ -320,8 +320,8 @@ module _ (past : Past) (a b : Request) (t : Passing past a b) where
       let le : priority_given a.call ≤ priority past t.message = grind (arith, nat_tests, t.low) in
       omega (arith, le, best)
 
-  behind-k : (foremost (joined prio_of new cs) ≡ foremost cs) × (others (joined prio_of new cs) ≡
-      joined prio_of new (others cs))
+  behind-k : (foremost (joined prio_of new cs) ≡ foremost cs) ×
+      (others (joined prio_of new cs) ≡ joined prio_of new (others cs))
   behind-k = joined-behind new cs any-k low-k
 
   kept-a : (q : ℕ) → KeptAt past (record_for past a) q
@@ -394,13 +394,13 @@ module _ (past : Past) (a b : Request) (t : Passing past a b) where
       (λ z. z) in
       ap (λ (b : Bool). is_some (if b then registered_place got_first k else None)) other)
     where
-      if-none : (b : Bool) (o : Option ℕ) → is_some o ≡ false → is_some (if b then o else None) ≡
-          false
+      if-none : (b : Bool) (o : Option ℕ) → is_some o ≡ false →
+          is_some (if b then o else None) ≡ false
       if-none true o e = e
       if-none false o e = refl
 
-      placed-none : is_none (registered_as past k) ≡ true → is_some (registered_place past k) ≡
-          false
+      placed-none : is_none (registered_as past k) ≡ true →
+          is_some (registered_place past k) ≡ false
       placed-none = by (Rattle.mq_model.specs.Notices.registered past k)
         where
           by : (o : Option Rattle.mq_model.specs.declared.entries.Registration.Registration) →

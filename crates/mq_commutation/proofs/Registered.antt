@@ -120,8 +120,8 @@ held-queue : (o : Option Description) (q : ℕ) → option_map (λ (h : Descript
     Some q → HeldOn o q
 held-queue o q e = grind arith
 
-pub registered-held : (past : Past) → Legal past → (q : ℕ) (n : Registration) → registered past q ≡
-    Some n → HeldOn (held past n.process n.d) q
+pub registered-held : (past : Past) → Legal past → (q : ℕ) (n : Registration) →
+    registered past q ≡ Some n → HeldOn (held past n.process n.d) q
 registered-held [] legal q n e = absurd (cc)
 registered-held (r ∷ past) legal q n e =
     by (only_if (is_on past r.entry q) (registration_of (length past) r.entry.process r.entry.call
@@ -151,9 +151,9 @@ registered-held (r ∷ past) legal q n e =
 
 -- a close of a descriptor for another queue ends no registration on this one
 pub closed-elsewhere : (past : Past) → Legal past →
-    (p : ℕ) (call : Call) (c k : ℕ) (x : Registered) → call ≡ MqClose c → registered_as past k ≡
-    Some x → is_place k (called_queue past p call) ≡ false → (c == x.d && shares p x.process) ≡
-    false
+    (p : ℕ) (call : Call) (c k : ℕ) (x : Registered) → call ≡ MqClose c →
+    registered_as past k ≡ Some x → is_place k (called_queue past p call) ≡ false →
+    (c == x.d && shares p x.process) ≡ false
 closed-elsewhere past legal p call c k x is stands off = split (c == x.d && shares p x.process)
     (λ t. by (registered past k) refl stands (and_parts (c == x.d) (shares p x.process) t))
     (λ f. f)

@@ -83,9 +83,9 @@ module _ (x y : Past) (p : ℕ) (same : (d : ℕ) → held y p d ≡ held x p d)
   pub called-same : (call : Call) → called_queue y p call ≡ called_queue x p call
   called-same call = by (descriptor_of call)
     where
-      by : (o : Option ℕ) → option_map (λ (h : Description). h.queue)
-          (option_and_then (held y p) o) ≡ option_map (λ (h : Description). h.queue)
-          (option_and_then (held x p) o)
+      by : (o : Option ℕ) →
+          option_map (λ (h : Description). h.queue) (option_and_then (held y p) o) ≡
+          option_map (λ (h : Description). h.queue) (option_and_then (held x p) o)
       by None = refl
       by (Some d) = ap (option_map (λ (h : Description). h.queue)) (same d)
 
@@ -140,8 +140,8 @@ module _ (x y : Past) (p : ℕ) (same : (d : ℕ) → held y p d ≡ held x p d)
   of-attributes : (d : ℕ) → At d → outline (reply_to_attributes y (held y p d)) ≡
       outline (reply_to_attributes x (held x p d))
   of-attributes d at =
-      let goes : (o : Option Description) → held x p d ≡ o → outline (reply_to_attributes y o) ≡
-      outline (reply_to_attributes x o) =
+      let goes : (o : Option Description) → held x p d ≡ o →
+      outline (reply_to_attributes y o) ≡ outline (reply_to_attributes x o) =
       λ (o : Option Description). elim o as (λ o. held x p d ≡ o →
       outline (reply_to_attributes y o) ≡ outline (reply_to_attributes x o)) [
         | None ↦ (λ e. refl)
@@ -151,8 +151,8 @@ module _ (x y : Past) (p : ℕ) (same : (d : ℕ) → held y p d ≡ held x p d)
       ap (λ (o : Option Description). outline (reply_to_attributes y o)) (same d) ∙
       goes (held x p d) refl
 
-  registered-of : (k q : ℕ) → registered_as y q ≡ registered_as x q → is_of k (registered y q) ≡
-      is_of k (registered x q)
+  registered-of : (k q : ℕ) → registered_as y q ≡ registered_as x q →
+      is_of k (registered y q) ≡ is_of k (registered x q)
   registered-of k q e = of-view (registered y q) ∙ ap view e ∙ sym (of-view (registered x q))
     where
       view : Option Registered → Bool
@@ -182,8 +182,9 @@ module _ (x y : Past) (p : ℕ) (same : (d : ℕ) → held y p d ≡ held x p d)
       ap (λ (o : Option Description). outline (reply_to_notify y p o value)) (same d) ∙
       goes (held x p d) refl
     where
-      by : (h : Description) (value : Option ℕ) → registered_as y h.queue ≡
-          registered_as x h.queue → outline (reply_to_notify y p (Some h) value) ≡
+      by : (h : Description) (value : Option ℕ) →
+          registered_as y h.queue ≡ registered_as x h.queue →
+          outline (reply_to_notify y p (Some h) value) ≡
           outline (reply_to_notify x p (Some h) value)
       by h (Some v) e = λ i. outline (if registered-some x y h.queue h.queue e i then
           Refused Busy else Done)

@@ -46,9 +46,9 @@ both-wait a b same = sym (wait-shape b) ∙ ap is_wait (shapes a b same) ∙ wai
 
 -- messages given
 
-pub got-in : (past : Past) → Legal past → (p : ℕ) (call : Call) (m : ℕ) (a n : Option ℕ)
-    (payload : List ℕ) → Says past p call (Got m a n) →
-    (q : ℕ) × (called_queue past p call ≡ Some q) ×
+pub got-in : (past : Past) → Legal past →
+    (p : ℕ) (call : Call) (m : ℕ) (a n : Option ℕ) (payload : List ℕ) →
+    Says past p call (Got m a n) → (q : ℕ) × (called_queue past p call ≡ Some q) ×
     (message_given (rec p call (Got m a n) payload ∷ past) (Got m a n) ≡ foremost (contents past q))
 got-in past legal p call m a n payload says = grind (arith, got-all, called, got-message, foremost)
 
@@ -115,8 +115,9 @@ module _ (x y : Past) (legal_x : Legal x) (legal_y : Legal y) (p : ℕ) (call : 
 got-outline : (r : Reply) → is_got (outline r) ≡ is_got r
 got-outline r = grind arith
 
-both-got : (x y : Past) → Legal x → Legal y → (p : ℕ) (call : Call) (m : ℕ) (a n : Option ℕ) (j : ℕ)
-    (c l : Option ℕ) (px py : List ℕ) → Says x p call (Got m a n) → Says y p call (Got j c l) →
+both-got : (x y : Past) → Legal x → Legal y →
+    (p : ℕ) (call : Call) (m : ℕ) (a n : Option ℕ) (j : ℕ) (c l : Option ℕ) (px py : List ℕ) →
+    Says x p call (Got m a n) → Says y p call (Got j c l) →
     called_queue y p call ≡ called_queue x p call →
     ((k : ℕ) → called_queue x p call ≡ Some k → foremost (contents y k) ≡ foremost (contents x k)) →
     message_given (rec p call (Got j c l) py ∷ y) (Got j c l) ≡
@@ -135,9 +136,9 @@ no-message past a b same e = none-given past b (sym (got-outline b) ∙ ap is_go
     got-outline a ∙ e)
 
 -- replies with the same outline that return a message return the same one
-pub message-same : (x y : Past) → Legal x → Legal y → (p : ℕ) (call : Call) (a b : Reply)
-    (px py : List ℕ) → Says x p call a → Says y p call b → called_queue y p call ≡
-    called_queue x p call → outline b ≡ outline a →
+pub message-same : (x y : Past) → Legal x → Legal y →
+    (p : ℕ) (call : Call) (a b : Reply) (px py : List ℕ) → Says x p call a → Says y p call b →
+    called_queue y p call ≡ called_queue x p call → outline b ≡ outline a →
     ((k : ℕ) → called_queue x p call ≡ Some k → foremost (contents y k) ≡ foremost (contents x k)) →
     message_given (rec p call b py ∷ y) b ≡ message_given (rec p call a px ∷ x) a
 message-same x y legal_x legal_y p call a b px py says_x says_y called same at =

@@ -17,18 +17,18 @@ use Rattle.mq_equivalence.specs.Steps.{shape}
 use Rattle.mq_equivalence.specs.Runs.{Request}
 use Rattle.mq_commutation.specs.Commuting.{is_covered}
 
-pub not-created : (call : Call) (reply : Reply) → is_covered call ≡ true → creates call reply ≡
-    false
+pub not-created : (call : Call) (reply : Reply) → is_covered call ≡ true →
+    creates call reply ≡ false
 not-created call reply on = grind arith
 
-pub not-unlinked : (call : Call) (reply : Reply) → is_covered call ≡ true → unlinks call reply ≡
-    false
+pub not-unlinked : (call : Call) (reply : Reply) → is_covered call ≡ true →
+    unlinks call reply ≡ false
 not-unlinked call reply on = grind arith
 
 -- a descriptor after such a call
 abbrev pub flagged : Call → Reply → ℕ → Option Description → Option Description
-flagged (MqSetattr e nonblock) (Attrs s) d before = if e == d then option_map
-    (with_nonblock nonblock) before else before
+flagged (MqSetattr e nonblock) (Attrs s) d before = if e == d
+    then option_map (with_nonblock nonblock) before else before
 flagged (MqClose e) Done d before = if e == d then None else before
 flagged call reply d before = before
 

@@ -17,6 +17,6 @@ or-back b c = grind arith
 last-back : (d r p q : Bool) → (d || r || q || p) ≡ (d || r || p || q)
 last-back d r p q = grind arith
 
-pub independent-back : (past : Past) (a b : Request) → are_independent past b a ≡
-    are_independent past a b
+pub independent-back : (past : Past) (a b : Request) →
+    are_independent past b a ≡ are_independent past a b
 independent-back past a b = grind (arith, same-number, or-back, differ-back, last-back)

@@ -36,8 +36,9 @@ receivers-shape p call on reply rs = grind arith
 
 pub answer-shape : (p : ℕ) (call : Call) (payload : List ℕ) (reply : Reply)
     (ss : List (Option Sender)) (rs : List (Option ℕ)) (k : ℕ)
-    (before : Option (Option (Option Message))) → after_answer p call payload (shape reply) ss rs k
-    before ≡ after_answer p call payload reply ss rs k before
+    (before : Option (Option (Option Message))) →
+    after_answer p call payload (shape reply) ss rs k before ≡
+    after_answer p call payload reply ss rs k before
 answer-shape p call payload reply ss rs k before = grind arith
 
 pub wait-shape : (reply : Reply) → is_wait (shape reply) ≡ is_wait reply

@@ -24,8 +24,8 @@ codes-drop code xs i lt = ap (λ (ys : List ℕ). codes code ys) (drop-cons xs i
 
 pub ruleset appends = (append_assoc, first-all, codes-drop)
 
-codes-map : {X Y : Type 0} (code : Y → List ℕ) (f : X → Y) (xs : List X) → codes code (map f xs) ≡
-    codes (λ (x : X). code (f x)) xs
+codes-map : {X Y : Type 0} (code : Y → List ℕ) (f : X → Y) (xs : List X) →
+    codes code (map f xs) ≡ codes (λ (x : X). code (f x)) xs
 codes-map code f [] = refl
 codes-map code f (x ∷ xs) = ap (λ (ns : List ℕ). code (f x) ++ ns) (codes-map code f xs)
 
@@ -83,8 +83,8 @@ at-beyond f past place le = ap (λ (o : Option Record). option_map f o)
     (record_at-past past place le)
 
 pub at-here : {X : Type 0} (f : Record → X) (past : Past) (place : ℕ) (r : Record) →
-    first (place + 1) past ≡ r ∷ first place past → place < length past → at f past place ≡
-    Some (f r)
+    first (place + 1) past ≡ r ∷ first place past → place < length past →
+    at f past place ≡ Some (f r)
 at-here f past place r is lt =
     let all : first (length past) past ≡ past = first-all past (length past) refl in
     let found : record_at (first (length past) past) place ≡ Some r = record_at-of_first past

@@ -41,8 +41,8 @@ pub record HasNothing (past : Past) (p : ℕ) : Type 0 where
   pub held : (d : ℕ) → held past p d ≡ None
   pub notices : notices past p ≡ []
 
-quiet-above : (past : Past) (p : ℕ) → process_bound past ≤ p → (open_wait past p ≡ None) ×
-    (wait_deadline past p ≡ None) × (answered_by past p ≡ None)
+quiet-above : (past : Past) (p : ℕ) → process_bound past ≤ p →
+    (open_wait past p ≡ None) × (wait_deadline past p ≡ None) × (answered_by past p ≡ None)
 quiet-above [] p le = (refl, refl, refl)
 quiet-above (r ∷ past) p le = grind (arith, quiet-above past p (omega arith))
 

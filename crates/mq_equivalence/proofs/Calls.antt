@@ -21,10 +21,10 @@ use Rattle.mq_equivalence.proofs.Effects.{answer-older, called, is-best, is_coll
 
 -- whether a call can be made ----------------------------------------------------------------------
 
-pub can-alike : (x y : Past) (p : Process) (call : Call) (given : List ℕ) → may_call y p call ≡
-    may_call x p call →
-    shape (reply_to y p call given) ≡ shape (reply_to x p call given) → can_call y p call given ≡
-    can_call x p call given
+pub can-alike : (x y : Past) (p : Process) (call : Call) (given : List ℕ) →
+    may_call y p call ≡ may_call x p call →
+    shape (reply_to y p call given) ≡ shape (reply_to x p call given) →
+    can_call y p call given ≡ can_call x p call given
 can-alike x y p call given turn same = grind (arith, payload-alike)
 
 -- a reply that is no collect's --------------------------------------------------------------------
@@ -43,8 +43,8 @@ pub message-older : (past : Past) (p : Process) (call : Call) (given : List ℕ)
     message_given (r ∷ past) (reply_to past p call given) ≡
     message_given past (reply_to past p call given)
 message-older past p call given r =
-    let goes : (reply : Reply) → Says past p call reply → message_given (r ∷ past) reply ≡
-    message_given past reply =
+    let goes : (reply : Reply) → Says past p call reply →
+    message_given (r ∷ past) reply ≡ message_given past reply =
     λ (reply : Reply). elim reply as (λ reply. Says past p call reply → message_given
     (r ∷ past) reply ≡ message_given past reply) [
       | Got m a n ↦ (λ says. let got = got-all past p call m a n says in at-older sent past r m
@@ -55,8 +55,9 @@ message-older past p call given r =
     goes (reply_to past p call given) (reply_says past p call given)
 
 -- the message that a receive gets
-pub got-message : (past : Past) → Legal past → (p : ℕ) (call : Call) (m : ℕ) (a n : Option ℕ)
-    (payload : List ℕ) → Says past p call (Got m a n) →
+pub got-message : (past : Past) → Legal past →
+    (p : ℕ) (call : Call) (m : ℕ) (a n : Option ℕ) (payload : List ℕ) →
+    Says past p call (Got m a n) →
     at sent (rec p call (Got m a n) payload ∷ past) m ≡
     foremost (contents past (called past p call))
 got-message past legal p call m a n payload says =
@@ -97,8 +98,8 @@ answered-some past p m = grind arith
 -- a collect returns the same message if the waits were answered with the same
 pub collected-alike : (x y : Past) (p : ℕ) (call : Call) (a b : Reply) (px py : List ℕ) →
     shape b ≡ shape a → (is_some (answered_by x p) ≡ true → answer y p ≡ answer x p) →
-    may_call y p call ≡ may_call x p call → Says x p call a → Says y p call b → may_call x p call ≡
-    true →
+    may_call y p call ≡ may_call x p call → Says x p call a → Says y p call b →
+    may_call x p call ≡ true →
     message_collected (rec p call b py ∷ y) b ≡ message_collected (rec p call a px ∷ x) a
 collected-alike x y p call a b px py e same turns says_x says_y turn =
     grind (arith, is_collected, rec, collected-is, answered-some)

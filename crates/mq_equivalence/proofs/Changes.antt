@@ -109,8 +109,9 @@ best-inside : (past : Past) (q m : ℕ) → best past q ≡ Some m → is_in (pr
 best-inside past q m e = (find-in (λ k. list_all (goes_first past k) (present past q))
     (present past q) m e).0
 
-falls-got : (past : Past) → Legal past → (p : ℕ) (call : Call) (m : ℕ) (a n : Option ℕ)
-    (payload : List ℕ) (q : ℕ) → Says past p call (Got m a n) → Falls (present past q) →
+falls-got : (past : Past) → Legal past →
+    (p : ℕ) (call : Call) (m : ℕ) (a n : Option ℕ) (payload : List ℕ) (q : ℕ) →
+    Says past p call (Got m a n) → Falls (present past q) →
     Falls (present (rec p call (Got m a n) payload ∷ past) q)
 falls-got past legal p call m a n payload q says falls =
     let got = got-all past p call m a n says in
@@ -128,9 +129,9 @@ falls-got past legal p call m a n payload q says falls =
     (λ f. let is = present-got_elsewhere past p call m a n payload got.queue q facts
     (eqb-false q got.queue f) in subst Falls (sym is) falls)
 
-falls-next : (past : Past) → Legal past → (p : ℕ) (call : Call) (reply : Reply) (payload : List ℕ)
-    (q : ℕ) → Says past p call reply → Falls (present past q) →
-    Falls (present (rec p call reply payload ∷ past) q)
+falls-next : (past : Past) → Legal past →
+    (p : ℕ) (call : Call) (reply : Reply) (payload : List ℕ) (q : ℕ) → Says past p call reply →
+    Falls (present past q) → Falls (present (rec p call reply payload ∷ past) q)
 falls-next past legal p call reply payload q says falls =
     grind (
       arith,

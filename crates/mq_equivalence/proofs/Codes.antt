@@ -31,8 +31,8 @@ pub decodable-optional : {X : Type 0} (code : X → List ℕ) → IsDecodable co
 decodable-optional code told h h' u v e = grind arith
 
 decodable-codes : {X : Type 0} (code : X → List ℕ) → IsDecodable code →
-    (xs ys : List X) (u v : List ℕ) → length xs ≡ length ys → codes code xs ++ u ≡ codes code ys ++
-    v → (xs ≡ ys) × (u ≡ v)
+    (xs ys : List X) (u v : List ℕ) → length xs ≡ length ys →
+    codes code xs ++ u ≡ codes code ys ++ v → (xs ≡ ys) × (u ≡ v)
 decodable-codes code told [] [] u v n e = (refl, e)
 decodable-codes code told (x ∷ xs) (y ∷ ys) u v n e =
     let first = told x y (codes code xs ++ u) (codes code ys ++ v)

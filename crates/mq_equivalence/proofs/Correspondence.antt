@@ -21,8 +21,8 @@ pub corresponds-on : (to on : ℕ → ℕ) (xs ys zs : List ℕ) → Corresponds
     Corresponds on ys zs → Corresponds (λ q. on (to q)) xs zs
 corresponds-on to on xs ys zs f g = grind arith
 
-one-less : (ks : List ℕ) (k : ℕ) → Falls ks → is_in ks k ≡ true → suc (length (without k ks)) ≡
-    length ks
+one-less : (ks : List ℕ) (k : ℕ) → Falls ks → is_in ks k ≡ true →
+    suc (length (without k ks)) ≡ length ks
 one-less [] k falls h = absurd (cc)
 one-less (j ∷ ks) k falls h = split (j == k)
     (λ t. let same : j ≡ k = eqb-true j k t in
@@ -40,8 +40,8 @@ as-many to [] (k ∷ ys) falls_x falls_y c = let q = c.every k (in-first k ys) i
     true = q.1 in absurd (cc)
 as-many to (q ∷ xs) ys falls_x falls_y c =
     let k = to q in
-    let other : (p : ℕ) → is_in xs p ≡ true → q ≡ p → ⊥ = λ p h e. let below = falls_x.0 p h in
-    omega (arith, below, e) in
+    let other : (p : ℕ) → is_in xs p ≡ true → q ≡ p →
+    ⊥ = λ p h e. let below = falls_x.0 p h in omega (arith, below, e) in
     let rest : Corresponds to xs (without k ys) = grind (
       arith,
       nat_tests,

@@ -62,8 +62,8 @@ with_admitted (Some w) ss cs = joined prio_of (option_map (λ (x : Sender). x.me
 
 abbrev pub after_contents : Call → List ℕ → Bool → Reply → List (Option Sender) →
     List (Option Message) → List (Option Message)
-after_contents call payload on (Queued n) ss cs = if on && is_send call then joined prio_of
-    (Some (message_of call payload)) cs else cs
+after_contents call payload on (Queued n) ss cs = if on && is_send call
+    then joined prio_of (Some (message_of call payload)) cs else cs
 after_contents call payload on (Got m a n) ss cs = if on then with_admitted a ss (others cs) else cs
 after_contents call payload on reply ss cs = cs
 
@@ -71,8 +71,8 @@ contents-same : (past : Past) (r : Record) (q : ℕ) → present (r ∷ past) q 
     contents (r ∷ past) q ≡ contents past q
 contents-same past r q same = grind (arith, map-older, present-below)
 
-contents-queued : (past : Past) → Legal past → (p : ℕ) (call : Call) (n : Option ℕ)
-    (payload : List ℕ) (q : ℕ) →
+contents-queued : (past : Past) → Legal past →
+    (p : ℕ) (call : Call) (n : Option ℕ) (payload : List ℕ) (q : ℕ) →
     contents (rec p call (Queued n) payload ∷ past) q ≡ after_contents call payload
     (is_place q (called_queue past p call)) (Queued n) (senders past q) (contents past q)
 contents-queued past legal p call n payload q =
@@ -100,8 +100,9 @@ lined-admitted past r q (Some w) ks e =
     (least-in (waiting_sends past q) w (sym e)) in
     grind (arith, nat_tests, oldest, at-older, least-oldest, falls-senders)
 
-contents-got : (past : Past) → Legal past → (p : ℕ) (call : Call) (m : ℕ) (a n : Option ℕ)
-    (payload : List ℕ) (q : ℕ) → Says past p call (Got m a n) →
+contents-got : (past : Past) → Legal past →
+    (p : ℕ) (call : Call) (m : ℕ) (a n : Option ℕ) (payload : List ℕ) (q : ℕ) →
+    Says past p call (Got m a n) →
     contents (rec p call (Got m a n) payload ∷ past) q ≡ after_contents call payload
     (is_place q (called_queue past p call)) (Got m a n) (senders past q) (contents past q)
 contents-got past legal p call m a n payload q says =
@@ -132,8 +133,8 @@ contents-got past legal p call m a n payload q says =
     rw off (contents-same past r q (present-got_elsewhere past p call m a n payload got.queue q
     facts (λ is. eqb-false got.queue q d (sym is)))))
 
-pub contents-step : (past : Past) → Legal past → (p : ℕ) (call : Call) (reply : Reply)
-    (payload : List ℕ) (q : ℕ) → Says past p call reply →
+pub contents-step : (past : Past) → Legal past →
+    (p : ℕ) (call : Call) (reply : Reply) (payload : List ℕ) (q : ℕ) → Says past p call reply →
     contents (rec p call reply payload ∷ past) q ≡ after_contents call payload
     (is_place q (called_queue past p call)) reply (senders past q) (contents past q)
 contents-step past legal p call (Queued n) payload q says =
@@ -173,15 +174,13 @@ left (Some w) xs = newer xs
 
 abbrev pub after_senders : ℕ → Call → List ℕ → Bool → Reply → List (Option Sender) →
     List (Option Sender)
-after_senders p call payload on Waits ss = if is_send call && on then Some (record {
-  process = p;
-  message = message_of call payload;
-}) ∷ ss else ss
+after_senders p call payload on Waits ss = if is_send call && on
+    then Some (record { process = p; message = message_of call payload }) ∷ ss else ss
 after_senders p call payload on (Got m a n) ss = if on then left a ss else ss
 after_senders p call payload on reply ss = ss
 
-senders-same : (past : Past) (r : Record) (q : ℕ) → waiting_sends (r ∷ past) q ≡
-    waiting_sends past q → senders (r ∷ past) q ≡ senders past q
+senders-same : (past : Past) (r : Record) (q : ℕ) →
+    waiting_sends (r ∷ past) q ≡ waiting_sends past q → senders (r ∷ past) q ≡ senders past q
 senders-same past r q same = ap (λ (ks : List ℕ). map (at sender (r ∷ past)) ks) same ∙
     map-older sender past r (waiting_sends past q) (waiting_sends-below past q)
 
@@ -279,8 +278,9 @@ after_receivers p call on Waits rs = if is_receive call && on then Some p ∷ rs
 after_receivers p call on (Handed w) rs = if on then newer rs else rs
 after_receivers p call on reply rs = rs
 
-receivers-same : (past : Past) (r : Record) (q : ℕ) → waiting_receives (r ∷ past) q ≡
-    waiting_receives past q → receivers (r ∷ past) q ≡ receivers past q
+receivers-same : (past : Past) (r : Record) (q : ℕ) →
+    waiting_receives (r ∷ past) q ≡ waiting_receives past q →
+    receivers (r ∷ past) q ≡ receivers past q
 receivers-same past r q same = ap (λ (ks : List ℕ). map (at author (r ∷ past)) ks) same ∙
     map-older author past r (waiting_receives past q) (waiting_receives-below past q)
 
@@ -379,8 +379,8 @@ answers reply ss rs = None
 abbrev pub after_answer : ℕ → Call → List ℕ → Reply → List (Option Sender) → List (Option ℕ) → ℕ →
     Option (Option (Option Message)) → Option (Option (Option Message))
 after_answer p call payload (Collected b) ss rs k before = if p == k then None else before
-after_answer p call payload reply ss rs k before = if is_place k (answers reply ss rs) then Some
-    (Some (told_of call payload)) else before
+after_answer p call payload reply ss rs k before = if is_place k (answers reply ss rs)
+    then Some (Some (told_of call payload)) else before
 
 abbrev pub called : Past → ℕ → Call → ℕ
 called past p call = unwrap_or (called_queue past p call) 0
@@ -407,8 +407,8 @@ named-by past reply w p k named opens = grind (arith, eqb-true, eq-eqb, eqb-fals
 author-of : (past : Past) (w p : ℕ) → open_wait past p ≡ Some w → at author past w ≡ Some p
 author-of past w p opens = open_wait-process past p w opens
 
-pub sender-process : (past : Past) (w : ℕ) → option_map (λ (x : Sender). x.process)
-    (at sender past w) ≡ at author past w
+pub sender-process : (past : Past) (w : ℕ) →
+    option_map (λ (x : Sender). x.process) (at sender past w) ≡ at author past w
 sender-process past w = grind arith
 
 names-handed : (past : Past) → Legal past → (p : ℕ) (call : Call) (w : ℕ) (k : ℕ) →
@@ -459,8 +459,8 @@ abbrev pub is_collected : Reply → Bool
 is_collected (Collected b) = true
 is_collected _ = false
 
-pub answer-step : (past : Past) → Legal past → (p : ℕ) (call : Call) (reply : Reply)
-    (payload : List ℕ) (k : ℕ) → Says past p call reply →
+pub answer-step : (past : Past) → Legal past →
+    (p : ℕ) (call : Call) (reply : Reply) (payload : List ℕ) (k : ℕ) → Says past p call reply →
     (is_collected reply ≡ false → open_wait past p ≡ None) →
     answer (rec p call reply payload ∷ past) k ≡ after_answer p call payload reply
     (senders past (called past p call)) (receivers past (called past p call)) k (answer past k)

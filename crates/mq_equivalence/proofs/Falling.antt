@@ -84,8 +84,8 @@ map-lined rank f [] = refl
 map-lined rank f (x ∷ xs) = map-joined rank f x (lined (λ z. rank (f z)) xs) ∙
     ap (λ line. joined rank (f x) line) (map-lined rank f xs)
 
-length-joined : {X : Type 0} (rank : X → ℕ) (x : X) (line : List X) → length (joined rank x line) ≡
-    suc (length line)
+length-joined : {X : Type 0} (rank : X → ℕ) (x : X) (line : List X) →
+    length (joined rank x line) ≡ suc (length line)
 length-joined rank x [] = refl
 length-joined rank x (y ∷ line) = split (nat_le (rank x) (rank y))
     (λ t. rw t (ap suc (length-joined rank x line))) (λ n. rw n refl)
@@ -94,8 +94,8 @@ pub length-lined : {X : Type 0} (rank : X → ℕ) (xs : List X) → length (lin
 length-lined rank [] = refl
 length-lined rank (x ∷ xs) = length-joined rank x (lined rank xs) ∙ ap suc (length-lined rank xs)
 
-pub any-joined : {X : Type 0} (rank : X → ℕ) (x : X) (line : List X) → any (joined rank x line) ≡
-    true
+pub any-joined : {X : Type 0} (rank : X → ℕ) (x : X) (line : List X) →
+    any (joined rank x line) ≡ true
 any-joined rank x [] = refl
 any-joined rank x (y ∷ line) = split (nat_le (rank x) (rank y)) (λ t. rw t refl) (λ n. rw n refl)
 
@@ -114,15 +114,15 @@ below-joined n c line lt below = grind arith
 -- what joins behind the foremost leaves it where it is
 pub joined-behind : (c : Option Message) (line : List (Option Message)) → any line ≡ true →
     prio_of c ≤ prio_of (foremost line) →
-    (foremost (joined prio_of c line) ≡ foremost line) × (others (joined prio_of c line) ≡
-    joined prio_of c (others line))
+    (foremost (joined prio_of c line) ≡ foremost line) ×
+    (others (joined prio_of c line) ≡ joined prio_of c (others line))
 joined-behind c line some le = grind arith
 
 -- of these places b has the best message: of the highest priority the oldest
 pub record IsBest (f : ℕ → Option Message) (ks : List ℕ) (b : ℕ) : Type 0 where
   pub inside : is_in ks b ≡ true
-  pub first : (k : ℕ) → is_in ks k ≡ true → (prio_of (f k) < prio_of (f b)) ⊎
-      ((prio_of (f k) ≡ prio_of (f b)) × (b ≤ k))
+  pub first : (k : ℕ) → is_in ks k ≡ true →
+      (prio_of (f k) < prio_of (f b)) ⊎ ((prio_of (f k) ≡ prio_of (f b)) × (b ≤ k))
 
 pub in-cons : (k : ℕ) (ks : List ℕ) (j : ℕ) → is_in ks j ≡ true → is_in (k ∷ ks) j ≡ true
 in-cons k ks j h = split (k == j) (λ t. rw t refl) (λ f. rw (f, h) refl)

@@ -40,8 +40,8 @@ use Rattle.mq_state.proofs.QueuesKeep.{alive-below}
 
 -- a queue that is not yet created -----------------------------------------------------------------
 
-pub off-new : (past : Past) → Legal past → (e : Entry) (q : ℕ) → length past ≤ q → is_on past e q ≡
-    false
+pub off-new : (past : Past) → Legal past → (e : Entry) (q : ℕ) → length past ≤ q →
+    is_on past e q ≡ false
 off-new past legal e q le = by (called_queue past e.process e.call) refl
   where
     by : (o : Option ℕ) → called_queue past e.process e.call ≡ o →
@@ -191,15 +191,15 @@ module _ {received : Bool} (to : ℕ → ℕ) (x y : Past) (equivalent : AgreeUn
   pub called-both : called_queue y p call ≡ option_map to (called_queue x p call)
   called-both = by (descriptor_of call)
     where
-      queue-of : (o : Option Description) → option_map (λ (h : Description). h.queue)
-          (option_map (renumbered to) o) ≡
+      queue-of : (o : Option Description) →
+          option_map (λ (h : Description). h.queue) (option_map (renumbered to) o) ≡
           option_map to (option_map (λ (h : Description). h.queue) o)
       queue-of None = refl
       queue-of (Some h) = refl
 
-      by : (o : Option ℕ) → option_map (λ (h : Description). h.queue)
-          (option_and_then (held y p) o) ≡ option_map to (option_map (λ (h : Description). h.queue)
-          (option_and_then (held x p) o))
+      by : (o : Option ℕ) →
+          option_map (λ (h : Description). h.queue) (option_and_then (held y p) o) ≡
+          option_map to (option_map (λ (h : Description). h.queue) (option_and_then (held x p) o))
       by None = refl
       by (Some d) = ap (option_map (λ (h : Description). h.queue))
           (equivalent.structure.descriptors p d) ∙ queue-of (held x p d)
@@ -211,8 +211,8 @@ module _ {received : Bool} (to : ℕ → ℕ) (x y : Past) (equivalent : AgreeUn
       is_place q (called_queue x p call)
   on-old q inside = ap (is_place (to q)) called-both ∙ by (called_queue x p call) refl
     where
-      by : (o : Option ℕ) → called_queue x p call ≡ o → is_place (to q) (option_map to o) ≡
-          is_place q o
+      by : (o : Option ℕ) → called_queue x p call ≡ o →
+          is_place (to q) (option_map to o) ≡ is_place q o
       by None is = refl
       by (Some k) is = split (k == q)
           (λ t. rw t (eq-eqb (to k) (to q) (ap to (eqb-true _ _ t))))

@@ -25,8 +25,8 @@ exists (s ∷ past) k lt =
     (λ there. let ne : k ≡ length past → ⊥ = eqb-false _ _ there in let old = exists past k
     (omega arith) in (old.0, rw there old.1))
 
-pub nameless-none : (past : Past) (q : ℕ) → option_map (λ (r : Record). r.payload)
-    (record_at past q) ≡ None → bound_name past q ≡ None
+pub nameless-none : (past : Past) (q : ℕ) →
+    option_map (λ (r : Record). r.payload) (record_at past q) ≡ None → bound_name past q ≡ None
 nameless-none past q none = elim (cases_lt q (length past)) [
   | inl lt ↦ absurd (let found = exists past q lt in let is = sym
       (ap (option_map (λ (r : Record). r.payload)) found.1) ∙ none in cc)

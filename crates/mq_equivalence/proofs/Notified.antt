@@ -42,8 +42,8 @@ notifies past p call reply j says e = grind (arith, sends, receives)
 
 -- the registration that a call notifies
 abbrev pub notified_as : Past → ℕ → Call → Reply → Option Registered
-notified_as past p call reply = if is_some (notified reply) then option_and_then
-    (registered_as past) (called_queue past p call) else None
+notified_as past p call reply = if is_some (notified reply)
+    then option_and_then (registered_as past) (called_queue past p call) else None
 
 -- the notices of caller k's process, with that of this registration
 abbrev pub gain : Option Registered → ℕ → List ℕ → List ℕ
@@ -55,9 +55,9 @@ abbrev pub after_notices : ℕ → Bool → Option Registered → ℕ → List �
 after_notices p gives o k values = if gives && shares p k then drop 1 (gain o k values)
     else gain o k values
 
-brings : (past : Past) → Legal past → (p : ℕ) (call : Call) (reply : Reply) (payload : List ℕ)
-    (j : ℕ) → notified reply ≡ Some j → gives_notice reply ≡ false → Notifies past p call j →
-    (k : ℕ) →
+brings : (past : Past) → Legal past →
+    (p : ℕ) (call : Call) (reply : Reply) (payload : List ℕ) (j : ℕ) → notified reply ≡ Some j →
+    gives_notice reply ≡ false → Notifies past p call j → (k : ℕ) →
     notices (rec p call reply payload ∷ past) k ≡
     gain (option_and_then (registered_as past) (called_queue past p call)) k (notices past k)
 brings past legal p call reply payload j is quiet n k =
@@ -68,8 +68,8 @@ brings past legal p call reply payload j is quiet n k =
     (is ∙ ap Some (sym n.place)) quiet
     ∙ sym (ap (λ (o : Option Registered). gain o k (notices past k)) here)
 
-pub notices-step : (past : Past) → Legal past → (p : ℕ) (call : Call) (reply : Reply)
-    (payload : List ℕ) → Says past p call reply → (k : ℕ) →
+pub notices-step : (past : Past) → Legal past →
+    (p : ℕ) (call : Call) (reply : Reply) (payload : List ℕ) → Says past p call reply → (k : ℕ) →
     notices (rec p call reply payload ∷ past) k ≡ after_notices p (gives_notice reply)
     (notified_as past p call reply) k (notices past k)
 notices-step past legal p call (Queued (Some j)) payload says k = brings past legal p call

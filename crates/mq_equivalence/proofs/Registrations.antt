@@ -55,14 +55,15 @@ and-none : (b : Bool) → false ≡ (b && false)
 and-none b = grind arith
 
 place-told : (past : Past) (p : ℕ) (call : Call) (reply : Reply) (payload : List ℕ) →
-    IsLegalNext past (rec p call reply payload) → (q : ℕ) (n : Registration) → registered past q ≡
-    Some n →
+    IsLegalNext past (rec p call reply payload) → (q : ℕ) (n : Registration) →
+    registered past q ≡ Some n →
     is_place n.place (notified reply) ≡ (is_place q (called_queue past p call) && is_some
     (notified reply))
 place-told past p call reply payload next q n stands = by (notified reply) refl
   where
-    by : (o : Option ℕ) → notified reply ≡ o → is_place n.place (notified reply) ≡
-        (is_place q (called_queue past p call) && is_some (notified reply))
+    by : (o : Option ℕ) → notified reply ≡ o →
+        is_place n.place (notified reply) ≡ (is_place q (called_queue past p call) && is_some
+        (notified reply))
     by None is = rw is (and-none (is_place q (called_queue past p call)))
     by (Some j) is =
         let m = notifies past p call reply j (legal_says past (rec p call reply payload) next) is in
@@ -107,8 +108,8 @@ abbrev pub after_registered : Bool → ℕ → Call → Reply → Option Registe
 after_registered on p call reply before = over (only on (made p call reply))
     (left on p call reply before)
 
-view-over : (u v : Option Registration) → option_map viewed (or_else u v) ≡
-    over (option_map viewed u) (option_map viewed v)
+view-over : (u v : Option Registration) →
+    option_map viewed (or_else u v) ≡ over (option_map viewed u) (option_map viewed v)
 view-over u v = grind arith
 
 pub registered-step : (past : Past) (p : ℕ) (call : Call) (reply : Reply) (payload : List ℕ) →

@@ -24,8 +24,9 @@ origin : (ℕ → ℕ) → List ℕ → ℕ → ℕ
 origin to [] k = 0
 origin to (j ∷ qs) k = if to j == k then j else origin to qs k
 
-origin-is : (to : ℕ → ℕ) (qs : List ℕ) → ((i j : ℕ) → is_in qs i ≡ true → is_in qs j ≡ true → to i ≡
-    to j → i ≡ j) → (q : ℕ) → is_in qs q ≡ true → origin to qs (to q) ≡ q
+origin-is : (to : ℕ → ℕ) (qs : List ℕ) →
+    ((i j : ℕ) → is_in qs i ≡ true → is_in qs j ≡ true → to i ≡ to j → i ≡ j) → (q : ℕ) →
+    is_in qs q ≡ true → origin to qs (to q) ≡ q
 unfolding origin
 origin-is to [] once q h = absurd (cc)
 origin-is to (j ∷ qs) once q h = split (to j == to q)
@@ -63,16 +64,16 @@ module _ (x y : Past) (f : Equivalent x y) where
   back-is q inside = origin-is f.to (alive x) f.equivalent.structure.queues.once q inside
 
   -- queue k of y is queue `back k` of x, and has its number there
-  from : (k : ℕ) → is_in (alive y) k ≡ true → (is_in (alive x) (back k) ≡ true) ×
-      (f.to (back k) ≡ k)
+  from : (k : ℕ) → is_in (alive y) k ≡ true →
+      (is_in (alive x) (back k) ≡ true) × (f.to (back k) ≡ k)
   from k inside =
       let n = f.equivalent.structure.queues.every k inside in
       let is : back k ≡ n.0 = ap back (sym n.2) ∙ back-is n.0 n.1 in
       (subst (λ (q : ℕ). is_in (alive x) q ≡ true) (sym is) n.1, ap f.to is ∙ n.2)
 
   back-fact : {X : Type 0} (of_x of_y : ℕ → X) →
-      ((q : ℕ) → is_in (alive x) q ≡ true → of_y (f.to q) ≡ of_x q) → (k : ℕ) → is_in (alive y) k ≡
-      true → of_x (back k) ≡ of_y k
+      ((q : ℕ) → is_in (alive x) q ≡ true → of_y (f.to q) ≡ of_x q) → (k : ℕ) →
+      is_in (alive y) k ≡ true → of_x (back k) ≡ of_y k
   back-fact of_x of_y same k inside = let n = from k inside in sym (same (back k) n.0) ∙ ap of_y n.1
 
   name-back : (name : List ℕ) → bound_queue x name ≡ option_map back (bound_queue y name)

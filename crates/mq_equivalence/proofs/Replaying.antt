@@ -15,9 +15,9 @@ pub made-again : (past : Past) (r : Record) → IsLegalNext past r →
 made-again past r legal = grind (arith, nil-of)
 
 -- the call of a record of a legal journal, made again after those before it
-pub goes-again : (past : Past) (k : ℕ) (r : Record) → Legal past → first (k + 1) past ≡
-    r ∷ first k past → with_call (first k past) r.entry.process r.entry.call r.payload ≡
-    Some (first (k + 1) past)
+pub goes-again : (past : Past) (k : ℕ) (r : Record) → Legal past →
+    first (k + 1) past ≡ r ∷ first k past →
+    with_call (first k past) r.entry.process r.entry.call r.payload ≡ Some (first (k + 1) past)
 goes-again past k r legal is = grind (arith, legal-first, made-again)
 
 -- the trail of the first calls continues, and cannot stop there

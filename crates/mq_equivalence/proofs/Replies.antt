@@ -254,8 +254,8 @@ module _ {received : Bool} (to : ℕ → ℕ) (x y : Past) (equivalent : AgreeUn
   })
 
   -- notifies
-  registered-of : (p q k : ℕ) → registered_as y k ≡ registered_as x q → is_of p (registered y k) ≡
-      is_of p (registered x q)
+  registered-of : (p q k : ℕ) → registered_as y k ≡ registered_as x q →
+      is_of p (registered y k) ≡ is_of p (registered x q)
   registered-of p q k e = of-view (registered y k) ∙ ap view e ∙ sym (of-view (registered x q))
     where
       view : Option Registered → Bool
@@ -287,8 +287,9 @@ module _ {received : Bool} (to : ℕ → ℕ) (x y : Past) (equivalent : AgreeUn
       ap (λ (o : Option Description). outline (reply_to_notify y p o value))
       (equivalent.structure.descriptors p d) ∙ goes (held x p d) refl
     where
-      by : (h : Description) (value : Option ℕ) → registered_as y (to h.queue) ≡
-          registered_as x h.queue → outline (reply_to_notify y p (Some (renumbered to h)) value) ≡
+      by : (h : Description) (value : Option ℕ) →
+          registered_as y (to h.queue) ≡ registered_as x h.queue →
+          outline (reply_to_notify y p (Some (renumbered to h)) value) ≡
           outline (reply_to_notify x p (Some h) value)
       by h (Some v) e = λ i. outline (if registered-some x y h.queue (to h.queue) e i then
           Refused Busy else Done)
@@ -335,6 +336,6 @@ module _ {received : Bool} (to : ℕ → ℕ) (x y : Past) (equivalent : AgreeUn
   -- and it can be made after both, or after neither
   pub turn-equivalent : (p : ℕ) (call : Call) → may_call y p call ≡ may_call x p call
   turn-equivalent p Collect = answered-equivalent p
-  turn-equivalent p (Withdraw now) = λ i. unanswered-equivalent p i && is_over
-      (equivalent.deadlines p i) now
+  turn-equivalent p (Withdraw now) = λ i. unanswered-equivalent p i &&
+      is_over (equivalent.deadlines p i) now
   turn-equivalent p _ = free-equivalent p

@@ -33,7 +33,8 @@ next-equivalent to x y equivalent p call given next =
     ap shape (reply-equivalent to x y equivalent p call given) ∙ shape-outline a in
     grind (arith, nat_tests, payload-alike, payload-by, refused-alike, turn-equivalent)
   where
-    same-reply : (call : Call) (given : List ℕ) → reply_to y p call given ≡
+    same-reply : (call : Call) (given : List ℕ) →
+        reply_to y p call given ≡
         reply_to y p call (payload_of call (reply_to y p call given) given)
     same-reply (MqOpen flags attr) given = refl
     same-reply MqUnlink given = refl

@@ -38,8 +38,8 @@ falls-differ : (ks : List ℕ) → Falls ks → Differ ks
 falls-differ [] falls = tt
 falls-differ (k ∷ ks) falls = grind (arith, falls-differ ks falls.1)
 
-in-joined : (rank : ℕ → ℕ) (m : ℕ) (line : List ℕ) (k : ℕ) → is_in (joined rank m line) k ≡
-    is_in (m ∷ line) k
+in-joined : (rank : ℕ → ℕ) (m : ℕ) (line : List ℕ) (k : ℕ) →
+    is_in (joined rank m line) k ≡ is_in (m ∷ line) k
 in-joined rank m [] k = refl
 in-joined rank m (j ∷ line) k = grind (arith, in-joined rank m line k)
 
@@ -149,8 +149,9 @@ record SameQueue (received : Bool) (x y : Past) (q k : ℕ) : Type 0 where
   receiving : receivers x q ≡ receivers y k
   registered : registered_as x q ≡ registered_as y k
 
-told-queue : (received : Bool) (x y : Past) (q k : ℕ) (u v : List ℕ) → queue_code received x q ++
-    u ≡ queue_code received y k ++ v → SameQueue received x y q k × (u ≡ v)
+told-queue : (received : Bool) (x y : Past) (q k : ℕ) (u v : List ℕ) →
+    queue_code received x q ++ u ≡ queue_code received y k ++ v →
+    SameQueue received x y q k × (u ≡ v)
 told-queue received x y q k u v e =
     let n = optional bytes_code (bound_name x q) in
     let a = limits_code (attributes x q) in
@@ -198,8 +199,9 @@ holdings : List ℕ → Past → ℕ → ℕ → List ℕ
 holdings queues past p n = listed (optional (description_code queues))
     (map (held past p) (numbers_from 0 n))
 
-by-number : (queues : List ℕ) (past : Past) (p n : ℕ) → holdings queues past p n ≡
-    listed (λ d. optional (description_code queues) (held past p d)) (numbers_from 0 n)
+by-number : (queues : List ℕ) (past : Past) (p n : ℕ) →
+    holdings queues past p n ≡ listed (λ d. optional (description_code queues) (held past p d))
+    (numbers_from 0 n)
 unfolding holdings
 by-number queues past p n = listed-map (optional (description_code queues)) (held past p)
     (numbers_from 0 n)
@@ -266,8 +268,8 @@ told-process x y n m wide_x wide_y p u v e =
       held_is.1,
     )
   where
-    flatten : (a b c d h u : List ℕ) → (a ++ (b ++ (c ++ (d ++ h)))) ++ u ≡
-        a ++ (b ++ (c ++ (d ++ (h ++ u))))
+    flatten : (a b c d h u : List ℕ) →
+        (a ++ (b ++ (c ++ (d ++ h)))) ++ u ≡ a ++ (b ++ (c ++ (d ++ (h ++ u))))
     flatten a b c d h u = simp append_assoc
 
 idle-same : (x y : Past) (p : ℕ) → IsIdle x p → IsIdle y p → HasNothing x p → HasNothing y p →
@@ -305,8 +307,8 @@ above-same x y n p high_x high_y le each =
 by-name : (past : Past) (q : ℕ) → is_in (alive past) q ≡ true → is_in (queues_by_name past) q ≡ true
 by-name past q h = in-lined (name_rank past) (alive past) q ∙ h
 
-pub existing : (past : Past) (q : ℕ) → is_in (queues_by_name past) q ≡ true → is_in (alive past) q ≡
-    true
+pub existing : (past : Past) (q : ℕ) → is_in (queues_by_name past) q ≡ true →
+    is_in (alive past) q ≡ true
 existing past q h = sym (in-lined (name_rank past) (alive past) q) ∙ h
 
 names-differ : (past : Past) → Differ (queues_by_name past)
@@ -429,6 +431,6 @@ same-within received x y n m w v legal_x legal_y high_x high_y wide_x wide_y e =
     (leb-true _ _ t) processes.each)
     (λ f. processes.each p (omega (arith, leb-false _ _ f))))
 
-pub same-key : (received : Bool) (x y : Past) → Legal x → Legal y → key_if received x ≡
-    key_if received y → Agree received x y
+pub same-key : (received : Bool) (x y : Past) → Legal x → Legal y →
+    key_if received x ≡ key_if received y → Agree received x y
 same-key received x y legal_x legal_y e = grind (arith, same-within)

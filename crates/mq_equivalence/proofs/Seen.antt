@@ -15,8 +15,8 @@ use Rattle.mq_equivalence.proofs.Effects.{admitted_process, after_answer, after_
 use Rattle.mq_equivalence.proofs.Falling.{any, map-newer, oldest}
 use Rattle.mq_equivalence.proofs.Withdrawals.{senders_but, sends_as}
 
-pub length-seen : (received : Bool) (cs : List (Option Message)) → length (seen received cs) ≡
-    length cs
+pub length-seen : (received : Bool) (cs : List (Option Message)) →
+    length (seen received cs) ≡ length cs
 length-seen received cs = grind (arith, length-map)
 
 pub any-seen : (received : Bool) (cs : List (Option Message)) → any (seen received cs) ≡ any cs
@@ -60,8 +60,8 @@ after_seen true call payload on reply ss cs = after_contents call payload on rep
 after_seen false call payload on reply ss cs = unseen_after call on reply cs
 
 pub seen-after : (received : Bool) (call : Call) (payload : List ℕ) (on : Bool) (reply : Reply)
-    (ss : List (Option Sender)) (cs : List (Option Message)) → (received || not (is_got reply)) ≡
-    true →
+    (ss : List (Option Sender)) (cs : List (Option Message)) →
+    (received || not (is_got reply)) ≡ true →
     seen received (after_contents call payload on reply ss cs) ≡ after_seen received call payload on
     reply (seen_senders received ss) (seen received cs)
 seen-after received call payload on reply ss cs may = grind (arith, unseen-joined, message_of)
@@ -69,10 +69,8 @@ seen-after received call payload on reply ss cs may = grind (arith, unseen-joine
 -- sends that wait ---------------------------------------------------------------------------------
 
 abbrev unseen_waiting : ℕ → Call → Bool → Reply → List (Option Sender) → List (Option Sender)
-unseen_waiting p call on Waits ss = if is_send call && on then Some (record {
-  process = p;
-  message = record { prio = 0; bytes = [] };
-}) ∷ ss else ss
+unseen_waiting p call on Waits ss = if is_send call && on
+    then Some (record { process = p; message = record { prio = 0; bytes = [] } }) ∷ ss else ss
 unseen_waiting p call on (Got m a n) ss = if on then left a ss else ss
 unseen_waiting p call on reply ss = ss
 
@@ -95,8 +93,9 @@ seen-but false p (None ∷ ss) = ap (λ (rest : List (Option Sender)). None ∷ 
     (seen-but false p ss)
 seen-but false p (Some s ∷ ss) = grind (arith, sends_as, seen-but false p ss)
 
-oldest-process : (ss : List (Option Sender)) → option_map (λ (x : Sender). x.process)
-    (oldest (map (option_map unsent) ss)) ≡ option_map (λ (x : Sender). x.process) (oldest ss)
+oldest-process : (ss : List (Option Sender)) →
+    option_map (λ (x : Sender). x.process) (oldest (map (option_map unsent) ss)) ≡
+    option_map (λ (x : Sender). x.process) (oldest ss)
 oldest-process [] = refl
 oldest-process (None ∷ []) = refl
 oldest-process (Some s ∷ []) = refl

@@ -50,8 +50,8 @@ map-same f g (k ∷ ks) same = (λ i. same k (rw (eq-eqb k k refl) refl) i ∷ m
     (λ j h. same j (split (k == j) (λ y. rw y refl) (λ z. rw (z, h) refl))) i)
 
 -- what passes the second test passes the first
-filter-twice : (s t : ℕ → Bool) (xs : List ℕ) → ((k : ℕ) → is_in xs k ≡ true → t k ≡ true → s k ≡
-    true) → filter t xs ≡ filter t (filter s xs)
+filter-twice : (s t : ℕ → Bool) (xs : List ℕ) →
+    ((k : ℕ) → is_in xs k ≡ true → t k ≡ true → s k ≡ true) → filter t xs ≡ filter t (filter s xs)
 filter-twice s t [] both = refl
 filter-twice s t (x ∷ xs) both =
     let rest : filter t xs ≡ filter t (filter s xs) =
@@ -134,9 +134,9 @@ fewer-needed past r legal k lt e = split (is_named (r ∷ past) k)
         (λ g. let old : bound_queue past name ≡ Some k = rw (f, g) at b in
         named-by past name k old))
 
-    opened : (new : Bool) (flags : OpenFlags) (attr : Option Attr) (d : ℕ) → r.entry.call ≡
-        MqOpen flags attr → r.entry.reply ≡ Opened d new → opened_queue past r.payload new ≡ k →
-        is_needed past k ≡ true
+    opened : (new : Bool) (flags : OpenFlags) (attr : Option Attr) (d : ℕ) →
+        r.entry.call ≡ MqOpen flags attr → r.entry.reply ≡ Opened d new →
+        opened_queue past r.payload new ≡ k → is_needed past k ≡ true
     opened true flags attr d call reply q = let same : length past ≡ k = q in absurd (omega arith)
     opened false flags attr d call reply q =
         let old = opened-old past r legal flags attr d call reply in
@@ -155,9 +155,9 @@ fewer-needed past r legal k lt e = split (is_named (r ∷ past) k)
 
 -- the queues that exist after a record: of those before it the ones that are still needed, and the
 -- one that it creates
-pub alive-after : (past : Past) (r : Record) → Legal (r ∷ past) → alive (r ∷ past) ≡
-    (if creates r.entry.call r.entry.reply then length past ∷ filter (is_needed (r ∷ past))
-    (alive past) else filter (is_needed (r ∷ past)) (alive past))
+pub alive-after : (past : Past) (r : Record) → Legal (r ∷ past) →
+    alive (r ∷ past) ≡ (if creates r.entry.call r.entry.reply then length past ∷
+    filter (is_needed (r ∷ past)) (alive past) else filter (is_needed (r ∷ past)) (alive past))
 alive-after past r legal = grind (
   arith,
   is_needed,
@@ -193,8 +193,8 @@ needed-both : (x y : Past) (to : ℕ → ℕ) →
     ((name : List ℕ) → bound_queue y name ≡ option_map to (bound_queue x name)) →
     ((p d : ℕ) → held y p d ≡ option_map (renumbered to) (held x p d)) → (q : ℕ) →
     ((k : ℕ) → is_needed x k ≡ true → to k ≡ to q → k ≡ q) → is_needed y (to q) ≡ is_needed x q
-needed-both x y to names descriptors q one = λ i. named-both x y to names q one i || held-both x y
-    to descriptors q one i
+needed-both x y to names descriptors q one = λ i. named-both x y to names q one i ||
+    held-both x y to descriptors q one i
 
 -- replies of one shape ----------------------------------------------------------------------------
 
@@ -240,8 +240,8 @@ module _ (to : ℕ → ℕ) (x y : Past) (p : ℕ) (call : Call) (payload : List
   both-unlink : unlinks call b ≡ unlinks call a
   both-unlink = sym (unlinks-shape call b) ∙ ap (unlinks call) s.same ∙ unlinks-shape call a
 
-  names-stay : (name : List ℕ) → bound_queue (ry ∷ y) name ≡
-      option_map onto (bound_queue (rx ∷ x) name)
+  names-stay : (name : List ℕ) →
+      bound_queue (ry ∷ y) name ≡ option_map onto (bound_queue (rx ∷ x) name)
   names-stay name = split (creates call a && bytes_eq payload name)
       (λ t. let t' : (creates call b && bytes_eq payload name) ≡
       true = ap (λ c. c && bytes_eq payload name) both-create ∙ t in
@@ -263,8 +263,8 @@ module _ (to : ℕ → ℕ) (x y : Past) (p : ℕ) (call : Call) (payload : List
       (sym (old-number to (length x) (length y) h.queue (held-below x s.legal_x.0 k d h e))))
 
   open-queue : (flags : OpenFlags) (attr : Option Attr) (e : ℕ) (new : Bool) →
-      call ≡ MqOpen flags attr → a ≡ Opened e new → opened_queue y payload new ≡
-      onto (opened_queue x payload new)
+      call ≡ MqOpen flags attr → a ≡ Opened e new →
+      opened_queue y payload new ≡ onto (opened_queue x payload new)
   open-queue flags attr e true c is = sym (new-number to (length x) (length y))
   open-queue flags attr e false c is =
       let old = opened-old x rx s.legal_x flags attr e c is in
@@ -285,9 +285,9 @@ module _ (to : ℕ → ℕ) (x y : Past) (p : ℕ) (call : Call) (payload : List
   close-step (MqClose e) d = split (e == d) (λ t. rw t refl) (λ f. rw f (held-before p d))
   close-step c d = held-before p d
 
-  flag-moved : (nonblock : Bool) (o : Option Description) → option_map (with_nonblock nonblock)
-      (option_map (renumbered onto) o) ≡ option_map (renumbered onto)
-      (option_map (with_nonblock nonblock) o)
+  flag-moved : (nonblock : Bool) (o : Option Description) →
+      option_map (with_nonblock nonblock) (option_map (renumbered onto) o) ≡
+      option_map (renumbered onto) (option_map (with_nonblock nonblock) o)
   flag-moved nonblock None = refl
   flag-moved nonblock (Some h) = refl
 
@@ -314,8 +314,8 @@ module _ (to : ℕ → ℕ) (x y : Past) (p : ℕ) (call : Call) (payload : List
       ∙ own-step (shape a) refl d
       ∙ ap (option_map (renumbered onto)) (held-shape x call payload a d (held x p d))
 
-  descriptors-stay : (k d : ℕ) → held (ry ∷ y) k d ≡ option_map (renumbered onto)
-      (held (rx ∷ x) k d)
+  descriptors-stay : (k d : ℕ) →
+      held (ry ∷ y) k d ≡ option_map (renumbered onto) (held (rx ∷ x) k d)
   descriptors-stay k d = split (shares p k)
       (λ t. let mates = eqb-true _ _ t in rw (
         t,
@@ -328,8 +328,8 @@ module _ (to : ℕ → ℕ) (x y : Past) (p : ℕ) (call : Call) (payload : List
   number-below : (q : ℕ) → is_in (alive x) q ≡ true → to q < length y
   number-below q h = alive-below y (to q) (s.equivalent.queues.each q h)
 
-  was-alive : (q : ℕ) → (q == length x) ≡ false → is_needed (rx ∷ x) q ≡ true → is_in (alive x) q ≡
-      true
+  was-alive : (q : ℕ) → (q == length x) ≡ false → is_needed (rx ∷ x) q ≡ true →
+      is_in (alive x) q ≡ true
   was-alive q f needs =
       let more : q < length (rx ∷ x) = created-below (rx ∷ x) q
       (needed-created (rx ∷ x) s.legal_x q needs) in
@@ -349,8 +349,8 @@ module _ (to : ℕ → ℕ) (x y : Past) (p : ℕ) (call : Call) (payload : List
       let k_is : onto k ≡ to k = old-number to (length x) (length y) k (alive-below x k inside) in
       s.equivalent.queues.once k q inside h (sym k_is ∙ e ∙ q_is))
 
-  needed-onto : (q : ℕ) → is_in (alive x) q ≡ true → is_needed (ry ∷ y) (onto q) ≡
-      is_needed (rx ∷ x) q
+  needed-onto : (q : ℕ) → is_in (alive x) q ≡ true →
+      is_needed (ry ∷ y) (onto q) ≡ is_needed (rx ∷ x) q
   needed-onto q h = needed-both (rx ∷ x) (ry ∷ y) onto names-stay descriptors-stay q
       (λ k needs e. once k q needs h e)
 
@@ -434,8 +434,8 @@ module _ (to : ℕ → ℕ) (x y : Past) (p : ℕ) (call : Call) (payload : List
       (sym e))))
       (λ f. once p q (needed-alive (rx ∷ x) p hp) (was-alive q f (needed-alive (rx ∷ x) q hq)) e)
 
-  limits-stay : (q : ℕ) → is_in (alive (rx ∷ x)) q ≡ true → attributes (ry ∷ y) (onto q) ≡
-      attributes (rx ∷ x) q
+  limits-stay : (q : ℕ) → is_in (alive (rx ∷ x)) q ≡ true →
+      attributes (ry ∷ y) (onto q) ≡ attributes (rx ∷ x) q
   limits-stay q h = split (q == length x)
       (λ t. let here : q ≡ length x = eqb-true _ _ t in
       ap (attributes (ry ∷ y)) (ap onto here ∙ new-number to (length x) (length y)) ∙ newest y ry ∙

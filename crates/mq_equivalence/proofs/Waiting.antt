@@ -38,8 +38,8 @@ idle-answer : (past : Past) (p : ℕ) (call : Call) (reply : Reply) (payload : L
     after_answer p call payload reply [] [] k before
 idle-answer past p call reply payload ss rs k before says none = grind (arith, handed-all, got-all)
 
-pub none-given : (past : Past) (reply : Reply) → is_got reply ≡ false → message_given past reply ≡
-    None
+pub none-given : (past : Past) (reply : Reply) → is_got reply ≡ false →
+    message_given past reply ≡ None
 none-given past reply e = grind arith
 
 given-is : (past : Past) → Legal past → (p : ℕ) (call : Call) (reply : Reply) (payload : List ℕ) →
@@ -69,10 +69,10 @@ senders-of past legal p call reply payload is says turn q = grind (
   senders-withdrawn,
 )
 
-receivers-of : (past : Past) → Legal past → (p : ℕ) (call : Call) (reply : Reply)
-    (payload : List ℕ) → is_withdrawn reply ≡ true → Says past p call reply → may_call past p call ≡
-    true → (q : ℕ) → receivers (rec p call reply payload ∷ past) q ≡
-    receivers_but p (receivers past q)
+receivers-of : (past : Past) → Legal past →
+    (p : ℕ) (call : Call) (reply : Reply) (payload : List ℕ) → is_withdrawn reply ≡ true →
+    Says past p call reply → may_call past p call ≡ true → (q : ℕ) →
+    receivers (rec p call reply payload ∷ past) q ≡ receivers_but p (receivers past q)
 receivers-of past legal p call reply payload is says turn q = grind (
   arith,
   withdrawn-open,
@@ -250,21 +250,21 @@ module _ {received : Bool} (to : ℕ → ℕ) (x y : Past) (equivalent : AgreeUn
   queue-both : called_queue y p call ≡ option_map to (called_queue x p call)
   queue-both = by (descriptor_of call)
     where
-      queue-of : (o : Option Description) → option_map (λ (h : Description). h.queue)
-          (option_map (renumbered to) o) ≡
+      queue-of : (o : Option Description) →
+          option_map (λ (h : Description). h.queue) (option_map (renumbered to) o) ≡
           option_map to (option_map (λ (h : Description). h.queue) o)
       queue-of None = refl
       queue-of (Some h) = refl
 
-      by : (o : Option ℕ) → option_map (λ (h : Description). h.queue)
-          (option_and_then (held y p) o) ≡ option_map to (option_map (λ (h : Description). h.queue)
-          (option_and_then (held x p) o))
+      by : (o : Option ℕ) →
+          option_map (λ (h : Description). h.queue) (option_and_then (held y p) o) ≡
+          option_map to (option_map (λ (h : Description). h.queue) (option_and_then (held x p) o))
       by None = refl
       by (Some d) = ap (option_map (λ (h : Description). h.queue))
           (equivalent.structure.descriptors p d) ∙ queue-of (held x p d)
 
-  found-both : (a : Reply) → is_got a ≡ true → Says x p call a → contents y (called y p call) ≡
-      contents x (called x p call)
+  found-both : (a : Reply) → is_got a ≡ true → Says x p call a →
+      contents y (called y p call) ≡ contents x (called x p call)
   found-both a e says =
       let g = the-got a e in
       let got = got-all x p call g.place g.admitted g.notified (subst (Says x p call) g.is says) in

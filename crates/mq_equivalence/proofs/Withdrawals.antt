@@ -20,8 +20,8 @@ use Rattle.mq_equivalence.specs.Views.{Sender, answer, at, author, receivers, se
 use Rattle.mq_equivalence.proofs.Changes.{map-older, waiting_receives-below, waiting_sends-below}
 use Rattle.mq_equivalence.proofs.Effects.{answer-older}
 
-filter-map : {X : Type 0} (f : ℕ → X) (t : X → Bool) (ks : List ℕ) → filter t (map f ks) ≡
-    map f (filter (λ k. t (f k)) ks)
+filter-map : {X : Type 0} (f : ℕ → X) (t : X → Bool) (ks : List ℕ) →
+    filter t (map f ks) ≡ map f (filter (λ k. t (f k)) ks)
 filter-map f t [] = refl
 filter-map f t (k ∷ ks) = split (t (f k)) (λ y. rw (y, filter-map f t ks) refl)
     (λ n. rw (n, filter-map f t ks) refl)

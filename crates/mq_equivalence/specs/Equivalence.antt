@@ -18,8 +18,7 @@ use Rattle.mq_equivalence.specs.Outline.{outline}
 -- x is queue `to q` of y. The names, the descriptors and the queues are the same. Each queue has
 -- the same messages in the order of receipt, and the same waits and registration. Each process has
 -- the same notices, and the same open wait: its buffer length (0 for a send), its deadline, and
--- what
--- answered it. If `received` is false no receive is to come, and only the number of messages
+-- what answered it. If `received` is false no receive is to come, and only the number of messages
 -- counts.
 pub record AgreeUnder (received : Bool) (to : Queue → Queue) (x y : Past) : Type 0 where
   pub legal : Legal x × Legal y

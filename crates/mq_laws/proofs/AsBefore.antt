@@ -50,13 +50,13 @@ held-as (r ∷ past) all p d few =
     ∙ ap (λ (o : Option Description). if r.entry.process == p then held_after past r.entry.call
     r.payload r.entry.reply d o else o) (held-as past (tail r past all) p d few)
 
-free-as : (past : Past) → AreFirst past → (p : ℕ) → p ≤ 32 → lowest_free past p ≡
-    one.lowest_free past p
+free-as : (past : Past) → AreFirst past → (p : ℕ) → p ≤ 32 →
+    lowest_free past p ≡ one.lowest_free past p
 free-as past all p few = find-same (λ d. is_none (held past p d)) (λ d. is_none (one.held past p d))
     descriptor_numbers (λ d. ap is_none (held-as past all p d few))
 
-held_numbers-as : (past : Past) → AreFirst past → (p : ℕ) → p ≤ 32 → lowest_held past p ≡
-    one.lowest_held past p
+held_numbers-as : (past : Past) → AreFirst past → (p : ℕ) → p ≤ 32 →
+    lowest_held past p ≡ one.lowest_held past p
 held_numbers-as past all p few = find-same (λ d. is_some (held past p d))
     (λ d. is_some (one.held past p d)) descriptor_numbers
     (λ d. ap is_some (held-as past all p d few))
@@ -104,8 +104,8 @@ alive-as past all = filter-same (λ q. is_named past q || is_held past q)
 
 -- messages and waits ------------------------------------------------------------------------------
 
-blocked_sends-as : (past : Past) → AreFirst past → (q : ℕ) → blocked_sends past q ≡
-    one.blocked_sends past q
+blocked_sends-as : (past : Past) → AreFirst past → (q : ℕ) →
+    blocked_sends past q ≡ one.blocked_sends past q
 blocked_sends-as [] all q = refl
 blocked_sends-as (r ∷ past) all q =
     ap (λ (b : Bool). if blocks_send r.entry.call r.entry.reply && b then length past ∷
@@ -114,8 +114,8 @@ blocked_sends-as (r ∷ past) all q =
     ∙ ap (λ (xs : List ℕ). if blocks_send r.entry.call r.entry.reply && one.is_on past r.entry q
     then length past ∷ xs else xs) (blocked_sends-as past (tail r past all) q)
 
-blocked_receives-as : (past : Past) → AreFirst past → (q : ℕ) → blocked_receives past q ≡
-    one.blocked_receives past q
+blocked_receives-as : (past : Past) → AreFirst past → (q : ℕ) →
+    blocked_receives past q ≡ one.blocked_receives past q
 blocked_receives-as [] all q = refl
 blocked_receives-as (r ∷ past) all q =
     ap (λ (b : Bool). if blocks_receive r.entry.call r.entry.reply && b then length past ∷
@@ -128,8 +128,8 @@ sends-as : (past : Past) → AreFirst past → (q : ℕ) → waiting_sends past 
 sends-as past all q = ap (filter (λ (w : ℕ). not (is_in (ended_sends past) w)))
     (blocked_sends-as past all q)
 
-receives-as : (past : Past) → AreFirst past → (q : ℕ) → waiting_receives past q ≡
-    one.waiting_receives past q
+receives-as : (past : Past) → AreFirst past → (q : ℕ) →
+    waiting_receives past q ≡ one.waiting_receives past q
 receives-as past all q = ap (filter (λ (w : ℕ). not (is_in (ended_receives past) w)))
     (blocked_receives-as past all q)
 
@@ -156,8 +156,8 @@ handed-as (r ∷ past) all q =
     ∙ ap (λ (xs : List ℕ). if hands_over r.entry.call r.entry.reply && one.is_on past r.entry q then
     length past ∷ xs else xs) (handed-as past (tail r past all) q)
 
-accepted-as : (past : Past) → AreFirst past → (q m : ℕ) → is_accepted past q m ≡
-    one.is_accepted past q m
+accepted-as : (past : Past) → AreFirst past → (q m : ℕ) →
+    is_accepted past q m ≡ one.is_accepted past q m
 accepted-as past all q m =
     ap (λ (xs : List ℕ). is_in xs m || is_in (handed past q) m) (admitted-as past all q)
     ∙ ap (λ (xs : List ℕ). is_in (one.admitted past q) m || is_in xs m) (handed-as past all q)
@@ -189,8 +189,8 @@ or-else-cases None b n e here old = old e
 or-else-cases (Some m) b n e here old = here e
 
 -- a registration is one of a first thread
-registered-few : (past : Past) → AreFirst past → (q : ℕ) (n : Registration) → registered past q ≡
-    Some n → n.process ≤ 32
+registered-few : (past : Past) → AreFirst past → (q : ℕ) (n : Registration) →
+    registered past q ≡ Some n → n.process ≤ 32
 registered-few [] all q n e = absurd (cc)
 registered-few (r ∷ past) all q n e =
     or-else-cases (only_if (is_on past r.entry q) (registration_of (length past) r.entry.process
@@ -209,15 +209,15 @@ ends-as on e n x y = ap (λ (b : Bool). is_place n.place (notified e.reply) ||
     (shares_own e.process n.process x y)
 
 after-as : (on : Bool) (here : ℕ) (e : Entry) (o : Option Registration) → e.process ≤ 32 →
-    ((n : Registration) → o ≡ Some n → n.process ≤ 32) → registration_after on here e o ≡
-    one.registration_after on here e o
+    ((n : Registration) → o ≡ Some n → n.process ≤ 32) →
+    registration_after on here e o ≡ one.registration_after on here e o
 after-as on here e None few each = refl
 after-as on here e (Some n) few each =
     ap (λ (b : Bool). or_else (only_if on (registration_of here e.process e.call e.reply))
     (if b then None else Some n)) (ends-as on e n few (each n refl))
 
-pub registered-as : (past : Past) → AreFirst past → (q : ℕ) → registered past q ≡
-    one.registered past q
+pub registered-as : (past : Past) → AreFirst past → (q : ℕ) →
+    registered past q ≡ one.registered past q
 registered-as [] all q = refl
 registered-as (r ∷ past) all q =
     after-as (is_on past r.entry q) (length past) r.entry (registered past q) (head r past all)
@@ -227,8 +227,8 @@ registered-as (r ∷ past) all q =
     ∙ ap (one.registration_after (one.is_on past r.entry q) (length past) r.entry)
     (registered-as past (tail r past all) q)
 
-place-as : (past : Past) → AreFirst past → (q : ℕ) → registered_place past q ≡
-    one.registered_place past q
+place-as : (past : Past) → AreFirst past → (q : ℕ) →
+    registered_place past q ≡ one.registered_place past q
 place-as past all q = ap (option_map (λ (n : Registration). n.place)) (registered-as past all q)
 
 at-first : (past : Past) → AreFirst past → (k : ℕ) (r : Record) → record_at past k ≡ Some r →
@@ -240,8 +240,8 @@ at-first (s ∷ past) all k r e = split (k == length past)
     (λ f. let old : record_at past k ≡ Some r = rw f at e in at-first past
     (tail s past all) k r old)
 
-given-as : (past : Past) → AreFirst past → (p : ℕ) → p ≤ 32 → notices_given past p ≡
-    one.notices_given past p
+given-as : (past : Past) → AreFirst past → (p : ℕ) → p ≤ 32 →
+    notices_given past p ≡ one.notices_given past p
 given-as [] all p few = refl
 given-as (r ∷ past) all p few =
     ap (λ (b : Bool). if gives_notice r.entry.reply && b then notices_given past p + 1 else
@@ -259,8 +259,8 @@ value-as past all p few (Some k) = by (record_at past k) refl
     by (Some r) is = ap (λ (b : Bool). if b then value_of_notify r.entry.call else None)
         (shares_own r.entry.process p (at-first past all k r is) few)
 
-values-as : (past : Past) → AreFirst past → (p : ℕ) → p ≤ 32 → values_notified past p ≡
-    one.values_notified past p
+values-as : (past : Past) → AreFirst past → (p : ℕ) → p ≤ 32 →
+    values_notified past p ≡ one.values_notified past p
 values-as [] all p few = refl
 values-as (r ∷ past) all p few =
     ap (λ (xs : List ℕ). xs ++ option_to_list (value_notified past p (notified r.entry.reply)))
@@ -280,8 +280,8 @@ of-as p few None each = refl
 of-as p few (Some n) each = shares_own n.process p (each n refl) few
 
 notify-as : (past : Past) → AreFirst past → (p : ℕ) → p ≤ 32 →
-    (o : Option Description) (value : Option ℕ) → reply_to_notify past p o value ≡
-    one.reply_to_notify past p o value
+    (o : Option Description) (value : Option ℕ) →
+    reply_to_notify past p o value ≡ one.reply_to_notify past p o value
 notify-as past all p few None value = refl
 notify-as past all p few (Some h) (Some v) =
     ap (λ (o : Option Registration). if is_some o then Refused Busy else Done)
@@ -330,8 +330,8 @@ status past h count = record {
   count = count;
 }
 
-sent-as : (past : Past) → AreFirst past → (h : Description) → send_facts past h ≡
-    one.send_facts past h
+sent-as : (past : Past) → AreFirst past → (h : Description) →
+    send_facts past h ≡ one.send_facts past h
 sent-as past all h =
     ap (λ (xs : List ℕ). sent past h (length xs) (least (waiting_receives past h.queue))
     (registered_place past h.queue)) (present-as past all h.queue)
@@ -340,8 +340,8 @@ sent-as past all h =
     ∙ ap (λ (o : Option ℕ). sent past h (length (one.present past h.queue))
     (least (one.waiting_receives past h.queue)) o) (place-as past all h.queue)
 
-got-as : (past : Past) → AreFirst past → (h : Description) → receive_facts past h ≡
-    one.receive_facts past h
+got-as : (past : Past) → AreFirst past → (h : Description) →
+    receive_facts past h ≡ one.receive_facts past h
 got-as past all h =
     ap (λ (xs : List ℕ). got past h (length xs) (best past h.queue)
     (least (waiting_sends past h.queue)) (registered_place past h.queue))
@@ -354,8 +354,8 @@ got-as past all h =
     ∙ ap (λ (o : Option ℕ). got past h (length (one.present past h.queue)) (one.best past h.queue)
     (least (one.waiting_sends past h.queue)) o) (place-as past all h.queue)
 
-status-as : (past : Past) → AreFirst past → (h : Description) → status_facts past h ≡
-    one.status_facts past h
+status-as : (past : Past) → AreFirst past → (h : Description) →
+    status_facts past h ≡ one.status_facts past h
 status-as past all h = ap (λ (xs : List ℕ). status past h (length xs)) (present-as past all h.queue)
 
 send-by : (past : Past) → AreFirst past → (o : Option Description) (prio len : ℕ) →

@@ -35,8 +35,9 @@ pub has-older : (part : Reply → Option ℕ) (past : Past) (r : Record) (k m : 
 has-older part past r k m e = grind (arith, has-record, record_at-older, record_at-below)
 
 -- a part that implies another
-pub has-also : (part other : Reply → Option ℕ) → ((reply : Reply) (m : ℕ) → part reply ≡ Some m →
-    other reply ≡ Some m) → (past : Past) (k m : ℕ) → Has part past k m → Has other past k m
+pub has-also : (part other : Reply → Option ℕ) →
+    ((reply : Reply) (m : ℕ) → part reply ≡ Some m → other reply ≡ Some m) →
+    (past : Past) (k m : ℕ) → Has part past k m → Has other past k m
 has-also part other implies past k m e = grind (arith, has-record)
 
 named-ends : (reply : Reply) (w : ℕ) → named_wait reply ≡ Some w → ended_wait reply ≡ Some w
@@ -64,8 +65,8 @@ ended-open : (past : Past) (r : Record) → Legal past → IsLegalNext past r �
     ended_wait r.entry.reply ≡ Some w → IsUnanswered past w
 ended-open past r legal next w e = by r.entry.reply (legal_says past r next) e
   where
-    by : (reply : Reply) → Says past r.entry.process r.entry.call reply → ended_wait reply ≡
-        Some w → IsUnanswered past w
+    by : (reply : Reply) → Says past r.entry.process r.entry.call reply →
+        ended_wait reply ≡ Some w → IsUnanswered past w
     by (Handed k) says e =
         let same : k ≡ w = cc in
         let x = hands-least past r.entry.process r.entry.call k says in
@@ -171,8 +172,8 @@ send-ended (r ∷ past) w h = by (λ old. send-ended past w old) (ends_send r.en
     older (k, inl e) = (k, inl (has-older admits past r k w e))
     older (k, inr e) = (k, inr (has-older withdrawn_wait past r k w e))
 
-    ways : (reply : Reply) → ends_send reply ≡ Some w → (admits reply ≡ Some w) ⊎
-        (withdrawn_wait reply ≡ Some w)
+    ways : (reply : Reply) → ends_send reply ≡ Some w →
+        (admits reply ≡ Some w) ⊎ (withdrawn_wait reply ≡ Some w)
     ways (Got m a n) e = inl e
     ways (Withdrawn v) e = inr e
     ways reply e = absurd (cc)
@@ -252,8 +253,8 @@ handed-at (r ∷ past) q m h = split (hands_over r.entry.call r.entry.reply && i
     older x = (x.0, reply-older past r m (Handed x.0) x.1)
 
 -- a message that entered a queue was not handed over
-pub admitted-not_handed : (past : Past) → Legal past → (q m w : ℕ) → is_in (admitted past q) m ≡
-    true → reply_at past m ≡ Some (Handed w) → ⊥
+pub admitted-not_handed : (past : Past) → Legal past → (q m w : ℕ) →
+    is_in (admitted past q) m ≡ true → reply_at past m ≡ Some (Handed w) → ⊥
 admitted-not_handed past legal q m w h e = grind (arith, admitted-entered, ended-blocked, has-named)
 
 -- a send that is withdrawn is not accepted

@@ -97,8 +97,8 @@ notified-standing : (past : Past) (r : Record) → IsLegalNext past r → (k : �
     notified r.entry.reply ≡ Some k → IsStanding past k
 notified-standing past r next k e = by r.entry.call r.entry.reply (legal_says past r next) e
   where
-    by : (call : Call) (reply : Reply) → Says past r.entry.process call reply → notified reply ≡
-        Some k → IsStanding past k
+    by : (call : Call) (reply : Reply) → Says past r.entry.process call reply →
+        notified reply ≡ Some k → IsStanding past k
     by (MqSend d prio len) (Queued n) says e = standing-if past says.0.queue k
         (length (present past says.0.queue) == 0) n says.3.2 e
     by (MqTimedSend d prio len until now) (Queued n) says e = standing-if past says.0.queue k
@@ -199,8 +199,8 @@ answered-named (r ∷ past) p by e = split (r.entry.process == p)
     is-named None w t = absurd (cc)
     is-named (Some k) w t = ap Some (eqb-true _ _ t)
 
-    named : (r.entry.process == p) ≡ false → length past ≡ by → (o : Option ℕ) → open_wait past p ≡
-        o → names_wait r.entry.reply o ≡ true → IsNamedBy (r ∷ past) p by
+    named : (r.entry.process == p) ≡ false → length past ≡ by → (o : Option ℕ) →
+        open_wait past p ≡ o → names_wait r.entry.reply o ≡ true → IsNamedBy (r ∷ past) p by
     named other place None is t = absurd (cc)
     named other place (Some w) is t =
         let P : ℕ → Type 0 = λ k. Has named_wait (r ∷ past) k w in
@@ -216,8 +216,8 @@ pub record IsCollected (past : Past) (r : Record) (by : ℕ) : Type 0 where
   pub answered : answered_by past r.entry.process ≡ Some by
   pub reply : r.entry.reply ≡ Collected by
 
-pub collected : (past : Past) (r : Record) → IsLegalNext past r → (by : ℕ) → cause r.entry.reply ≡
-    Some by → IsCollected past r by
+pub collected : (past : Past) (r : Record) → IsLegalNext past r → (by : ℕ) →
+    cause r.entry.reply ≡ Some by → IsCollected past r by
 collected past r next by e = grind (arith, legal_says, Says)
 
 pub cause-below : (past : Past) → Legal past → (j by : ℕ) → Has cause past j by → by < length past

@@ -86,8 +86,9 @@ needed-before past r legal q lt e = split (is_named (r ∷ past) q)
         refl
 
 -- a queue that does not exist does not exist after one more record
-gone-next : (past : Past) (r : Record) → Legal (r ∷ past) → (q : ℕ) → is_in (created past) q ≡
-    true → is_in (alive past) q ≡ false → is_in (alive (r ∷ past)) q ≡ false
+gone-next : (past : Past) (r : Record) → Legal (r ∷ past) → (q : ℕ) →
+    is_in (created past) q ≡ true → is_in (alive past) q ≡ false →
+    is_in (alive (r ∷ past)) q ≡ false
 gone-next past r legal q made gone = search (
   rules,
   false_from_ne_true,

@@ -28,8 +28,8 @@ use Rattle.mq_model.specs.declared.entries.Call.TheVariants.{MqSend, MqReceive, 
 use Rattle.mq_model.specs.declared.entries.Reply.{Reply}
 use Rattle.mq_model.specs.declared.entries.Reply.TheVariants.{Got}
 
-called-receive : (past : Past) (p d : ℕ) (call : Call) (h : Description) → descriptor_of call ≡
-    Some d → held past p d ≡ Some h → called_queue past p call ≡ Some h.queue
+called-receive : (past : Past) (p d : ℕ) (call : Call) (h : Description) →
+    descriptor_of call ≡ Some d → held past p d ≡ Some h → called_queue past p call ≡ Some h.queue
 called-receive past p d call h c e = rw (c, e) refl
 
 -- what a receive got was the best message of its queue
@@ -54,8 +54,8 @@ record IsHeldWith (past : Past) (p d : ℕ) (passes : Description → Bool) : Ty
 
 -- the reply tells a send, or a receive, what its descriptor is
 send-says : (past : Past) (p d : ℕ) (call : Call) (reply : Reply) → is_send call ≡ true →
-    descriptor_of call ≡ Some d → Says past p call reply → (prio : ℕ) × (len : ℕ) × SendSays past
-    (held past p d) prio len reply
+    descriptor_of call ≡ Some d → Says past p call reply →
+    (prio : ℕ) × (len : ℕ) × SendSays past (held past p d) prio len reply
 send-says past p d (MqSend x prio len) reply s e says = let same : x ≡ d =
     cc in (prio, len, rw (← same) says)
 send-says past p d (MqTimedSend x prio len until now) reply s e says = let same : x ≡ d =

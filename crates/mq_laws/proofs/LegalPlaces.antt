@@ -9,8 +9,8 @@ use Rattle.mq_model.proofs.Places.{split}
 use Rattle.mq_model.proofs.Prefixes.{record_at-below, first-all}
 
 -- the first records of a longer journal
-pub first-older : (past : Past) (r : Record) (k : ℕ) → k ≤ length past → first k (r ∷ past) ≡
-    first k past
+pub first-older : (past : Past) (r : Record) (k : ℕ) → k ≤ length past →
+    first k (r ∷ past) ≡ first k past
 first-older past r k le = let less : suc (length past) - k ≡ suc (length past - k) = omega arith in
     rw less refl
 
@@ -56,8 +56,8 @@ pub has-record : (part : Reply → Option ℕ) (past : Past) (k m : ℕ) → Has
     HasRecord part past k m
 has-record part past k m e = grind arith
 
-pub has-here : (part : Reply → Option ℕ) (past : Past) (r : Record) (m : ℕ) → part r.entry.reply ≡
-    Some m → Has part (r ∷ past) (length past) m
+pub has-here : (part : Reply → Option ℕ) (past : Past) (r : Record) (m : ℕ) →
+    part r.entry.reply ≡ Some m → Has part (r ∷ past) (length past) m
 has-here part past r m e = rw (eq-eqb (length past) (length past) refl) e
 
 -- a reply is that of the latest record, or of an earlier one

@@ -25,12 +25,12 @@ pub not-before : (past : Past) (k : ℕ) → is_in (ended past) k ≡ false →
     is_in (ended_before past) k ≡ false
 not-before past k e = grind arith
 
-not-last : (past : Past) (k : ℕ) → is_in (ended past) k ≡ false → is_place k (ended_last past) ≡
-    false
+not-last : (past : Past) (k : ℕ) → is_in (ended past) k ≡ false →
+    is_place k (ended_last past) ≡ false
 not-last past k e = grind arith
 
-pub alive-created : (past : Past) (q : ℕ) → is_in (alive past) q ≡ true → is_in (created past) q ≡
-    true
+pub alive-created : (past : Past) (q : ℕ) → is_in (alive past) q ≡ true →
+    is_in (created past) q ≡ true
 alive-created past q h = (is_in-filter (λ x. is_named past x || is_held past x)
     (created past) q h).0
 
@@ -87,8 +87,8 @@ enough-push past r Keeps Keeps' legal new old enough k needed =
     grind (arith, eqb-true, not-last, not-before, alive-older, home-below)
 
 -- what is lost with a queue that no longer exists may be dropped
-pub enough-forget : (past : Past) (q : ℕ) (Keeps Keeps' : ℕ → Type 0) → is_in (alive past) q ≡
-    false →
+pub enough-forget : (past : Past) (q : ℕ) (Keeps Keeps' : ℕ → Type 0) →
+    is_in (alive past) q ≡ false →
     ((k : ℕ) → home past k ≢ Some q → Keeps k → Keeps' k) → IsEnough past Keeps →
     IsEnough past Keeps'
 enough-forget past q Keeps Keeps' gone others enough k needed = grind (arith, clash)

@@ -24,8 +24,8 @@ use Rattle.mq_laws.proofs.Needing.{not-before, alive-created}
 
 -- how an entry was ended
 abbrev Ways : Past → ℕ → Type 0
-Ways past k = (j : ℕ) × (Has message_given past j k ⊎
-    (Has cause past j k ⊎ Has withdrawn_wait past j k))
+Ways past k = (j : ℕ) ×
+    (Has message_given past j k ⊎ (Has cause past j k ⊎ Has withdrawn_wait past j k))
 
 ended-ways : (past : Past) (k : ℕ) → is_in (ended past) k ≡ true → Ways past k
 ended-ways [] k h = absurd (cc)
@@ -72,8 +72,9 @@ going past legal k unnamed untaken open_still = false_from_ne_true _ (λ h. by (
     by (j, inr (inr e)) = open_still j e
 
 -- a send that entered a queue, or still waits, is lost with that queue only
-home-sent : (past : Past) (m q : ℕ) (reply : Reply) → sent_to past m ≡ Some q → reply_at past m ≡
-    Some reply → (((n : Option ℕ) × (reply ≡ Queued n)) ⊎ (reply ≡ Waits)) → home past m ≡ Some q
+home-sent : (past : Past) (m q : ℕ) (reply : Reply) → sent_to past m ≡ Some q →
+    reply_at past m ≡ Some reply → (((n : Option ℕ) × (reply ≡ Queued n)) ⊎ (reply ≡ Waits)) →
+    home past m ≡ Some q
 home-sent [] m q reply to at how = absurd (cc)
 home-sent (r ∷ past) m q reply to at how = split (m == length past)
     (λ t. let is : Some r.entry.reply ≡ Some reply = rw t at at in let same : r.entry.reply ≡
@@ -101,9 +102,9 @@ queued-unnamed : (past : Past) (m w : ℕ) (reply : Reply) → reply_at past m �
     (((n : Option ℕ) × (reply ≡ Queued n)) ⊎ (reply ≡ Waits)) → Has named_wait past m w → ⊥
 queued-unnamed past m w reply = grind arith
 
-kept-sent : (past : Past) (q m : ℕ) (x : IsSentTo past q m) (reply : Reply) → reply_at past m ≡
-    Some reply → (((n : Option ℕ) × (reply ≡ Queued n)) ⊎ (reply ≡ Waits)) → is_kept_at past m ≡
-    true
+kept-sent : (past : Past) (q m : ℕ) (x : IsSentTo past q m) (reply : Reply) →
+    reply_at past m ≡ Some reply → (((n : Option ℕ) × (reply ≡ Queued n)) ⊎ (reply ≡ Waits)) →
+    is_kept_at past m ≡ true
 kept-sent past q m x reply at how = grind arith
 
 -- the reply of a send that entered a queue
@@ -237,8 +238,8 @@ made-at (r ∷ past) q h = split (creates r.entry.call r.entry.reply)
         (λ e. omega (arith, e, lt)) in
         record { d = x.d; reply = rw old x.reply; at_home = rw old x.at_home }
 
-    here : length past ≡ q → (reply : Reply) → r.entry.reply ≡ reply → creates r.entry.call reply ≡
-        true → IsMadeAt (r ∷ past) q
+    here : length past ≡ q → (reply : Reply) → r.entry.reply ≡ reply →
+        creates r.entry.call reply ≡ true → IsMadeAt (r ∷ past) q
     here same (Opened d true) is t = let now : (q == length past) ≡ true =
         eq-eqb q (length past) (sym same) in
         record { d = d; reply = rw now (ap Some is); at_home = rw (now, is) (ap Some same) }

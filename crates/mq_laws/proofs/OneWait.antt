@@ -97,9 +97,9 @@ since-wait (s ∷ past) legal j p r at own waits = split (j == length past)
         ))
         (λ other. inl (rw other still))
 
-between : (past : Past) → Legal past → (j k : ℕ) (r s : Record) → j < k → record_at past j ≡
-    Some r → r.entry.reply ≡ Waits → record_at past k ≡ Some s → s.entry.process ≡ r.entry.process →
-    (m : ℕ) × (j < m) × (m ≤ k) × IsEndAt past m r.entry.process
+between : (past : Past) → Legal past → (j k : ℕ) (r s : Record) → j < k →
+    record_at past j ≡ Some r → r.entry.reply ≡ Waits → record_at past k ≡ Some s →
+    s.entry.process ≡ r.entry.process → (m : ℕ) × (j < m) × (m ≤ k) × IsEndAt past m r.entry.process
 between past legal j k r s lt first_at waits at same =
     by (since-wait (first k past) here.before j r.entry.process r (record_at-first past k j lt
     (omega (arith, below)) ∙ first_at) refl waits)
@@ -110,8 +110,8 @@ between past legal j k r s lt first_at waits at same =
     below : k < length past
     below = record_at-below past k s at
 
-    by : OpenOrEnded (first k past) j r.entry.process → (m : ℕ) × (j < m) × (m ≤ k) ×
-        IsEndAt past m r.entry.process
+    by : OpenOrEnded (first k past) j r.entry.process →
+        (m : ℕ) × (j < m) × (m ≤ k) × IsEndAt past m r.entry.process
     by (inl still) =
         let ends = quiet (first k past) s.entry.process j s.entry.call s.entry.reply
         (ends-next (first k past) s j here.next (rw same still)) in

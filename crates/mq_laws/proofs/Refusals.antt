@@ -64,16 +64,14 @@ names-none f o = grind arith
 
 -- an error ends no registration
 registered-kept : (on : Bool) (here p : ℕ) (call : Call) (f : Fault)
-    (before : Option Registration) → registration_after on here (record {
-      process = p;
-      call = call;
-      reply = Refused f;
-    }) before ≡ before
+    (before : Option Registration) →
+    registration_after on here (record { process = p; call = call; reply = Refused f }) before ≡
+    before
 registered-kept on here p call f before = grind arith
 
 -- a record with an error, of a process without an open wait
-unchanged : (past : Past) (p : ℕ) (call : Call) (f : Fault) (payload : List ℕ) → open_wait past p ≡
-    None → IsUnchanged past (refused p call f payload ∷ past)
+unchanged : (past : Past) (p : ℕ) (call : Call) (f : Fault) (payload : List ℕ) →
+    open_wait past p ≡ None → IsUnchanged past (refused p call f payload ∷ past)
 unchanged past p call f payload idle = record {
   names = bound_queue-same past r keeps;
   descriptors = held-same past r keeps;
@@ -110,7 +108,8 @@ refusals-change-nothing past legal k r f at is =
     sym is ∙ x.next.reply in
     let free = none-of (open_wait (first k past) r.entry.process)
     (idle (first k past) r.entry.process r.entry.call f r.payload x.next.turn reply) in
-    let P : Reply → Type 0 = λ reply. IsUnchanged (first k past)
+    let P : Reply →
+    Type 0 = λ reply. IsUnchanged (first k past)
     (record {
       entry = record { process = r.entry.process; call = r.entry.call; reply = reply };
       payload = r.payload;

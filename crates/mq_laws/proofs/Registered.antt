@@ -37,8 +37,8 @@ done-is t call reply e = grind arith
 removes-is : (call : Call) (reply : Reply) → removes call reply ≡ only_done is_removal call reply
 removes-is call reply = refl
 
-closes-is : (call : Call) (reply : Reply) (d : ℕ) → closes call reply d ≡
-    only_done (λ c. is_close_of c d) call reply
+closes-is : (call : Call) (reply : Reply) (d : ℕ) →
+    closes call reply d ≡ only_done (λ c. is_close_of c d) call reply
 closes-is call reply d = grind arith
 
 pub ended-by : (past : Past) (r : Record) (q : ℕ) (n : Registration) →
@@ -158,8 +158,8 @@ registered-stands (r ∷ past) q n e =
         grind (arith, nat_tests, only-parts, made-of, at-here, first-here, record_at-below)
 
 -- a registration is made only if there is none
-busy : (past : Past) (p d v q : ℕ) (n : Registration) (payload : List ℕ) → registered past q ≡
-    Some n → called_queue past p (MqNotify d (Some v)) ≡ Some q →
+busy : (past : Past) (p d v q : ℕ) (n : Registration) (payload : List ℕ) →
+    registered past q ≡ Some n → called_queue past p (MqNotify d (Some v)) ≡ Some q →
     Done ≡ reply_to past p (MqNotify d (Some v)) payload → ⊥
 busy past p d v q n payload stands on is = grind arith
 

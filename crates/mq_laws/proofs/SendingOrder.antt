@@ -91,15 +91,15 @@ abbrev Older : Past → ℕ → Type 0
 Older past q = (n w : ℕ) → is_accepted past q n ≡ true → is_in (waiting_sends past q) w ≡ true →
     n < w
 
-older-queued : (past : Past) → Legal past → (p : ℕ) (call : Call) (k : Option ℕ) (payload : List ℕ)
-    (q : ℕ) → Says past p call (Queued k) → Older past q →
-    Older (rec p call (Queued k) payload ∷ past) q
+older-queued : (past : Past) → Legal past →
+    (p : ℕ) (call : Call) (k : Option ℕ) (payload : List ℕ) (q : ℕ) → Says past p call (Queued k) →
+    Older past q → Older (rec p call (Queued k) payload ∷ past) q
 older-queued past legal p call k payload q says before n w h g =
     grind (arith, and_parts, clash, waiting-full)
 
-older-handed : (past : Past) → Legal past → (p : ℕ) (call : Call) (v : ℕ) (payload : List ℕ)
-    (q : ℕ) → Says past p call (Handed v) → Older past q →
-    Older (rec p call (Handed v) payload ∷ past) q
+older-handed : (past : Past) → Legal past →
+    (p : ℕ) (call : Call) (v : ℕ) (payload : List ℕ) (q : ℕ) → Says past p call (Handed v) →
+    Older past q → Older (rec p call (Handed v) payload ∷ past) q
 older-handed past legal p call v payload q says before n w h g =
     split (is_send call && is_on past (record { process = p; call = call; reply = Handed v }) q)
     (λ t. let waits = handed-waits past p q call v says (and_parts (is_send call)
@@ -111,9 +111,9 @@ older-waits : (past : Past) (p : ℕ) (call : Call) (payload : List ℕ) (q : �
     Older (rec p call Waits payload ∷ past) q
 older-waits past p call payload q before n w h g = grind (arith, waits-more, accepted-below)
 
-older-got : (past : Past) → Legal past → (p : ℕ) (call : Call) (m : ℕ) (a k : Option ℕ)
-    (payload : List ℕ) (q : ℕ) → Says past p call (Got m a k) → Older past q →
-    Older (rec p call (Got m a k) payload ∷ past) q
+older-got : (past : Past) → Legal past →
+    (p : ℕ) (call : Call) (m : ℕ) (a k : Option ℕ) (payload : List ℕ) (q : ℕ) →
+    Says past p call (Got m a k) → Older past q → Older (rec p call (Got m a k) payload ∷ past) q
 older-got past legal p call m None k payload q says before n w h g = before n w h g
 older-got past legal p call m (Some v) k payload q says before n w h g =
     let still : is_in (without v (waiting_sends past q)) w ≡ true =
@@ -133,8 +133,9 @@ older-got past legal p call m (Some v) k payload q says before n w h g =
     (λ f. let old : is_accepted past q n ≡ true = rw f at h' in before n w old parts.0))
     (λ f. let old : is_accepted past q n ≡ true = rw f at h in before n w old parts.0)
 
-older-next : (past : Past) → Legal past → (p : ℕ) (call : Call) (reply : Reply) (payload : List ℕ)
-    (q : ℕ) → Says past p call reply → Older past q → Older (rec p call reply payload ∷ past) q
+older-next : (past : Past) → Legal past →
+    (p : ℕ) (call : Call) (reply : Reply) (payload : List ℕ) (q : ℕ) → Says past p call reply →
+    Older past q → Older (rec p call reply payload ∷ past) q
 older-next past legal p call (Queued k) payload q says before = older-queued past legal p call k
     payload q says before
 older-next past legal p call (Handed v) payload q says before = older-handed past legal p call v
@@ -217,14 +218,14 @@ not-first : (past : Past) (m n : ℕ) → m < n → priority past m ≡ priority
 not-first past m n lt same e = grind arith
 
 -- a message that was taken was taken by an entry
-pub taken-at : (past : Past) (m : ℕ) → is_in (taken past) m ≡ true → (j : ℕ) × (j < length past) ×
-    IsTakenAt past m j
+pub taken-at : (past : Past) (m : ℕ) → is_in (taken past) m ≡ true →
+    (j : ℕ) × (j < length past) × IsTakenAt past m j
 taken-at [] m h = absurd (cc)
 taken-at (r ∷ past) m h = by (λ old. taken-at past m old) (taken_by (length past) r.entry.reply)
     refl h
   where
-    older : (j : ℕ) × (j < length past) × IsTakenAt past m j → (j : ℕ) × (j < length (r ∷ past)) ×
-        IsTakenAt (r ∷ past) m j
+    older : (j : ℕ) × (j < length past) × IsTakenAt past m j →
+        (j : ℕ) × (j < length (r ∷ past)) × IsTakenAt (r ∷ past) m j
     older x =
         let lt = x.1 in (
           x.0,
@@ -235,8 +236,8 @@ taken-at (r ∷ past) m h = by (λ old. taken-at past m old) (taken_by (length p
 
     by : (is_in (taken past) m ≡ true → (j : ℕ) × (j < length past) × IsTakenAt past m j) →
         (o : Option ℕ) → taken_by (length past) r.entry.reply ≡ o →
-        is_in (with_place o (taken past)) m ≡ true → (j : ℕ) × (j < length (r ∷ past)) ×
-        IsTakenAt (r ∷ past) m j
+        is_in (with_place o (taken past)) m ≡ true →
+        (j : ℕ) × (j < length (r ∷ past)) × IsTakenAt (r ∷ past) m j
     by rest None e h = older (rest h)
     by rest (Some k) e h = split (k == m)
         (λ t. (
@@ -247,8 +248,8 @@ taken-at (r ∷ past) m h = by (λ old. taken-at past m old) (taken_by (length p
         ))
         (λ f. let old : is_in (taken past) m ≡ true = rw f at h in older (rest old))
 
-priority-first : (past : Past) (k m : ℕ) → m < k → k ≤ length past → priority (first k past) m ≡
-    priority past m
+priority-first : (past : Past) (k m : ℕ) → m < k → k ≤ length past →
+    priority (first k past) m ≡ priority past m
 priority-first past k m lt le =
     ap (λ o. unwrap_or (option_map (λ (x : Record). priority_given x.entry.call) o) 0)
     (record_at-first past k m lt le)

@@ -98,8 +98,8 @@ accepted-sent past q m h = split (is_in (admitted past q) m) (λ t. admitted-sen
     (λ f. handed-sent past q m (rw f at h))
 
 -- a message that was handed over is taken
-pub handed-taken : (past : Past) (q m : ℕ) → is_in (handed past q) m ≡ true → is_in (taken past) m ≡
-    true
+pub handed-taken : (past : Past) (q m : ℕ) → is_in (handed past q) m ≡ true →
+    is_in (taken past) m ≡ true
 handed-taken [] q m h = absurd (cc)
 handed-taken (r ∷ past) q m h =
     split (hands_over r.entry.call r.entry.reply && is_on past r.entry q)

@@ -11,8 +11,8 @@ use Rattle.mq_model.proofs.Mates.{held-mates, shares_own}
 use Rattle.mq_laws.proofs.AsBefore.{find-same, head, tail}
 use Rattle.mq_laws.proofs.HeldLaws.{wait-holds}
 
-given-mates : (past : Past) (a b : ℕ) → owner_of a ≡ owner_of b → notices_given past a ≡
-    notices_given past b
+given-mates : (past : Past) (a b : ℕ) → owner_of a ≡ owner_of b →
+    notices_given past a ≡ notices_given past b
 given-mates [] a b e = refl
 given-mates (r ∷ past) a b e =
     ap (λ (k : ℕ). if gives_notice r.entry.reply && owner_of r.entry.process == k then notices_given
@@ -30,8 +30,8 @@ value-mates past a b (Some k) e = by (record_at past k)
     by (Some r) = ap (λ (k : ℕ). if owner_of r.entry.process == k then value_of_notify
         r.entry.call else None) e
 
-values-mates : (past : Past) (a b : ℕ) → owner_of a ≡ owner_of b → values_notified past a ≡
-    values_notified past b
+values-mates : (past : Past) (a b : ℕ) → owner_of a ≡ owner_of b →
+    values_notified past a ≡ values_notified past b
 values-mates [] a b e = refl
 values-mates (r ∷ past) a b e =
     ap (λ (xs : List ℕ). xs ++ option_to_list (value_notified past a (notified r.entry.reply)))

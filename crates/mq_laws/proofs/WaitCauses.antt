@@ -36,8 +36,8 @@ abbrev pub is_distinct : List ℕ → Bool
 is_distinct [] = true
 is_distinct (x ∷ xs) = not (is_in xs x) && is_distinct xs
 
-distinct-filter : (t : ℕ → Bool) (xs : List ℕ) → is_distinct xs ≡ true → is_distinct (filter t xs) ≡
-    true
+distinct-filter : (t : ℕ → Bool) (xs : List ℕ) → is_distinct xs ≡ true →
+    is_distinct (filter t xs) ≡ true
 distinct-filter t [] e = refl
 distinct-filter t (x ∷ xs) e =
     let parts = and_parts (not (is_in xs x)) (is_distinct xs) e in
@@ -102,18 +102,19 @@ none-waits : (past : Past) (q : ℕ) → FullWhereWaiting past q → is_full pas
 none-waits past q full room w h = clash (is_full past q) (full w h) room
 
 -- the queue of a waiting send was created
-pub waiting-created : (past : Past) → Legal past → (q w : ℕ) → is_in (waiting_sends past q) w ≡
-    true → is_in (created past) q ≡ true
+pub waiting-created : (past : Past) → Legal past → (q w : ℕ) →
+    is_in (waiting_sends past q) w ≡ true → is_in (created past) q ≡ true
 waiting-created past legal q w h = grind (arith, is_in-filter, sent-created, blocked-on)
 
-same-full : (past : Past) (r : Record) (q : ℕ) → q < length past → length (present (r ∷ past) q) ≡
-    length (present past q) → is_full past q ≡ true → is_full (r ∷ past) q ≡ true
+same-full : (past : Past) (r : Record) (q : ℕ) → q < length past →
+    length (present (r ∷ past) q) ≡ length (present past q) → is_full past q ≡ true →
+    is_full (r ∷ past) q ≡ true
 same-full past r q lt same full = rw (attributes-older past r q lt, same) full
 
 -- a record after which the same sends wait and equally many messages are present
 full-same : (past : Past) → Legal past → (r : Record) (q : ℕ) → FullWhereWaiting past q →
-    waiting_sends (r ∷ past) q ≡ waiting_sends past q → length (present (r ∷ past) q) ≡
-    length (present past q) → FullWhereWaiting (r ∷ past) q
+    waiting_sends (r ∷ past) q ≡ waiting_sends past q →
+    length (present (r ∷ past) q) ≡ length (present past q) → FullWhereWaiting (r ∷ past) q
 full-same past legal r q before waits same w h = grind (
   arith,
   same-full,
@@ -121,10 +122,11 @@ full-same past legal r q before waits same w h = grind (
   waiting-created,
 )
 
-full-blocked : (past : Past) → Legal past → (p d : ℕ) (call : Call) (h : Description)
-    (payload : List ℕ) (q : ℕ) → is_send call ≡ true → called_queue past p call ≡
-    option_map (λ h. h.queue) (held past p d) → held past p d ≡ Some h → is_full past h.queue ≡
-    true → FullWhereWaiting past q → FullWhereWaiting (rec p call Waits payload ∷ past) q
+full-blocked : (past : Past) → Legal past →
+    (p d : ℕ) (call : Call) (h : Description) (payload : List ℕ) (q : ℕ) → is_send call ≡ true →
+    called_queue past p call ≡ option_map (λ h. h.queue) (held past p d) → held past p d ≡ Some h →
+    is_full past h.queue ≡ true → FullWhereWaiting past q →
+    FullWhereWaiting (rec p call Waits payload ∷ past) q
 full-blocked past legal p d call h payload q sends calls is full before w waits =
     let r : Record = rec p call Waits payload in
     split (is_place q (called_queue past p call))
@@ -153,10 +155,11 @@ full-waits past legal p Collect payload q says before w h = absurd (cc)
 full-waits past legal p (Withdraw now) payload q says before w h = absurd (cc)
 full-waits past legal p call payload q says before w h = absurd says
 
-full-sent : (past : Past) → Legal past → (p d : ℕ) (call : Call) (h : Description) (n : Option ℕ)
-    (payload : List ℕ) (q : ℕ) → called_queue past p call ≡ option_map (λ h. h.queue)
-    (held past p d) → held past p d ≡ Some h → is_full past h.queue ≡ false →
-    FullWhereWaiting past q → FullWhereWaiting (rec p call (Queued n) payload ∷ past) q
+full-sent : (past : Past) → Legal past →
+    (p d : ℕ) (call : Call) (h : Description) (n : Option ℕ) (payload : List ℕ) (q : ℕ) →
+    called_queue past p call ≡ option_map (λ h. h.queue) (held past p d) → held past p d ≡ Some h →
+    is_full past h.queue ≡ false → FullWhereWaiting past q →
+    FullWhereWaiting (rec p call (Queued n) payload ∷ past) q
 full-sent past legal p d call h n payload q calls is free before w waits =
     split (is_place q (called_queue past p call))
     (λ on. let same : h.queue ≡ q = called-on past p d q h is (rw (← calls) on) in
@@ -165,9 +168,9 @@ full-sent past legal p d call h n payload q calls is free before w waits =
     (λ off. full-same past legal (rec p call (Queued n) payload) q before refl
     (ap length (present-queued_elsewhere past p call q n payload off)) w waits)
 
-full-queued : (past : Past) → Legal past → (p : ℕ) (call : Call) (n : Option ℕ) (payload : List ℕ)
-    (q : ℕ) → Says past p call (Queued n) → FullWhereWaiting past q →
-    FullWhereWaiting (rec p call (Queued n) payload ∷ past) q
+full-queued : (past : Past) → Legal past →
+    (p : ℕ) (call : Call) (n : Option ℕ) (payload : List ℕ) (q : ℕ) → Says past p call (Queued n) →
+    FullWhereWaiting past q → FullWhereWaiting (rec p call (Queued n) payload ∷ past) q
 full-queued past legal p call n payload q says before w h = grind (arith, full-sent)
 
 -- the sends that wait after a reply that ends one waited before it
@@ -185,9 +188,10 @@ waits-got : (past : Past) (p : ℕ) (call : Call) (m : ℕ) (a n : Option ℕ) (
 waits-got past p call m None n payload q w h = h
 waits-got past p call m (Some v) n payload q w h = still-waits past v q w h
 
-full-taken : (past : Past) → Legal past → (p : ℕ) (call : Call) (m : ℕ) (a n : Option ℕ)
-    (payload : List ℕ) (q k : ℕ) → best past k ≡ Some m → a ≡ least (waiting_sends past k) →
-    FullWhereWaiting past q → FullWhereWaiting (rec p call (Got m a n) payload ∷ past) q
+full-taken : (past : Past) → Legal past →
+    (p : ℕ) (call : Call) (m : ℕ) (a n : Option ℕ) (payload : List ℕ) (q k : ℕ) →
+    best past k ≡ Some m → a ≡ least (waiting_sends past k) → FullWhereWaiting past q →
+    FullWhereWaiting (rec p call (Got m a n) payload ∷ past) q
 full-taken past legal p call m a n payload q k gives admits before w h =
     let r : Record = rec p call (Got m a n) payload in
     let old = waits-got past p call m a n payload q w h in
@@ -222,14 +226,15 @@ full-taken past legal p call m a n payload q k gives admits before w h =
         ∙ length-without m (present past k) (present-distinct past legal k) inside
     here None first some = absurd (let bad : None ≡ Some some.0 = some.1 in cc)
 
-full-got : (past : Past) → Legal past → (p : ℕ) (call : Call) (m : ℕ) (a n : Option ℕ)
-    (payload : List ℕ) (q : ℕ) → Says past p call (Got m a n) → FullWhereWaiting past q →
+full-got : (past : Past) → Legal past →
+    (p : ℕ) (call : Call) (m : ℕ) (a n : Option ℕ) (payload : List ℕ) (q : ℕ) →
+    Says past p call (Got m a n) → FullWhereWaiting past q →
     FullWhereWaiting (rec p call (Got m a n) payload ∷ past) q
 full-got past legal p call m a n payload q says before w h = grind (arith, full-taken)
 
-full-next : (past : Past) → Legal past → (p : ℕ) (call : Call) (reply : Reply) (payload : List ℕ)
-    (q : ℕ) → Says past p call reply → FullWhereWaiting past q →
-    FullWhereWaiting (rec p call reply payload ∷ past) q
+full-next : (past : Past) → Legal past →
+    (p : ℕ) (call : Call) (reply : Reply) (payload : List ℕ) (q : ℕ) → Says past p call reply →
+    FullWhereWaiting past q → FullWhereWaiting (rec p call reply payload ∷ past) q
 full-next past legal p call (Queued n) payload q says before = full-queued past legal p call n
     payload q says before
 full-next past legal p call (Got m a n) payload q says before = full-got past legal p call m a n

@@ -69,9 +69,10 @@ abbrev IsEmptyWhereWaiting : Past → ℕ → ℕ → Type 0
 IsEmptyWhereWaiting past q w = is_in (waiting_receives past q) w ≡ true → present past q ≡ []
 
 empty-sent : (past : Past) (p : ℕ) (call : Call) (d : ℕ) (h : Description) (n : Option ℕ)
-    (payload : List ℕ) (q w : ℕ) → called_queue past p call ≡ option_map (λ h. h.queue)
-    (held past p d) → held past p d ≡ Some h → least (waiting_receives past h.queue) ≡ None →
-    IsEmptyWhereWaiting past q w → IsEmptyWhereWaiting (rec p call (Queued n) payload ∷ past) q w
+    (payload : List ℕ) (q w : ℕ) →
+    called_queue past p call ≡ option_map (λ h. h.queue) (held past p d) → held past p d ≡ Some h →
+    least (waiting_receives past h.queue) ≡ None → IsEmptyWhereWaiting past q w →
+    IsEmptyWhereWaiting (rec p call (Queued n) payload ∷ past) q w
 empty-sent past p call d h n payload q w calls is none before waits =
     grind (arith, called-on, least-none, present-queued_elsewhere)
 
@@ -97,9 +98,10 @@ empty-handed past p call w0 payload q w before h = filter-both (λ k. length pas
     (empty-ended past w0 q w before h)
 
 empty-received : (past : Past) (p : ℕ) (call : Call) (d : ℕ) (h : Description) (payload : List ℕ)
-    (q w : ℕ) → is_receive call ≡ true → called_queue past p call ≡ option_map (λ h. h.queue)
-    (held past p d) → held past p d ≡ Some h → best past h.queue ≡ None →
-    IsEmptyWhereWaiting past q w → IsEmptyWhereWaiting (rec p call Waits payload ∷ past) q w
+    (q w : ℕ) → is_receive call ≡ true →
+    called_queue past p call ≡ option_map (λ h. h.queue) (held past p d) → held past p d ≡ Some h →
+    best past h.queue ≡ None → IsEmptyWhereWaiting past q w →
+    IsEmptyWhereWaiting (rec p call Waits payload ∷ past) q w
 empty-received past p call d h payload q w receives calls is none before waits =
     split (is_place q (called_queue past p call))
     (λ on. let same : h.queue ≡ q = called-on past p d q h is (rw (← calls) on) in
@@ -161,8 +163,8 @@ empty-more past p call (Got m a n) payload q w says before h = empty-got past p 
 empty-more past p call reply payload q w says before h = before h
 
 -- if a receive waits on a queue, the queue is empty
-pub waiting-empty : (past : Past) → Legal past → (q w : ℕ) → is_in (waiting_receives past q) w ≡
-    true → present past q ≡ []
+pub waiting-empty : (past : Past) → Legal past → (q w : ℕ) →
+    is_in (waiting_receives past q) w ≡ true → present past q ≡ []
 waiting-empty [] legal q w h = refl
 waiting-empty (r ∷ past) legal q w h = empty-more past r.entry.process r.entry.call r.entry.reply
     r.payload q w (legal_says past r legal.1) (λ e. waiting-empty past legal.0 q w e) h

@@ -61,8 +61,8 @@ abbrev pub due_replies : Past → List Reply
 due_replies [] = []
 due_replies (r ∷ past) = reply_to past r.entry.process r.entry.call r.payload ∷ due_replies past
 
-all-of-five : (a b c d e : Bool) → (a && b && c && d && e) ≡ true → (a ≡ true) × ((b && c) ≡ true) ×
-    (d ≡ true) × (e ≡ true)
+all-of-five : (a b c d e : Bool) → (a && b && c && d && e) ≡ true →
+    (a ≡ true) × ((b && c) ≡ true) × (d ≡ true) × (e ≡ true)
 all-of-five a b c d e h = grind arith
 
 pub legal-by-replies : (past : Past) → are_made past ≡ true → replies past ≡ due_replies past →

@@ -34,8 +34,8 @@ use Rattle.mq_model.specs.declared.entries.Reply.TheVariants.{Collected, Withdra
 -- with the flag of the latest setattr after it; none if d was closed since.
 abbrev pub held : Past → Process → Descriptor → Option Description
 held [] p d = None
-held (r ∷ past) p d = if r.entry.process == p then held_after past r.entry.call r.payload
-    r.entry.reply d (held past p d) else held past p d
+held (r ∷ past) p d = if r.entry.process == p
+    then held_after past r.entry.call r.payload r.entry.reply d (held past p d) else held past p d
 
 -- the lowest descriptor that process p does not hold
 abbrev pub lowest_free : Past → Process → Option Descriptor
@@ -66,8 +66,8 @@ alive past = filter (λ q. is_named past q || is_held past q) (created past)
 -- the sends to a queue that began to wait, and the receives, the latest first
 abbrev pub blocked_sends : Past → Queue → List Place
 blocked_sends [] q = []
-blocked_sends (r ∷ past) q = if blocks_send r.entry.call r.entry.reply && is_on past r.entry q then
-    length past ∷ blocked_sends past q else blocked_sends past q
+blocked_sends (r ∷ past) q = if blocks_send r.entry.call r.entry.reply && is_on past r.entry q
+    then length past ∷ blocked_sends past q else blocked_sends past q
 
 abbrev pub blocked_receives : Past → Queue → List Place
 blocked_receives [] q = []
@@ -98,8 +98,8 @@ admitted (r ∷ past) q = with_place (entered past r.entry q) (admitted past q)
 -- the messages that were handed to a receive that waited on the queue
 abbrev pub handed : Past → Queue → List Message
 handed [] q = []
-handed (r ∷ past) q = if hands_over r.entry.call r.entry.reply && is_on past r.entry q then length
-    past ∷ handed past q else handed past q
+handed (r ∷ past) q = if hands_over r.entry.call r.entry.reply && is_on past r.entry q
+    then length past ∷ handed past q else handed past q
 
 -- the message was accepted: it entered the queue, or was handed over
 abbrev pub is_accepted : Past → Queue → Message → Bool
@@ -159,8 +159,8 @@ values_notified (r ∷ past) p = values_notified past p ++ option_to_list
 -- how many notices process p has taken
 abbrev pub notices_given : Past → Process → ℕ
 notices_given [] p = 0
-notices_given (r ∷ past) p = if gives_notice r.entry.reply && r.entry.process == p then
-    notices_given past p + 1 else notices_given past p
+notices_given (r ∷ past) p = if gives_notice r.entry.reply && r.entry.process == p
+    then notices_given past p + 1 else notices_given past p
 
 -- the notices that process p has not yet taken, the oldest first
 abbrev pub notices : Past → Process → List ℕ

@@ -69,8 +69,8 @@ pub record IsReceivedAt (past : Past) (k q m : ℕ) : Type 0 where
 
 -- the message that a receive got was the best one of its queue before it
 abbrev pub GivesBest : Past → Type 0
-GivesBest past = (k m : ℕ) → Has message_given past k m → (q : ℕ) × IsReceivedAt past k q m ×
-    (best (first k past) q ≡ Some m)
+GivesBest past = (k m : ℕ) → Has message_given past k m →
+    (q : ℕ) × IsReceivedAt past k q m × (best (first k past) q ≡ Some m)
 
 -- the entry at place k takes message m: it returns it to its caller, or hands it over
 abbrev pub IsTakenAt : Past → ℕ → ℕ → Type 0
@@ -101,8 +101,9 @@ pub record HoldsDescriptors (past : Past) : Type 0 where
   pub sends : (k d : ℕ) (r : Record) → record_at past k ≡ Some r → is_send r.entry.call ≡ true →
       descriptor_of r.entry.call ≡ Some d → is_refused r.entry.reply ≡ false →
       IsHeldAt past k r.entry.process d (λ h. not (is_read_only h.access))
-  pub receives : (k d : ℕ) (r : Record) → record_at past k ≡ Some r → is_receive r.entry.call ≡
-      true → descriptor_of r.entry.call ≡ Some d → is_refused r.entry.reply ≡ false →
+  pub receives : (k d : ℕ) (r : Record) → record_at past k ≡ Some r →
+      is_receive r.entry.call ≡ true → descriptor_of r.entry.call ≡ Some d →
+      is_refused r.entry.reply ≡ false →
       IsHeldAt past k r.entry.process d (λ h. not (is_write_only h.access))
   pub collects : (k : ℕ) (r : Record) → record_at past k ≡ Some r → r.entry.call ≡ Collect →
       (w : ℕ) × (open_wait (first k past) r.entry.process ≡ Some w) ×
@@ -127,16 +128,16 @@ pub record EndsForGood (past : Past) : Type 0 where
       is_in (alive (first k past)) q ≡ false
   pub none_taken : (j k q m : ℕ) → IsGoneAt past j q → j ≤ k → is_accepted past q m ≡ true →
       IsTakenAt past m k → ⊥
-  pub present_or_taken : (q m : ℕ) → is_accepted past q m ≡ true → is_in (present past q) m ≡
-      not (is_in (taken past) m)
+  pub present_or_taken : (q m : ℕ) → is_accepted past q m ≡ true →
+      is_in (present past q) m ≡ not (is_in (taken past) m)
   pub in_one_queue : (q k m : ℕ) → is_accepted past q m ≡ true → is_in (present past k) m ≡ true →
       k ≡ q
 
 -- If a receive waits, the queue is empty. If a send waits, the queue holds mq_maxmsg messages.
 pub record WaitsForCause (past : Past) : Type 0 where
   pub receives : (q w : ℕ) → is_in (waiting_receives past q) w ≡ true → present past q ≡ []
-  pub sends : (q w : ℕ) → is_in (waiting_sends past q) w ≡ true → pos (length (present past q)) ≡
-      (attributes past q).maxmsg
+  pub sends : (q w : ℕ) → is_in (waiting_sends past q) w ≡ true →
+      pos (length (present past q)) ≡ (attributes past q).maxmsg
 
 -- a call that ends a wait of its caller
 abbrev pub ends_wait : Call → Bool
@@ -168,6 +169,6 @@ pub record WaitsOneAtATime (past : Past) : Type 0 where
   pub none_after : (k w : ℕ) (r : Record) → record_at past k ≡ Some r →
       open_wait (first k past) r.entry.process ≡ Some w →
       open_wait (first (k + 1) past) r.entry.process ≡ None
-  pub between : (j k : ℕ) (r s : Record) → j < k → record_at past j ≡ Some r → r.entry.reply ≡
-      Waits → record_at past k ≡ Some s → s.entry.process ≡ r.entry.process →
+  pub between : (j k : ℕ) (r s : Record) → j < k → record_at past j ≡ Some r →
+      r.entry.reply ≡ Waits → record_at past k ≡ Some s → s.entry.process ≡ r.entry.process →
       (m : ℕ) × (j < m) × (m ≤ k) × IsEndAt past m r.entry.process

@@ -88,8 +88,8 @@ pub record NeedsWhatIsAsked (past : Past) : Type 0 where
       IsNeeded past m
   pub sends : (q w : Place) → is_in (alive past) q ≡ true → is_in (waiting_sends past q) w ≡ true →
       IsNeeded past w
-  pub handed : (p by w : Place) → answered_by past p ≡ Some by → reply_at past by ≡
-      Some (Handed w) → IsNeeded past by
+  pub handed : (p by w : Place) → answered_by past p ≡ Some by →
+      reply_at past by ≡ Some (Handed w) → IsNeeded past by
 
 -- everything that is needed passes a test
 abbrev pub HasNeeded : Past → (Place → Bool) → Type 0

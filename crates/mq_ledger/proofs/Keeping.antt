@@ -119,12 +119,13 @@ keeps-put slots key k x vacant has = keeps-set slots key k (Some x)
 pub some-in : (o : Option Kept) → is_none o ≡ false → (x : Kept) × (o ≡ Some x)
 some-in o e = grind arith
 
-pub within : (slots : List (Option Kept)) (key : ℕ) (x : Kept) → slice_index_or slots key None ≡
-    Some x → key < length slots
+pub within : (slots : List (Option Kept)) (key : ℕ) (x : Kept) →
+    slice_index_or slots key None ≡ Some x → key < length slots
 within slots key x there = grind (arith, cases_lt, get_or_past)
 
-pub count-less : (slots : List (Option Kept)) (key : ℕ) (x : Kept) → slice_index_or slots key None ≡
-    Some x → vacant_in (slice_set slots key None) ≡ vacant_in slots + 1
+pub count-less : (slots : List (Option Kept)) (key : ℕ) (x : Kept) →
+    slice_index_or slots key None ≡ Some x → vacant_in (slice_set slots key None) ≡
+    vacant_in slots + 1
 count-less slots key x there = grind (arith, sum_by-set, within)
 
 pub count-same : (slots : List (Option Kept)) (key : ℕ) (x y : Kept) →

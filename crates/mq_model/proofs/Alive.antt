@@ -157,8 +157,8 @@ same-name a b e = (bytes_eq-Decides a b).0 e
 name-itself : (a : List ℕ) → bytes_eq a a ≡ true
 name-itself a = (bytes_eq-Decides a a).1 refl
 
-pub name_of-older : (past : Past) (r : Record) (q : ℕ) → q < length past → name_of (r ∷ past) q ≡
-    name_of past q
+pub name_of-older : (past : Past) (r : Record) (q : ℕ) → q < length past →
+    name_of (r ∷ past) q ≡ name_of past q
 name_of-older past r q lt = ap (λ o. unwrap_or (option_map (λ (x : Record). x.payload) o) [])
     (record_at-older past r q lt)
 
@@ -192,8 +192,8 @@ bound-named past name q e = let named : bound_queue past (name_of past q) ≡ So
 
 -- a record that creates and unlinks nothing
 pub named-same : (past : Past) (r : Record) (q : ℕ) → creates r.entry.call r.entry.reply ≡ false →
-    unlinks r.entry.call r.entry.reply ≡ false → q < length past → is_named (r ∷ past) q ≡
-    is_named past q
+    unlinks r.entry.call r.entry.reply ≡ false → q < length past →
+    is_named (r ∷ past) q ≡ is_named past q
 named-same past r q c u lt = rw (c, u) (ap (λ name. is_place q (bound_queue past name))
     (name_of-older past r q lt))
 
@@ -208,9 +208,9 @@ named-newest past r c = rw (name_of-newest past r, c, name-itself r.payload)
     (eq-eqb (length past) (length past) refl)
 
 -- a record that unlinks the name of queue k
-pub named-unlinked : (past : Past) (r : Record) (q k : ℕ) → unlinks r.entry.call r.entry.reply ≡
-    true → bound_queue past r.payload ≡ Some k → q < length past → is_named (r ∷ past) q ≡
-    (if q == k then false else is_named past q)
+pub named-unlinked : (past : Past) (r : Record) (q k : ℕ) →
+    unlinks r.entry.call r.entry.reply ≡ true → bound_queue past r.payload ≡ Some k →
+    q < length past → is_named (r ∷ past) q ≡ (if q == k then false else is_named past q)
 named-unlinked past r q k u bound lt = search (
   rules,
   name_of-older,
@@ -227,27 +227,27 @@ named-unlinked past r q k u bound lt = search (
 abbrev pub is_needed : Past → ℕ → Bool
 is_needed past q = is_named past q || is_held past q
 
-filter-filter : (s t : ℕ → Bool) (xs : List ℕ) → filter (λ k. t k && s k) xs ≡
-    filter s (filter t xs)
+filter-filter : (s t : ℕ → Bool) (xs : List ℕ) →
+    filter (λ k. t k && s k) xs ≡ filter s (filter t xs)
 filter-filter s t [] = refl
 filter-filter s t (x ∷ xs) = grind (arith, filter-filter s t xs)
 
 -- a record that creates no queue and needs the same
 pub alive-quiet : (past : Past) (r : Record) → creates r.entry.call r.entry.reply ≡ false →
-    ((q : ℕ) → q < length past → is_needed (r ∷ past) q ≡ is_needed past q) → alive (r ∷ past) ≡
-    alive past
+    ((q : ℕ) → q < length past → is_needed (r ∷ past) q ≡ is_needed past q) →
+    alive (r ∷ past) ≡ alive past
 alive-quiet past r c same = grind (arith, filter-same, created-below)
 
 -- a record that creates one, and needs the same of the others
 pub alive-created : (past : Past) (r : Record) → creates r.entry.call r.entry.reply ≡ true →
-    ((q : ℕ) → q < length past → is_needed (r ∷ past) q ≡ is_needed past q) → alive (r ∷ past) ≡
-    length past ∷ alive past
+    ((q : ℕ) → q < length past → is_needed (r ∷ past) q ≡ is_needed past q) →
+    alive (r ∷ past) ≡ length past ∷ alive past
 alive-created past r c same = grind (arith, filter-same, created-below, named-newest)
 
 -- a record that creates none, and needs the same but for one queue, which was needed
 pub alive-one : (past : Past) (r : Record) (x : ℕ) → creates r.entry.call r.entry.reply ≡ false →
-    is_needed past x ≡ true → ((q : ℕ) → q < length past → q ≢ x → is_needed (r ∷ past) q ≡
-    is_needed past q) →
+    is_needed past x ≡ true →
+    ((q : ℕ) → q < length past → q ≢ x → is_needed (r ∷ past) q ≡ is_needed past q) →
     alive (r ∷ past) ≡ (if is_needed (r ∷ past) x then alive past else filter
     (λ q. not (q == x)) (alive past))
 alive-one past r x c was same = split (is_needed (r ∷ past) x)
@@ -281,8 +281,8 @@ to-queue past q e = let x = is_held-holder past q e in (x.process, x.d, rw x.hel
 -- descriptors that stand for the same queues before and after, if they are of queue q
 pub is_held-same : (past now : Past) (q : ℕ) →
     ((p d : ℕ) → queue_at past p d ≡ Some q → queue_at now p d ≡ Some q) →
-    ((p d : ℕ) → queue_at now p d ≡ Some q → queue_at past p d ≡ Some q) → is_held now q ≡
-    is_held past q
+    ((p d : ℕ) → queue_at now p d ≡ Some q → queue_at past p d ≡ Some q) →
+    is_held now q ≡ is_held past q
 is_held-same past now q to from = grind (arith, same-tests, to-queue, held-is_held)
 
 -- the descriptors of a process change in one place, from one queue or none to another or none
@@ -297,8 +297,8 @@ queue-changed past r d v changes q not-before not-after = is_held-same past (r �
     (λ k e new. split (shares r.entry.process k) (λ t. came k e (eqb-true _ _ t) new)
     (λ n. sym (apart k e n) ∙ new))
   where
-    now-at : (k e : ℕ) → owner_of r.entry.process ≡ owner_of k → held (r ∷ past) k e ≡
-        (if d == e then v else held past k e)
+    now-at : (k e : ℕ) → owner_of r.entry.process ≡ owner_of k →
+        held (r ∷ past) k e ≡ (if d == e then v else held past k e)
     now-at k e own = rw (eq-eqb (owner_of r.entry.process) (owner_of k) own)
         (rw (← held-mates past r.entry.process k own e) (changes e))
 
@@ -324,8 +324,8 @@ queue-changed past r d v changes q not-before not-after = is_held-same past (r �
         (λ f. ap (option_map (λ (h : Description). h.queue)) (sym (now-at k e own ∙ other k e f)) ∙
         new)
 
-    apart : (k e : ℕ) → shares r.entry.process k ≡ false → queue_at (r ∷ past) k e ≡
-        queue_at past k e
+    apart : (k e : ℕ) → shares r.entry.process k ≡ false →
+        queue_at (r ∷ past) k e ≡ queue_at past k e
     apart k e n = ap (λ (b : Bool). option_map (λ (h : Description). h.queue)
         (if b then held_after past r.entry.call r.payload r.entry.reply e (held past k e) else
         held past k e)) n
@@ -443,8 +443,8 @@ alive-closed past legal p d payload h is =
     ) refl)
 
 -- an unlink of the name of queue x
-pub alive-unlinked : (past : Past) (p : ℕ) (payload : List ℕ) (x : ℕ) → bound_queue past payload ≡
-    Some x →
+pub alive-unlinked : (past : Past) (p : ℕ) (payload : List ℕ) (x : ℕ) →
+    bound_queue past payload ≡ Some x →
     alive (rec p MqUnlink Done payload ∷ past) ≡
     (if is_needed (rec p MqUnlink Done payload ∷ past) x then alive past else filter
     (λ q. not (q == x)) (alive past))

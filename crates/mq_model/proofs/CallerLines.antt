@@ -17,8 +17,8 @@ one_if b = if b then 1 else 0
 count : List Caller → ℕ
 count callers = count_by (λ o. is_some o.wait) callers
 
-count-cons : (o : Caller) (callers : List Caller) → count (o ∷ callers) ≡
-    one_if (is_some o.wait) + count callers
+count-cons : (o : Caller) (callers : List Caller) →
+    count (o ∷ callers) ≡ one_if (is_some o.wait) + count callers
 unfolding count
 count-cons o callers = sum_by-cons (λ (o : Caller). one_if (is_some o.wait)) o callers
 
@@ -64,14 +64,14 @@ pub length-with_wait : (callers : List Caller) (p : ℕ) (w : Option OpenWait) �
 unfolding with_wait
 length-with_wait callers p w = length-changed _ callers p
 
-pub length-with_answer : (callers : List Caller) (p by : ℕ) → length (with_answer callers p by) ≡
-    length callers
+pub length-with_answer : (callers : List Caller) (p by : ℕ) →
+    length (with_answer callers p by) ≡ length callers
 unfolding with_answer
 length-with_answer callers p by = length-changed _ callers p
 
 pub wait_in-with_wait : (callers : List Caller) (p : ℕ) (w : Option OpenWait) (k : ℕ) →
-    p < length callers → wait_in (with_wait callers p w) k ≡
-    (if p == k then w else wait_in callers k)
+    p < length callers →
+    wait_in (with_wait callers p w) k ≡ (if p == k then w else wait_in callers k)
 unfolding wait_in with_wait
 wait_in-with_wait callers p w k lt = read-set (λ o. o.wait) _ callers p k w lt (λ o. refl)
 
@@ -129,7 +129,7 @@ count-unset (o ∷ callers) zero w f unsets is = let new : one_if (is_some (f o)
 count-unset (o ∷ callers) (suc p) w f unsets is = let rest = count-unset callers p w f unsets is in
     omega (arith, rest, count-cons o callers, count-cons o (changed f callers p))
 
-pub waits_count-no_wait : (callers : List Caller) (p : ℕ) (w : OpenWait) → wait_in callers p ≡
-    Some w → waits_count (with_wait callers p None) + 1 ≡ waits_count callers
+pub waits_count-no_wait : (callers : List Caller) (p : ℕ) (w : OpenWait) →
+    wait_in callers p ≡ Some w → waits_count (with_wait callers p None) + 1 ≡ waits_count callers
 unfolding waits_count with_wait count
 waits_count-no_wait callers p w is = count-unset callers p w _ (λ o. refl) is

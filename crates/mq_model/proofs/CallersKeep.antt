@@ -53,8 +53,8 @@ pub turn-none : (past : Past) (p : ℕ) (call : Call) (reply : Reply) → Says p
     may_call past p call ≡ true → ends_wait reply ≡ false → open_wait past p ≡ None
 turn-none past p call reply says turn not = grind arith
 
-names-nothing : (reply : Reply) → named_wait reply ≡ None → (o : Option ℕ) → names_wait reply o ≡
-    false
+names-nothing : (reply : Reply) → named_wait reply ≡ None → (o : Option ℕ) →
+    names_wait reply o ≡ false
 names-nothing reply e o = grind arith
 
 -- a reply that names the open wait of a caller names no other
@@ -90,8 +90,8 @@ keep-quiet past callers m p call reply payload quiet =
 
 -- the entry answers the open wait of one caller
 keep-answer : (past : Past) (callers : List Caller) → CallersMirror past callers →
-    (p : ℕ) (call : Call) (reply : Reply) (payload : List ℕ) (receiver w : ℕ) → open_wait past p ≡
-    None → is_wait reply ≡ false → named_wait reply ≡ Some w →
+    (p : ℕ) (call : Call) (reply : Reply) (payload : List ℕ) (receiver w : ℕ) →
+    open_wait past p ≡ None → is_wait reply ≡ false → named_wait reply ≡ Some w →
     open_wait past receiver ≡ Some w → receiver < length callers →
     CallersMirror (rec p call reply payload ∷ past) (with_answer callers receiver (length past))
 keep-answer past callers m p call reply payload receiver w free goes named open_at lt =
@@ -117,8 +117,8 @@ keep-ended past callers m p call reply payload goes none lt =
     grind (arith, wait_in-with_wait, blocked-older, answer_in-with_wait, names-nothing)
 
 keep-waits : (past : Past) (callers : List Caller) → CallersMirror past callers →
-    (p : ℕ) (call : Call) (payload : List ℕ) (q : ℕ) → Says past p call Waits → open_wait past p ≡
-    None → called_queue past p call ≡ Some q → p < length callers →
+    (p : ℕ) (call : Call) (payload : List ℕ) (q : ℕ) → Says past p call Waits →
+    open_wait past p ≡ None → called_queue past p call ≡ Some q → p < length callers →
     CallersMirror (rec p call Waits payload ∷ past)
     (with_wait callers p (Some (record {
       place = length past;
@@ -130,8 +130,9 @@ keep-waits past callers m p call payload q says free on lt =
     grind (arith, wait_in-with_wait, answer_in-with_wait, names-nothing, blocked-older)
 
 -- the caller found is the one that waits since this place
-none-passes : (t : Caller → Bool) (callers : List Caller) (i : ℕ) → position_from t i callers ≡
-    None → (k : ℕ) (o : Caller) → slice_get callers k ≡ Some o → t o ≡ false
+none-passes : (t : Caller → Bool) (callers : List Caller) (i : ℕ) →
+    position_from t i callers ≡ None → (k : ℕ) (o : Caller) → slice_get callers k ≡ Some o →
+    t o ≡ false
 none-passes t [] i e k o is = absurd (cc)
 none-passes t (x ∷ callers) i e zero o is = grind arith
 none-passes t (x ∷ callers) i e (suc k) o is = split (t x)
@@ -148,8 +149,8 @@ record IsWaiter (past : Past) (callers : List Caller) (w p : ℕ) : Type 0 where
   inside : p < length callers
 
 waits_at-open : (past : Past) (callers : List Caller) → CallersMirror past callers →
-    (w p : ℕ) (o : Caller) → slice_get callers p ≡ Some o → waits_at w o ≡ true → open_wait past p ≡
-    Some w
+    (w p : ℕ) (o : Caller) → slice_get callers p ≡ Some o → waits_at w o ≡ true →
+    open_wait past p ≡ Some w
 unfolding wait_in
 waits_at-open past callers m w p o line test = sym (m.waits p) ∙ by o.wait refl test
   where
@@ -247,7 +248,8 @@ keep-got past callers m legal p call place (Some w) n payload says free =
 keep-by : (past : Past) (callers : List Caller) → CallersMirror past callers → Legal past →
     (p : ℕ) (call : Call) (reply : Reply) (payload : List ℕ) (q : ℕ) → Says past p call reply →
     (ends_wait reply ≡ false → open_wait past p ≡ None) → p < length callers →
-    EntryQueue past p call payload reply q → CallersMirror (rec p call reply payload ∷ past)
+    EntryQueue past p call payload reply q →
+    CallersMirror (rec p call reply payload ∷ past)
     (noted_waits callers (length past) p call reply q)
 keep-by past callers m legal p call (Handed w) payload q says free lt at = let x =
     hands-least past p call w says in answers-waiter past callers m legal p call (Handed w) payload

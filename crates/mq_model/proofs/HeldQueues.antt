@@ -22,8 +22,8 @@ use Rattle.mq_model.specs.declared.entries.Reply.{Reply}
 use Rattle.mq_model.specs.declared.entries.Reply.TheVariants.{Opened}
 
 setattr-cases : (X : Type 0) (call : Call) (d : ℕ) (before : Option Description) (h : Description) →
-    after_setattr call d before ≡ Some h → ((k : Description) → before ≡ Some k → k.queue ≡
-    h.queue → X) → X
+    after_setattr call d before ≡ Some h →
+    ((k : Description) → before ≡ Some k → k.queue ≡ h.queue → X) → X
 setattr-cases X call d before h is old = grind arith
 
 -- what is held after an entry of its process: what an open made, or what was held before, on the
@@ -77,8 +77,8 @@ bound-created (r ∷ past) name q e =
     (λ g. let old : bound_queue past name ≡ Some q = rw (f, g) at e in created-more past r q
     (bound-created past name q old)))
 
-pub created-held : (past : Past) → Legal past → (p d : ℕ) (h : Description) → held past p d ≡
-    Some h → is_in (created past) h.queue ≡ true
+pub created-held : (past : Past) → Legal past → (p d : ℕ) (h : Description) →
+    held past p d ≡ Some h → is_in (created past) h.queue ≡ true
 created-held [] legal p d h e = absurd (cc)
 created-held (r ∷ past) legal p d h e = split (shares r.entry.process p)
     (λ own.
@@ -90,9 +90,9 @@ created-held (r ∷ past) legal p d h e = split (shares r.entry.process p)
     (λ other. let was : held past p d ≡ Some h = rw other at e in created-more past r h.queue
     (created-held past legal.0 p d h was))
   where
-    opened : (new : Bool) (flags : OpenFlags) (attr : Option Attr) → r.entry.call ≡
-        MqOpen flags attr → r.entry.reply ≡ Opened d new → opened_queue past r.payload new ≡
-        h.queue → is_in (created (r ∷ past)) h.queue ≡ true
+    opened : (new : Bool) (flags : OpenFlags) (attr : Option Attr) →
+        r.entry.call ≡ MqOpen flags attr → r.entry.reply ≡ Opened d new →
+        opened_queue past r.payload new ≡ h.queue → is_in (created (r ∷ past)) h.queue ≡ true
     opened true flags attr call reply q = rw (call, reply, eq-eqb (length past) h.queue q) refl
     opened false flags attr call reply q =
         grind (arith, nat_tests, created-more, bound-created)

@@ -32,7 +32,7 @@ first-Some t d lt passes before = find-from t 0 16 d (omega arith) (omega arith)
     (λ e above below. before e below)
 
 -- none of them passes
-pub first-None : (t : ℕ → Bool) → ((e : ℕ) → e < 16 → t e ≡ false) → find t descriptor_numbers ≡
-    None
+pub first-None : (t : ℕ → Bool) → ((e : ℕ) → e < 16 → t e ≡ false) →
+    find t descriptor_numbers ≡ None
 unfolding descriptor_numbers
 first-None t all = find-none_from t 0 16 (λ e above below. all e (omega arith))

@@ -36,7 +36,7 @@ pub shares_own : (a b : ℕ) → a ≤ 32 → b ≤ 32 → shares a b ≡ (a == 
 shares_own a b x y = rw (owner_own a x, owner_own b y) refl
 
 -- threads of one process hold the same
-pub held-mates : (past : Past) (a b : ℕ) → owner_of a ≡ owner_of b → (d : ℕ) → held past a d ≡
-    held past b d
+pub held-mates : (past : Past) (a b : ℕ) → owner_of a ≡ owner_of b → (d : ℕ) →
+    held past a d ≡ held past b d
 held-mates [] a b e d = refl
 held-mates (r ∷ past) a b e d = rw (e, held-mates past a b e d) refl

@@ -47,13 +47,14 @@ newest-is : (past : Past) (r : Record) (s : WaitKind) (q : ℕ) →
     (blocks s r.entry.call r.entry.reply && is_on past r.entry q) ≡ true
 newest-is past r s q h = grind (arith, blocked-cases, blocked-below)
 
-pub newest-receive : (past : Past) (r : Record) (q : ℕ) → is_in (blocked_receives (r ∷ past) q)
-    (length past) ≡ true → (blocks_receive r.entry.call r.entry.reply && is_on past r.entry q) ≡
-    true
+pub newest-receive : (past : Past) (r : Record) (q : ℕ) →
+    is_in (blocked_receives (r ∷ past) q) (length past) ≡ true →
+    (blocks_receive r.entry.call r.entry.reply && is_on past r.entry q) ≡ true
 newest-receive past r q h = newest-is past r Receive q h
 
-pub newest-send : (past : Past) (r : Record) (q : ℕ) → is_in (blocked_sends (r ∷ past) q)
-    (length past) ≡ true → (blocks_send r.entry.call r.entry.reply && is_on past r.entry q) ≡ true
+pub newest-send : (past : Past) (r : Record) (q : ℕ) →
+    is_in (blocked_sends (r ∷ past) q) (length past) ≡ true →
+    (blocks_send r.entry.call r.entry.reply && is_on past r.entry q) ≡ true
 newest-send past r q h = newest-is past r Send q h
 
 not-both-blocked : (call : Call) (reply : Reply) → blocks_send call reply ≡ true →

@@ -35,8 +35,8 @@ made-older past r n x = record {
 }
 
 pub made-of : (p here : ℕ) (call : Call) (reply : Reply) (n : Registration) →
-    registration_of here p call reply ≡ Some n → (n.place ≡ here) × (n.process ≡ p) ×
-    (value_of_notify call ≡ Some n.value)
+    registration_of here p call reply ≡ Some n →
+    (n.place ≡ here) × (n.process ≡ p) × (value_of_notify call ≡ Some n.value)
 made-of p here call reply n e = grind arith
 
 pub only-some : (b : Bool) (o : Option Registration) (n : Registration) → only_if b o ≡ Some n →
@@ -87,8 +87,8 @@ value-of past q n e p =
     ap (value_given p) x.at ∙ rw (x.process, x.value) refl
 
 -- threads of one process have the same notices
-given-mates : (past : Past) (a b : ℕ) → owner_of a ≡ owner_of b → notices_given past a ≡
-    notices_given past b
+given-mates : (past : Past) (a b : ℕ) → owner_of a ≡ owner_of b →
+    notices_given past a ≡ notices_given past b
 given-mates [] a b e = refl
 given-mates (r ∷ past) a b e = rw (e, given-mates past a b e) refl
 
@@ -101,8 +101,8 @@ value-mates past a b (Some k) e = by (record_at past k)
     by None = refl
     by (Some r) = rw e refl
 
-values-mates : (past : Past) (a b : ℕ) → owner_of a ≡ owner_of b → values_notified past a ≡
-    values_notified past b
+values-mates : (past : Past) (a b : ℕ) → owner_of a ≡ owner_of b →
+    values_notified past a ≡ values_notified past b
 values-mates [] a b e = refl
 values-mates (r ∷ past) a b e = rw (
   values-mates past a b e,
@@ -110,8 +110,8 @@ values-mates (r ∷ past) a b e = rw (
       (notified r.entry.reply) e,
 ) refl
 
-pub notices-mates : (past : Past) (a b : ℕ) → owner_of a ≡ owner_of b → notices past a ≡
-    notices past b
+pub notices-mates : (past : Past) (a b : ℕ) → owner_of a ≡ owner_of b →
+    notices past a ≡ notices past b
 notices-mates past a b e = rw (given-mates past a b e, values-mates past a b e) refl
 
 -- a process was given no more notices than it had
@@ -174,9 +174,9 @@ drop-append : (k : ℕ) (xs ys : List ℕ) → k ≤ length xs → drop k (xs ++
 drop-append k xs ys le = grind (arith, common_steps)
 
 -- a record that notifies the registration of a queue
-pub notices-notified : (past : Past) → Legal past → (r : Record) (q : ℕ) (n : Registration)
-    (p : ℕ) → registered past q ≡ Some n → notified r.entry.reply ≡ Some n.place →
-    gives_notice r.entry.reply ≡ false →
+pub notices-notified : (past : Past) → Legal past →
+    (r : Record) (q : ℕ) (n : Registration) (p : ℕ) → registered past q ≡ Some n →
+    notified r.entry.reply ≡ Some n.place → gives_notice r.entry.reply ≡ false →
     notices (r ∷ past) p ≡ (if shares n.process p then notices past p ++ n.value ∷
     [] else notices past p)
 notices-notified past legal r q n p stands is quiet = grind (

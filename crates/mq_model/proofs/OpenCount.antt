@@ -19,8 +19,8 @@ use Rattle.mq_model.specs.declared.callers.Caller.{Caller}
 abbrev one_if : Bool → ℕ
 one_if b = cond b 1 0
 
-count-cons : (f : ℕ → Bool) (x : ℕ) (xs : List ℕ) → count_by f (x ∷ xs) ≡
-    one_if (f x) + count_by f xs
+count-cons : (f : ℕ → Bool) (x : ℕ) (xs : List ℕ) →
+    count_by f (x ∷ xs) ≡ one_if (f x) + count_by f xs
 count-cons f x xs = sum_by-cons (λ y. one_if (f y)) x xs
 
 -- a caller without a record has no open wait
@@ -38,8 +38,8 @@ no-record (r ∷ past) k all = grind (
 -- if f says of each index whether the caller there waits, as many wait as there are indices for
 -- which f is true
 count-lines : (f : ℕ → Bool) (callers : List Caller) (k : ℕ) →
-    ((i : ℕ) → is_some (wait_in callers i) ≡ f (k + i)) → waits_count callers ≡
-    count_by f (numbers_from k (length callers))
+    ((i : ℕ) → is_some (wait_in callers i) ≡ f (k + i)) →
+    waits_count callers ≡ count_by f (numbers_from k (length callers))
 unfolding waits_count wait_in
 count-lines f [] k same = refl
 count-lines f (o ∷ callers) k same =
@@ -86,12 +86,13 @@ from-one (r ∷ past) legal = grind (arith, All-cons, and_parts, from-one past l
 -- record
 counted : (past : Past) (callers : List Caller) (n m : ℕ) → Legal past →
     CallersMirror past callers → length callers ≡ n + 1 → n ≤ m →
-    All (λ (r : Record). r.entry.process ≤ n) past → waits_count callers ≡
-    count_by (λ p. is_some (open_wait past p)) (numbers_from 1 m)
+    All (λ (r : Record). r.entry.process ≤ n) past →
+    waits_count callers ≡ count_by (λ p. is_some (open_wait past p)) (numbers_from 1 m)
 counted past callers n m legal mirror count few all =
     let f : ℕ → Bool = λ p. is_some (open_wait past p) in
-    let same : (i : ℕ) → is_some (wait_in callers i) ≡ f i =
-    λ i. sym (kept-some (wait_in callers i)) ∙ ap is_some (mirror.waits i) in
+    let same : (i : ℕ) →
+    is_some (wait_in callers i) ≡ f i = λ i. sym (kept-some (wait_in callers i)) ∙
+    ap is_some (mirror.waits i) in
     let lines : waits_count callers ≡ count_by f (numbers_from 0 (length callers)) =
     count-lines f callers 0 (λ i. same i ∙ ap f (omega arith)) in
     let zeroth : f 0 ≡ false =

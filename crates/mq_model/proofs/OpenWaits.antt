@@ -34,8 +34,8 @@ open_wait-process (r ∷ past) p w e = split (r.entry.process == p)
         Some p → w < length past
     within past w p h = found past w p (record_at past w) refl h
 
-pub same-waiter : (past : Past) (p k w : ℕ) → open_wait past p ≡ Some w → open_wait past k ≡
-    Some w → p ≡ k
+pub same-waiter : (past : Past) (p k w : ℕ) → open_wait past p ≡ Some w →
+    open_wait past k ≡ Some w → p ≡ k
 same-waiter past p k w e f = let a : Some p ≡ Some k = sym (open_wait-process past p w e) ∙
     open_wait-process past k w f in cc
 
@@ -54,8 +54,8 @@ pub wait_deadline-same : (past : Past) (r : Record) → open_wait past r.entry.p
 wait_deadline-same past r none goes k = grind (arith, eqb-true, deadline-none)
 
 -- a wait whose deadline has passed is open
-deadline-waits : (past : Past) (p : ℕ) (now : Deadline) → is_over (wait_deadline past p) now ≡
-    true → (w : ℕ) × (open_wait past p ≡ Some w)
+deadline-waits : (past : Past) (p : ℕ) (now : Deadline) →
+    is_over (wait_deadline past p) now ≡ true → (w : ℕ) × (open_wait past p ≡ Some w)
 deadline-waits [] p now h = absurd (cc)
 deadline-waits (r ∷ past) p now h = split (r.entry.process == p)
     (λ own. let last : is_over (if is_wait r.entry.reply then deadline_of r.entry.call else None)

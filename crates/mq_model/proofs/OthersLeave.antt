@@ -28,8 +28,8 @@ others-leave past p = record { wait = wait; answered = answered }
     other r more e = let parts = and_parts (not (r.entry.process == p)) (are_of_others p more) e in
         (not-true _ parts.0, parts.1)
 
-    wait : (more : List Record) → are_of_others p more ≡ true → open_wait (more ++ past) p ≡
-        open_wait past p
+    wait : (more : List Record) → are_of_others p more ≡ true →
+        open_wait (more ++ past) p ≡ open_wait past p
     wait [] e = refl
     wait (r ∷ more) e = let x = other r more e in rw x.0 (wait more x.1)
 
@@ -45,8 +45,8 @@ pub answered-stays : (p : ℕ) (more before : List Record) → All (λ r. r.entr
     is_answered before p ≡ true → is_answered (more ++ before) p ≡ true
 answered-stays p more before all h = (others-leave before p).answered more (of-others more all) h
   where
-    of-others : (more : List Record) → All (λ r. r.entry.process ≢ p) more → are_of_others p more ≡
-        true
+    of-others : (more : List Record) → All (λ r. r.entry.process ≢ p) more →
+        are_of_others p more ≡ true
     of-others [] all = refl
     of-others (r ∷ more) all =
         let other = All-head (λ (r : Record). r.entry.process ≢ p) r more all in

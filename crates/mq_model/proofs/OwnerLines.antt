@@ -51,8 +51,8 @@ held_in-number owners p d h slots e = by (slice_get owners (owner_of p)) refl e
         None = slice_get_past o.descriptors d (omega arith) in let bad : None ≡ Some h =
         rw none at is in cc)
 
-    by : (x : Option Owner) → slice_get owners (owner_of p) ≡ x → option_and_then (slot_of d) x ≡
-        Some h → d < 16
+    by : (x : Option Owner) → slice_get owners (owner_of p) ≡ x →
+        option_and_then (slot_of d) x ≡ Some h → d < 16
     by None is g = absurd (cc)
     by (Some o) is g = at o (slots (owner_of p) o is) (below-or 16) g
 

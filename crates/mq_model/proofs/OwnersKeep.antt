@@ -34,8 +34,9 @@ abbrev IsQuiet : Past → ℕ → Call → Reply → List ℕ → Type 0
 IsQuiet past p call reply payload = (d : ℕ) → held_after past call payload reply d (held past p d) ≡
     held past p d
 
-held-quiet : (past : Past) (r : Record) → IsQuiet past r.entry.process r.entry.call r.entry.reply
-    r.payload → (k d : ℕ) → held (r ∷ past) k d ≡ held past k d
+held-quiet : (past : Past) (r : Record) →
+    IsQuiet past r.entry.process r.entry.call r.entry.reply r.payload → (k d : ℕ) →
+    held (r ∷ past) k d ≡ held past k d
 held-quiet past r same k d = split (shares r.entry.process k)
     (λ t. let e : owner_of r.entry.process ≡ owner_of k = eqb-true _ _ t in
     rw t (rw (← held-mates past r.entry.process k e d) (same d))) (λ f. rw f refl)
@@ -68,8 +69,9 @@ keep-slot past owners m p call reply payload d v lt changes =
       held = held-slot;
     }
   where
-    mates : (k e : ℕ) → owner_of p ≡ owner_of k → held_after past call payload reply e
-        (held past k e) ≡ (if d == e then v else held_in owners k e)
+    mates : (k e : ℕ) → owner_of p ≡ owner_of k →
+        held_after past call payload reply e (held past k e) ≡
+        (if d == e then v else held_in owners k e)
     mates k e same = rw (m.held k e, ← held-mates past p k same e) (changes.descriptors e)
 
     held-slot : (k e : ℕ) → held_in (with_slot owners p d v) k e ≡
@@ -107,8 +109,8 @@ held-small : (past : Past) (owners : List Owner) → OwnersMirror past owners �
 held-small past owners m p d e = grind (arith, held_in-number)
 
 keep-opened : (past : Past) (owners : List Owner) → OwnersMirror past owners →
-    (p : ℕ) (call : Call) (payload : List ℕ) (d : ℕ) (created : Bool) (q : ℕ) → Opened d created ≡
-    reply_to past p call payload → owner_of p < length owners →
+    (p : ℕ) (call : Call) (payload : List ℕ) (d : ℕ) (created : Bool) (q : ℕ) →
+    Opened d created ≡ reply_to past p call payload → owner_of p < length owners →
     q ≡ opened_queue past payload created →
     OwnersMirror (rec p call (Opened d created) payload ∷ past)
     (noted owners p call (Opened d created) q)

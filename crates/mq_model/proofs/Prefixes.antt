@@ -51,13 +51,14 @@ record_at-first (s ∷ past) k q lt le =
     let other : (q == length past) ≡ false = ne_eqb _ _ (λ e. omega arith) in
     rw (less, other) (record_at-first past k q lt (omega arith)))
 
-pub record_at-of_first : (past : Past) (k q : ℕ) (r : Record) → first (q + 1) past ≡
-    r ∷ first q past → q < k → k ≤ length past → record_at (first k past) q ≡ Some r
+pub record_at-of_first : (past : Past) (k q : ℕ) (r : Record) →
+    first (q + 1) past ≡ r ∷ first q past → q < k → k ≤ length past →
+    record_at (first k past) q ≡ Some r
 record_at-of_first past k q r is lt le = grind (arith, common_steps, first-more, record_at-first)
 
-pub named_is : (past : Past) (k q : ℕ) (r : Record) (o : Option ℕ) → first (q + 1) past ≡
-    r ∷ first q past → q < k → k ≤ length past → o ≡ bound_queue (first k past) r.payload →
-    is_place q o ≡ is_named (first k past) q
+pub named_is : (past : Past) (k q : ℕ) (r : Record) (o : Option ℕ) →
+    first (q + 1) past ≡ r ∷ first q past → q < k → k ≤ length past →
+    o ≡ bound_queue (first k past) r.payload → is_place q o ≡ is_named (first k past) q
 named_is past k q r o is lt le e = grind (arith, record_at-of_first)
 
 -- the first records, as many as there are, are all of them

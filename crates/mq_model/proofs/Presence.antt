@@ -30,17 +30,17 @@ reply_at past m = option_map (λ r. r.entry.reply) (record_at past m)
 pub place-is : (o : Option ℕ) (q : ℕ) → is_place q o ≡ true → o ≡ Some q
 place-is o q e = grind (arith, eqb-true)
 
-sent_to-older : (past : Past) (r : Record) (m : ℕ) → m < length past → sent_to (r ∷ past) m ≡
-    sent_to past m
+sent_to-older : (past : Past) (r : Record) (m : ℕ) → m < length past →
+    sent_to (r ∷ past) m ≡ sent_to past m
 sent_to-older past r m lt = rw (ne_eqb m (length past) (λ e. omega arith)) refl
 
-reply_at-older : (past : Past) (r : Record) (m : ℕ) → m < length past → reply_at (r ∷ past) m ≡
-    reply_at past m
+reply_at-older : (past : Past) (r : Record) (m : ℕ) → m < length past →
+    reply_at (r ∷ past) m ≡ reply_at past m
 reply_at-older past r m lt = ap (option_map (λ (x : Record). x.entry.reply))
     (record_at-older past r m lt)
 
-reply_at-newest : (past : Past) (r : Record) → reply_at (r ∷ past) (length past) ≡
-    Some r.entry.reply
+reply_at-newest : (past : Past) (r : Record) →
+    reply_at (r ∷ past) (length past) ≡ Some r.entry.reply
 reply_at-newest past r = rw (eq-eqb (length past) (length past) refl) refl
 
 -- a blocked send is on its queue, and has the reply Waits
@@ -198,8 +198,8 @@ waiting-not_admitted past q w k h = grind (
   clash,
 )
 
-pub waiting-not_taken : (past : Past) → Legal past → (q w : ℕ) → is_in (waiting_sends past q) w ≡
-    true → is_in (taken past) w ≡ false
+pub waiting-not_taken : (past : Past) → Legal past → (q w : ℕ) →
+    is_in (waiting_sends past q) w ≡ true → is_in (taken past) w ≡ false
 waiting-not_taken past legal q w h = grind (
   arith,
   is_in-filter,
@@ -266,9 +266,10 @@ present-got_elsewhere past p call m a n payload q k facts ne =
         rw out refl
 
 -- a receive takes its message out of its queue, and lets in the one that it admits
-pub present-got_here : (past : Past) → Legal past → (p : ℕ) (call : Call) (m : ℕ) (a n : Option ℕ)
-    (payload : List ℕ) (q : ℕ) → GotFacts past q m a →
-    present (rec p call (Got m a n) payload ∷ past) q ≡ with_place a (without m (present past q))
+pub present-got_here : (past : Past) → Legal past →
+    (p : ℕ) (call : Call) (m : ℕ) (a n : Option ℕ) (payload : List ℕ) (q : ℕ) →
+    GotFacts past q m a → present (rec p call (Got m a n) payload ∷ past) q ≡
+    with_place a (without m (present past q))
 present-got_here past legal p call m None n payload q facts = filter-both (λ k. m == k)
     (is_in (taken past)) (admitted past q)
 present-got_here past legal p call m (Some w) n payload q facts =
@@ -288,8 +289,8 @@ pub present-handed : (past : Past) (p : ℕ) (call : Call) (w : ℕ) (payload : 
 present-handed past p call w payload q = grind (arith, filter-same, admitted-below)
 
 -- a priority does not change
-pub priority-older : (past : Past) (r : Record) (m : ℕ) → m < length past → priority (r ∷ past) m ≡
-    priority past m
+pub priority-older : (past : Past) (r : Record) (m : ℕ) → m < length past →
+    priority (r ∷ past) m ≡ priority past m
 priority-older past r m lt =
     ap (λ o. unwrap_or (option_map (λ (x : Record). priority_given x.entry.call) o) 0)
     (record_at-older past r m lt)

@@ -44,8 +44,8 @@ creates-within : (past : Past) (r : Record) → IsLegalNext past r →
 creates-within past r legal e = grind arith
 
 -- a queue created is an older one, or the newest record created it
-pub created-cases : {C : Type 0} (past : Past) (r : Record) (q : ℕ) → is_in (created (r ∷ past)) q ≡
-    true →
+pub created-cases : {C : Type 0} (past : Past) (r : Record) (q : ℕ) →
+    is_in (created (r ∷ past)) q ≡ true →
     (is_in (created past) q ≡ true → q < length past → C) →
     (creates r.entry.call r.entry.reply ≡ true → length past ≡ q → C) → C
 created-cases past r q h older newest = grind (arith, eqb-true, created-below)
@@ -114,8 +114,9 @@ without-le m [] = omega arith
 without-le m (x ∷ xs) = let le = without-le m xs in split (m == x) (λ t. rw t (omega (arith, le)))
     (λ f. rw f (omega (arith, le)))
 
-few-given : (past : Past) → Legal past → (p : ℕ) (call : Call) (m : ℕ) (a n : Option ℕ)
-    (payload : List ℕ) (k : ℕ) → GotFacts past k m a → (q : ℕ) →
+few-given : (past : Past) → Legal past →
+    (p : ℕ) (call : Call) (m : ℕ) (a n : Option ℕ) (payload : List ℕ) (k : ℕ) →
+    GotFacts past k m a → (q : ℕ) →
     length (present (rec p call (Got m a n) payload ∷ past) q) ≤ length (present past q)
 few-given past legal p call m a n payload k facts q = grind (
   arith,
@@ -134,8 +135,9 @@ got-facts past h m a n says = record {
   admitted = says.1;
 }
 
-few-got : (past : Past) → Legal past → (p : ℕ) (call : Call) (m : ℕ) (a n : Option ℕ)
-    (payload : List ℕ) → Says past p call (Got m a n) → (q : ℕ) →
+few-got : (past : Past) → Legal past →
+    (p : ℕ) (call : Call) (m : ℕ) (a n : Option ℕ) (payload : List ℕ) →
+    Says past p call (Got m a n) → (q : ℕ) →
     length (present (rec p call (Got m a n) payload ∷ past) q) ≤ length (present past q)
 few-got past legal p (MqReceive d room) m a n payload says q = few-given past legal p
     (MqReceive d room) m a n payload says.0.queue (got-facts past says.0 m a n says.3) q
@@ -155,9 +157,10 @@ pub called-on : (past : Past) (p d q : ℕ) (h : Description) → held past p d 
     is_place q (option_map (λ h. h.queue) (held past p d)) ≡ true → h.queue ≡ q
 called-on past p d q h e on = let test : (h.queue == q) ≡ true = rw e at on in eqb-true _ _ test
 
-few-sent : (past : Past) → Legal past → (p d : ℕ) (call : Call) (h : Description) (n : Option ℕ)
-    (payload : List ℕ) → is_send call ≡ true → called_queue past p call ≡ option_map (λ h. h.queue)
-    (held past p d) → held past p d ≡ Some h → is_full past h.queue ≡ false →
+few-sent : (past : Past) → Legal past →
+    (p d : ℕ) (call : Call) (h : Description) (n : Option ℕ) (payload : List ℕ) →
+    is_send call ≡ true → called_queue past p call ≡ option_map (λ h. h.queue) (held past p d) →
+    held past p d ≡ Some h → is_full past h.queue ≡ false →
     (q : ℕ) → q < length past → Few past q → Few (rec p call (Queued n) payload ∷ past) q
 few-sent past legal p d call h n payload sends calls is free q lt before =
     grind (arith, called-on, attributes-older, present-queued, present-queued_elsewhere)
@@ -203,8 +206,8 @@ creates-opened call reply e = grind arith
 first-two : (a b c d : Bool) → (a && b && c && d) ≡ true → (a ≡ true) × (b ≡ true)
 first-two a b c d e = grind arith
 
-within-both : (a : Attr) → are_within_limits (Some a) ≡ true → (int_le (pos 1) a.maxmsg ≡ true) ×
-    (int_le a.maxmsg (pos 4096) ≡ true)
+within-both : (a : Attr) → are_within_limits (Some a) ≡ true →
+    (int_le (pos 1) a.maxmsg ≡ true) × (int_le a.maxmsg (pos 4096) ≡ true)
 within-both a e = first-two (int_le (pos 1) a.maxmsg) (int_le a.maxmsg (pos 4096))
     (int_le (pos 1) a.msgsize) (int_le a.msgsize (pos 65536)) e
 
@@ -218,8 +221,8 @@ within-positive a e = le-one a.maxmsg (within-both a e).0
 within-most : (a : Attr) → are_within_limits (Some a) ≡ true → int_le a.maxmsg (pos 4096) ≡ true
 within-most a e = (within-both a e).1
 
-few-new : (past : Past) (r : Record) → Legal (r ∷ past) → creates r.entry.call r.entry.reply ≡
-    true → Few (r ∷ past) (length past)
+few-new : (past : Past) (r : Record) → Legal (r ∷ past) →
+    creates r.entry.call r.entry.reply ≡ true → Few (r ∷ past) (length past)
 few-new past r legal new =
     let is = creates-opened r.entry.call r.entry.reply new in
     let empty : present (r ∷ past) (length past) ≡ [] =

@@ -14,8 +14,8 @@ use Rattle.mq_model.specs.declared.entries.Entry.{Entry}
 use Rattle.mq_model.specs.declared.stored.StoredCall.{StoredCall}
 use Rattle.mq_model.specs.declared.stored.Stored.{Stored}
 
-pub slice_get-push : {X : Type 0} (xs : List X) (x : X) (k : ℕ) → slice_get (xs ++ x ∷ []) k ≡
-    (if k == length xs then Some x else slice_get xs k)
+pub slice_get-push : {X : Type 0} (xs : List X) (x : X) (k : ℕ) →
+    slice_get (xs ++ x ∷ []) k ≡ (if k == length xs then Some x else slice_get xs k)
 slice_get-push [] x zero = refl
 slice_get-push (y ∷ ys) x (suc k) = slice_get-push ys x k ∙ grind (arith, nat_tests)
 slice_get-push _ x _ = grind (arith, nat_tests)
@@ -45,8 +45,8 @@ slice_range-append : (bytes more : List ℕ) (start end : ℕ) → start ≤ end
     slice_range (bytes ++ more) start end ≡ slice_range bytes start end
 slice_range-append bytes more start end p q = grind (arith, common_steps)
 
-slice_range-end : (bytes more : List ℕ) → slice_range (bytes ++ more) (length bytes)
-    (length bytes + length more) ≡ more
+slice_range-end : (bytes more : List ℕ) →
+    slice_range (bytes ++ more) (length bytes) (length bytes + length more) ≡ more
 slice_range-end bytes more = grind (arith, common_steps)
 
 -- calls that are added to the separate list change no stored call
@@ -86,8 +86,8 @@ records_of-push apart calls bytes more stored s entry lie start end process call
 pub lies-push : (apart calls : List Call) (bytes more : List ℕ) (stored : List Stored)
     (s : Stored) → All (LiesIn apart bytes) stored →
     s.start ≡ length bytes → s.end ≡ length bytes + length more →
-    needs s.call ≤ length (apart ++ calls) → All (LiesIn (apart ++ calls) (bytes ++ more))
-    (stored ++ s ∷ [])
+    needs s.call ≤ length (apart ++ calls) →
+    All (LiesIn (apart ++ calls) (bytes ++ more)) (stored ++ s ∷ [])
 lies-push apart calls bytes more stored s lie start end there =
     grind (arith, common_steps, length-append, All-push, All-weaker)
 

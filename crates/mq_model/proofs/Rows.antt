@@ -20,8 +20,8 @@ slice_get-changed f (o ∷ rows) (suc p) (suc k) = slice_get-changed f rows p k 
     grind (arith, nat_tests)
 slice_get-changed f (o ∷ rows) _ _ = grind (arith, nat_tests)
 
-pub length-changed : {A : Type 0} (f : A → A) (rows : List A) (p : ℕ) → length (changed f rows p) ≡
-    length rows
+pub length-changed : {A : Type 0} (f : A → A) (rows : List A) (p : ℕ) →
+    length (changed f rows p) ≡ length rows
 length-changed f (o ∷ rows) (suc p) = ap suc (length-changed f rows p)
 length-changed f _ _ = refl
 

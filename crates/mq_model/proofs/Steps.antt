@@ -82,8 +82,8 @@ pub present-queued_elsewhere : (past : Past) (p : ℕ) (call : Call) (q : ℕ) (
 present-queued_elsewhere past p call q n message off = grind arith
 
 -- two tests in a row
-pub filter-both : (s t : ℕ → Bool) (xs : List ℕ) → filter (λ k. not (s k || t k)) xs ≡
-    filter (λ k. not (s k)) (filter (λ k. not (t k)) xs)
+pub filter-both : (s t : ℕ → Bool) (xs : List ℕ) →
+    filter (λ k. not (s k || t k)) xs ≡ filter (λ k. not (s k)) (filter (λ k. not (t k)) xs)
 filter-both s t [] = refl
 filter-both s t (x ∷ xs) = grind (arith, filter-both s t xs)
 

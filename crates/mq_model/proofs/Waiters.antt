@@ -27,8 +27,8 @@ abbrev pub ended_waits : Past → WaitKind → List ℕ
 ended_waits past Send = ended_sends past
 ended_waits past Receive = ended_receives past
 
-pub waiting-filter : (past : Past) (kind : WaitKind) (q : ℕ) → waiting past kind q ≡
-    filter (λ w. not (is_in (ended_waits past kind) w)) (blocked past kind q)
+pub waiting-filter : (past : Past) (kind : WaitKind) (q : ℕ) →
+    waiting past kind q ≡ filter (λ w. not (is_in (ended_waits past kind) w)) (blocked past kind q)
 waiting-filter past kind q = grind arith
 
 -- a process with an open wait that is not answered may only withdraw it

@@ -24,14 +24,14 @@ with_nonblock nonblock h = record { queue = h.queue; access = h.access; nonblock
 -- The queue that a successful open opened: a new one, or the one that the name was bound to. In a
 -- legal journal the 0 is never used, since an open that creates nothing found its name bound.
 abbrev pub opened_queue : Past → List ℕ → Bool → Queue
-opened_queue past name created = if created then length past else unwrap_or
-    (bound_queue past name) 0
+opened_queue past name created = if created then length past
+    else unwrap_or (bound_queue past name) 0
 
 -- what descriptor d stands for after an open that returned e
 abbrev pub after_open : Past → Call → List ℕ → Descriptor → Bool → Descriptor → Option Description →
     Option Description
-after_open past (MqOpen flags attr) name e created d before =
-    if e == d then Some (description (opened_queue past name created) flags) else before
+after_open past (MqOpen flags attr) name e created d before = if e == d
+    then Some (description (opened_queue past name created) flags) else before
 after_open past _ name e created d before = before
 
 -- what descriptor d stands for after a close
@@ -41,8 +41,8 @@ after_close _ d before = before
 
 -- what descriptor d stands for after a setattr
 abbrev pub after_setattr : Call → Descriptor → Option Description → Option Description
-after_setattr (MqSetattr e nonblock) d before = if e == d then option_map (with_nonblock nonblock)
-    before else before
+after_setattr (MqSetattr e nonblock) d before = if e == d
+    then option_map (with_nonblock nonblock) before else before
 after_setattr _ d before = before
 
 -- what descriptor d of a process stands for after an entry of that process, given what it stood for
@@ -58,8 +58,8 @@ held_after past call name _ d before = before
 -- with the flag of the latest setattr after it; none if d was closed since.
 abbrev pub held : Past → Process → Descriptor → Option Description
 held [] p d = None
-held (r ∷ past) p d = if shares r.entry.process p then held_after past r.entry.call r.payload
-    r.entry.reply d (held past p d) else held past p d
+held (r ∷ past) p d = if shares r.entry.process p
+    then held_after past r.entry.call r.payload r.entry.reply d (held past p d) else held past p d
 
 abbrev pub numbers_from : ℕ → ℕ → List ℕ
 numbers_from low zero = []
@@ -110,8 +110,8 @@ is_on past e q = is_place q (called_queue past e.process e.call)
 -- the queues created so far, the latest first
 abbrev pub created : Past → List Queue
 created [] = []
-created (r ∷ past) = if creates r.entry.call r.entry.reply then length past ∷
-    created past else created past
+created (r ∷ past) = if creates r.entry.call r.entry.reply then length past ∷ created past
+    else created past
 
 -- a process with a descriptor that it was given
 pub record Holder : Type 0 where

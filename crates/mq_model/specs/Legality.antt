@@ -120,8 +120,7 @@ is_payload (MqTimedSend d prio len until now) reply payload =
 is_payload _ reply payload = length payload == 0
 
 -- A caller with an open wait may only collect, if the wait is answered, or withdraw, if its
--- deadline
--- has passed and it is not answered. Any other caller may make any call but these two.
+-- deadline has passed and it is not answered. Any other caller may make any call but these two.
 abbrev pub may_call : Past → Process → Call → Bool
 may_call past p Collect = is_some (answered_by past p)
 may_call past p (Withdraw now) = is_none (answered_by past p) && is_over (wait_deadline past p) now

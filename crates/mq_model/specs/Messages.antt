@@ -81,8 +81,8 @@ ended_receives (r ∷ past) = with_place (ends_receive r.entry.reply) (ended_rec
 -- the sends to a queue that began to wait, and the receives, the latest first
 abbrev pub blocked_sends : Past → Queue → List Place
 blocked_sends [] q = []
-blocked_sends (r ∷ past) q = if blocks_send r.entry.call r.entry.reply && is_on past r.entry q then
-    length past ∷ blocked_sends past q else blocked_sends past q
+blocked_sends (r ∷ past) q = if blocks_send r.entry.call r.entry.reply && is_on past r.entry q
+    then length past ∷ blocked_sends past q else blocked_sends past q
 
 abbrev pub blocked_receives : Past → Queue → List Place
 blocked_receives [] q = []
@@ -118,8 +118,8 @@ admitted (r ∷ past) q = with_place (entered past r.entry q) (admitted past q)
 -- the messages that were handed to a receive that waited on the queue
 abbrev pub handed : Past → Queue → List Message
 handed [] q = []
-handed (r ∷ past) q = if hands_over r.entry.call r.entry.reply && is_on past r.entry q then length
-    past ∷ handed past q else handed past q
+handed (r ∷ past) q = if hands_over r.entry.call r.entry.reply && is_on past r.entry q
+    then length past ∷ handed past q else handed past q
 
 -- the message was accepted: it entered the queue, or was handed over
 abbrev pub is_accepted : Past → Queue → Message → Bool

@@ -9,8 +9,8 @@ is_name_byte b = not (b == 47) && not (b == 0)
 
 -- a slash, and then at least one byte, each of them allowed there
 abbrev pub has_name_form : List ℕ → Bool
-has_name_form bytes = nat_lt 1 (length bytes) && slice_index bytes 0 == 47 && list_all
-    is_name_byte (drop 1 bytes)
+has_name_form bytes = nat_lt 1 (length bytes) && slice_index bytes 0 == 47 &&
+    list_all is_name_byte (drop 1 bytes)
 
 -- at most 255 bytes follow the slash
 abbrev pub is_short : List ℕ → Bool

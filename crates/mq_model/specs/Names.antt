@@ -59,5 +59,5 @@ attributes past q = unwrap_or (option_map (λ r. attributes_given r.entry.call) 
 abbrev pub are_within_limits : Option Attr → Bool
 are_within_limits None = true
 are_within_limits (Some attr) =
-    int_le (pos 1) attr.maxmsg && int_le attr.maxmsg (pos most_messages) && int_le
-    (pos 1) attr.msgsize && int_le attr.msgsize (pos most_message_bytes)
+    int_le (pos 1) attr.maxmsg && int_le attr.maxmsg (pos most_messages) &&
+    int_le (pos 1) attr.msgsize && int_le attr.msgsize (pos most_message_bytes)

@@ -118,8 +118,8 @@ gives_notice _ = false
 -- how many notices process p has taken
 abbrev pub notices_given : Past → Process → ℕ
 notices_given [] p = 0
-notices_given (r ∷ past) p = if gives_notice r.entry.reply && shares r.entry.process p then
-    notices_given past p + 1 else notices_given past p
+notices_given (r ∷ past) p = if gives_notice r.entry.reply && shares r.entry.process p
+    then notices_given past p + 1 else notices_given past p
 
 -- the notices that process p has not yet taken, the oldest first
 abbrev pub notices : Past → Process → List ℕ

@@ -51,6 +51,6 @@ free_owner = record { descriptors = replicate most_descriptors None }
 -- the table has a row for each process at most, and says what the definitions say about the journal
 pub record OwnersMirror (past : Past) (owners : List Owner) : Type 0 where
   pub few : length owners ≤ most_processes + 1
-  pub slots : (p : ℕ) (o : Owner) → slice_get owners p ≡ Some o → length o.descriptors ≡
-      most_descriptors
+  pub slots : (p : ℕ) (o : Owner) → slice_get owners p ≡ Some o →
+      length o.descriptors ≡ most_descriptors
   pub held : (p d : ℕ) → held_in owners p d ≡ held past p d

@@ -1,8 +1,7 @@
 -- Which callers are threads of one process. A journal has the number of the caller of each call.
--- The
--- callers 1 to 32 are the first threads of the processes 1 to 32, and caller o + 32 * t is another
--- thread of process o. A thread has its own open wait. Descriptors, registrations and notices are
--- those of its process.
+-- The callers 1 to 32 are the first threads of the processes 1 to 32, and caller o + 32 * t is
+-- another thread of process o. A thread has its own open wait. Descriptors, registrations and
+-- notices are those of its process.
 use Rattle.std.specs.Prelude.{ℕ, ◌+◌, ◌-◌, ◌%◌, Bool, ◌==◌, nat_le, if◌then◌else◌}
 use Rattle.mq_model.specs.Limits.{most_processes}
 

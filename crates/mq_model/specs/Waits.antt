@@ -60,7 +60,7 @@ are_of_others p more = list_all (λ r. not (r.entry.process == p)) more
 
 -- Records of other callers leave an open wait open, and an answered one answered.
 pub record OthersLeave (past : Past) (p : Process) : Type 0 where
-  pub wait : (more : List Record) → are_of_others p more ≡ true → open_wait (more ++ past) p ≡
-      open_wait past p
+  pub wait : (more : List Record) → are_of_others p more ≡ true →
+      open_wait (more ++ past) p ≡ open_wait past p
   pub answered : (more : List Record) → are_of_others p more ≡ true → is_answered past p ≡ true →
       is_answered (more ++ past) p ≡ true

@@ -85,8 +85,9 @@ levels-few n p t nx m lp ll new chain levels within spare =
       | inr other ↦ omega arith
     ] in
     let new_high : 0 < new = not_head new (omega arith) in
-    let high : (k : ℕ) → k < m → 0 < ll k = λ k kl. (let level = levels.level k kl in
-    let low = levels.low k kl in not_head (ll k) (omega arith)) in
+    let high : (k : ℕ) → k < m →
+    0 < ll k = λ k kl. (let level = levels.level k kl in let low = levels.low k kl in
+    not_head (ll k) (omega arith)) in
     let apart_new : (k : ℕ) → k < m →
     ll k ≢ new = λ k kl e. (let same : p (ll k) ≡ p new = ap p e in let level = levels.level k
     kl in let low = levels.low k kl in omega arith) in

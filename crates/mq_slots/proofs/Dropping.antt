@@ -64,8 +64,9 @@ dropped-top n p t nx p' t' nx' m lp ll lp' ll' first free count chain old best s
     let gone = step.gone_p in
     let stays : (j : ℕ) → p' j < 32768 →
     j ≢ first = λ j jp e. (let same : p' j ≡ p' first = ap p' e in omega arith) in
-    let apart : (k : ℕ) → k < m - 1 → ll k ≢ first = λ k kl. first_is_high n p t nx m lp ll first
-    chain old best k (omega arith) in
+    let apart : (k : ℕ) → k < m - 1 →
+    ll k ≢ first = λ k kl. first_is_high n p t nx m lp ll first chain old best k
+    (omega arith) in
     record {
       rising = λ a b less bl. (let is_a = same_lp a (omega arith) in let is_b = same_lp b bl in
           let more = old.rising a b less (omega arith) in omega arith);

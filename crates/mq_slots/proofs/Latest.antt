@@ -121,8 +121,9 @@ popped-without cells levels free count room pop =
     (get_or-set_same cells 0 _ blank there) in
     let used = best.used in
     let within : first < length relinked = subst (λ x. first < x) (sym long) best.within in
-    let alone : (j : ℕ) → j < length relinked → prio_at relinked j < 32768 → place_at relinked j ≡
-    place_at relinked first → j ≡ first = λ j jl jp e. elim (cases_eq j 0) [
+    let alone : (j : ℕ) → j < length relinked → prio_at relinked j < 32768 →
+    place_at relinked j ≡ place_at relinked first →
+    j ≡ first = λ j jl jp e. elim (cases_eq j 0) [
       | inl zero_is ↦ absurd (let same : prio_at relinked j ≡ prio_at relinked 0 = ap
           (prio_at relinked) zero_is in omega arith)
       | inr other ↦ (

@@ -50,8 +50,8 @@ fresh-sound cells levels spare room fresh none few roomy =
     let empty : length levels ≡ 0 = ap length none in
     let counted : length (messages cells) ≡ 0 = ap length (fresh-messages cells spare fresh) in
     let is = spare_at cells spare fresh in
-    let high : (i : ℕ) → i < length cells → 32768 ≤ prio_at cells i =
-    λ i within. elim (cases_eq i 0) [
+    let high : (i : ℕ) → i < length cells →
+    32768 ≤ prio_at cells i = λ i within. elim (cases_eq i 0) [
       | inl e ↦ (let same : prio_at cells i ≡ prio_at cells 0 = ap (prio_at cells) e in omega arith)
       | inr other ↦ (let prio = (is i within other).prio in omega arith)
     ] in

@@ -75,8 +75,9 @@ noted-there n p t nx p' t' nx' m lp ll lp' ll' before at new q s old step fresh 
     let tn = step.new_t in
     let spare = fresh.spare in
     let used = fresh.low in
-    let apart : (k : ℕ) → k < m → ll k ≢ new = λ k kl e. (let same : p (ll k) ≡ p new = ap p e in
-    let level = old.level k kl in let low = old.low k kl in omega arith) in
+    let apart : (k : ℕ) → k < m →
+    ll k ≢ new = λ k kl e. (let same : p (ll k) ≡ p new = ap p e in let level = old.level k
+    kl in let low = old.low k kl in omega arith) in
     record {
       rising = λ a b less bl. (let is_a = same_lp a in let is_b = same_lp b in
           let less = old.rising a b less bl in omega arith);
@@ -194,8 +195,9 @@ noted-new n p t nx p' t' nx' m lp ll lp' ll' before at new q s old step fresh pl
     let was = was_of m lp ll lp' ll' at new q put_p put_l placed.below rest within in
     let here = put_p.here in
     let here_last = put_l.here in
-    let apart : (k : ℕ) → k < m → ll k ≢ new = λ k kl e. (let same : p (ll k) ≡ p new = ap p e in
-    let level = old.level k kl in let low = old.low k kl in omega arith) in
+    let apart : (k : ℕ) → k < m →
+    ll k ≢ new = λ k kl e. (let same : p (ll k) ≡ p new = ap p e in let level = old.level k
+    kl in let low = old.low k kl in omega arith) in
     record {
       rising = λ a b less bl. elim (cases_lt a at) [
         | inl al ↦ (let is_a = put_p.lower a al in let under = placed.below a al in

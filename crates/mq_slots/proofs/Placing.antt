@@ -122,8 +122,8 @@ placed-top m [] below = refl
 placed-top m (x ∷ xs) below = rw (lt-ltb x.1 m.1 below.0) refl
 
 -- and another comes after it
-pub placed-under : (m top : ℕ × ℕ) (xs : List (ℕ × ℕ)) → m.1 < top.1 → placed m (top ∷ xs) ≡
-    top ∷ placed m xs
+pub placed-under : (m top : ℕ × ℕ) (xs : List (ℕ × ℕ)) → m.1 < top.1 →
+    placed m (top ∷ xs) ≡ top ∷ placed m xs
 placed-under m top xs lt = rw (le-ltb top.1 m.1 (omega arith)) refl
 
 -- without one of them -----------------------------------------------------------------------------

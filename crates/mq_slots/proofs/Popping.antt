@@ -22,8 +22,8 @@ pub record IsPop (cells : List Cell) (levels : List Level) (free count room : �
   pub some : count + 1 ≢ length cells
 
 pub pop-first : (cells : List Cell) (levels : List Level) (free count room : ℕ) →
-    IsPop cells levels free count room → IsFirst (length cells) (prio_at cells) (place_at cells)
-    (next_at cells 0)
+    IsPop cells levels free count room →
+    IsFirst (length cells) (prio_at cells) (place_at cells) (next_at cells 0)
 pop-first cells levels free count room pop = grind (arith, some-used, head-first)
 
 pub pop-apart : (cells : List Cell) (levels : List Level) (free count room : ℕ) →
@@ -125,10 +125,8 @@ popped-sound cells levels free count room room' pop more =
 
 -- the first slot's message is the best
 pub popped-best : (cells : List Cell) (levels : List Level) (free count room : ℕ) →
-    IsPop cells levels free count room → IsBest (messages cells) (
-      prio_at cells (next_at cells 0),
-      place_at cells (next_at cells 0),
-    )
+    IsPop cells levels free count room →
+    IsBest (messages cells) (prio_at cells (next_at cells 0), place_at cells (next_at cells 0))
 popped-best cells levels free count room pop =
     let first = next_at cells 0 in
     let sound = pop.sound in

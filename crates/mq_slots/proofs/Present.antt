@@ -96,8 +96,8 @@ messages-relinked (d ∷ cells) (suc i) next =
 messages-relinked _ _ next = refl
 
 -- if there are messages, some slot has one
-pub some-used : (cells : List Cell) → 0 < length (messages cells) → (i : ℕ) × (i < length cells) ×
-    (prio_at cells i < 32768)
+pub some-used : (cells : List Cell) → 0 < length (messages cells) →
+    (i : ℕ) × (i < length cells) × (prio_at cells i < 32768)
 some-used [] some = absurd (omega arith)
 some-used (c ∷ cells) some = elim (cases_lt c.prio 32768) [
   | inl used ↦ (zero, omega arith, used)

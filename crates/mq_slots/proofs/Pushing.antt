@@ -50,8 +50,8 @@ pub record IsPush (cells : List Cell) (levels : List Level)
   pub rest : (k : ℕ) → at ≤ k → k < length levels → prio ≤ (level_at levels k).prio
 
 pub push-new : (cells : List Cell) (levels : List Level) (free count room at prio place : ℕ) →
-    IsPush cells levels free count room at prio place → IsNew (length cells) (prio_at cells)
-    (place_at cells) free prio place
+    IsPush cells levels free count room at prio place →
+    IsNew (length cells) (prio_at cells) (place_at cells) free prio place
 push-new cells levels free count room at prio place push =
     let freed = push.sound.freed in
     record {
@@ -73,8 +73,8 @@ push-placed cells levels free count room at prio place push = record {
 }
 
 push-before : (cells : List Cell) (levels : List Level) (free count room at prio place : ℕ) →
-    IsPush cells levels free count room at prio place → IsBefore (length cells) (prio_at cells)
-    (place_at cells) (last_from levels at) prio place
+    IsPush cells levels free count room at prio place →
+    IsBefore (length cells) (prio_at cells) (place_at cells) (last_from levels at) prio place
 push-before cells levels free count room at prio place push =
     let sound = push.sound in
     let new = push-new cells levels free count room at prio place push in
@@ -105,8 +105,8 @@ push-slots cells before new prio place = length-set _ new _ ∙ length-set cells
 
 push-levelled : (cells : List Cell) (levels : List Level) (free count room at prio place : ℕ) →
     IsPush cells levels free count room at prio place
-    → (p' t' nx' : ℕ → ℕ) (before : ℕ) → Linked (prio_at cells) (place_at cells) (next_at cells) p'
-    t' nx' before free prio place
+    → (p' t' nx' : ℕ → ℕ) (before : ℕ) →
+    Linked (prio_at cells) (place_at cells) (next_at cells) p' t' nx' before free prio place
     → IsLevelled (length cells) p' t' (length (noted levels at prio free))
     (level_prio (noted levels at prio free)) (level_last (noted levels at prio free))
 push-levelled cells levels free count room at prio place push p' t' nx' before step =
@@ -265,10 +265,8 @@ pushed-newest cells levels free count room at prio place push m there =
 
 -- what the code knows, as what a push is given
 pub push-given : (cells : List Cell) (levels found : List Level) (free count room at prio place : ℕ)
-    (held : Held) → IsSound cells levels free count room → record {
-      messages = messages cells;
-      cap = length cells - 1;
-    } ≡ held
+    (held : Held) → IsSound cells levels free count room →
+    record { messages = messages cells; cap = length cells - 1 } ≡ held
     → length held.messages < held.cap → prio < 32768 → place < span →
     ((m : ℕ × ℕ) → Contains held.messages m → m.1 < place) → found ≡ levels
     → at ≤ length found → ((k : ℕ) → k < at → (level_at found k).prio < prio) →

@@ -30,8 +30,5 @@ unlinked cells first spare count =
 pub record IsFresh (cells : List Cell) (spare : ℕ) : Type 0 where
   pub slots : length cells ≡ spare + 1
   pub head : cell_at cells 0 ≡ record { prio = 32768; place = 0; next = 0 }
-  pub spares : (i : ℕ) → i < spare → cell_at cells (i + 1) ≡ record {
-    prio = 32769;
-    place = i + 1;
-    next = i;
-  }
+  pub spares : (i : ℕ) → i < spare →
+      cell_at cells (i + 1) ≡ record { prio = 32769; place = i + 1; next = i }

@@ -1,6 +1,5 @@
 -- The message that an entry takes out of a queue is the one that is received next, and what it lets
--- in was sent after those that
--- are there.
+-- in was sent after those that are there.
 use Rattle.std.proofs.Common.{◌≡◌, ℕ, ◌<◌, true, List, [], ◌∷◌, Some, None, sym, arith, rules}
 use Rattle.std.specs.List.{Contains}
 use Rattle.mq_model.specs.Record.{Past, first}
@@ -31,8 +30,8 @@ blocked-low : (past : Past) → Legal past → (q w : ℕ) → is_in (blocked_se
 blocked-low past legal q w h = let x = blocked-sent past q w h in
     grind (arith, x, legal_says (first w past) x.r (legal-at past legal w x.r x.at).next)
 
-slot-in : (past : Past) (xs : List ℕ) (m : ℕ × ℕ) → Contains (slots_of past xs) m → is_in xs m.1 ≡
-    true
+slot-in : (past : Past) (xs : List ℕ) (m : ℕ × ℕ) → Contains (slots_of past xs) m →
+    is_in xs m.1 ≡ true
 slot-in past [] m there = grind arith
 slot-in past (x ∷ xs) m there = grind (arith, slot-in past xs m)
 

@@ -25,8 +25,8 @@ pub waits-counted : (past : Past) (t : Tables) → AreThoseOf past t → AreAtMo
 waits-counted past t tables few = open_waits-counted past t.callers.items t.n tables.legal
     tables.mirror.waits tables.mirror.caller_count tables.few few
 
-pub waits-open : (j : Shown) (t : Tables) → IsKeptBy j t → waits_count t.callers.items ≡
-    open_waits j.records
+pub waits-open : (j : Shown) (t : Tables) → IsKeptBy j t →
+    waits_count t.callers.items ≡ open_waits j.records
 waits-open j t kept = waits-counted j.records t kept.tables kept.processes
 
 -- if they are not exceeded, and there is no room, there are no bounds
@@ -81,8 +81,9 @@ called j between j' t t' p call given reply k m result full room is answers same
 
 -- what is full, by the needs of the call
 pub full-by : (o : Option Bounds) (past : Past) (p : ℕ) (call : Call) (given : List ℕ) (k m : ℕ) →
-    entries_needed call ≡ k → bytes_needed past p call given ≡ m → finds_full o past p call given ≡
-    exceeds o (length past + open_waits past + k) (payload_bytes past + m)
+    entries_needed call ≡ k → bytes_needed past p call given ≡ m →
+    finds_full o past p call given ≡ exceeds o (length past + open_waits past + k)
+    (payload_bytes past + m)
 full-by o past p call given k m entries bytes = cc
 
 -- what a call needs room for, by its reply without its deadline

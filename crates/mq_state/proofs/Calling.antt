@@ -22,8 +22,8 @@ abbrev call_at : Option Record → Call
 call_at o = unwrap_or (option_map (λ (x : Record). x.entry.call) o) Collect
 
 -- the call of a wait that remains open
-older : (past : Past) (r : Record) (p w : ℕ) → open_wait past p ≡ Some w → open_wait (r ∷ past) p ≡
-    Some w → waiting_call (r ∷ past) p ≡ waiting_call past p
+older : (past : Past) (r : Record) (p w : ℕ) → open_wait past p ≡ Some w →
+    open_wait (r ∷ past) p ≡ Some w → waiting_call (r ∷ past) p ≡ waiting_call past p
 older past r p w was is = grind (arith, record_at-older, open_wait-below)
 
 pub calls-keep : (past : Past) (r : Record) (n : ℕ) (calls : List Call) → AreCalls past n calls →
@@ -47,8 +47,9 @@ calls-keep past r n calls old few = record {
         let was : open_wait past p ≡ Some w = rw other at e in
         same (wait_move r.entry.reply) ∙ old.at p w was ∙ sym (older past r p w was e)
       where
-        same : (m : WaitMove) → slice_index_or (calls_noted m r.entry.process r.entry.call calls) p
-            Collect ≡ slice_index_or calls p Collect
+        same : (m : WaitMove) →
+            slice_index_or (calls_noted m r.entry.process r.entry.call calls) p Collect ≡
+            slice_index_or calls p Collect
         same Begins = get_or-set_other calls r.entry.process p r.entry.call Collect
             (λ x. eqb-false _ _ other (sym x))
         same Stays = refl

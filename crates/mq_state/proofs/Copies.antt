@@ -25,8 +25,8 @@ values_at inboxes k = unwrap_or (option_map (λ b. b.values) (slice_get inboxes 
 abbrev room_at : List InboxShown → ℕ → ℕ
 room_at inboxes k = unwrap_or (option_map (λ b. b.room) (slice_get inboxes k)) 0
 
-copies-values : (old new : List InboxShown) → AllZip IsCopy old new → (k : ℕ) → values_at new k ≡
-    values_at old k
+copies-values : (old new : List InboxShown) → AllZip IsCopy old new → (k : ℕ) →
+    values_at new k ≡ values_at old k
 copies-values [] [] are k = refl
 copies-values [] (y ∷ new) are k = absurd are
 copies-values (x ∷ old) [] are k = absurd are

@@ -62,8 +62,9 @@ received-fits past legal p call m a n says receives = let q =
       admitted-sent past q m,
     )
 
-pub reply-fits : (past : Past) → Legal past → (p : ℕ) (call : Call) (reply : Reply)
-    (given : List ℕ) → reply ≡ reply_to past p call given → Fits past reply (room_of call)
+pub reply-fits : (past : Past) → Legal past →
+    (p : ℕ) (call : Call) (reply : Reply) (given : List ℕ) → reply ≡ reply_to past p call given →
+    Fits past reply (room_of call)
 reply-fits past legal p call reply given is = let says = reply_says past p call given in
     grind (arith, is, says, received-fits past legal p call)
 
@@ -98,8 +99,8 @@ blocked-at (s ∷ past) q w h r at = split (w == length past)
 
 -- a receive that blocked on queue q has a buffer as long as its msgsize
 blocked-roomy : (past : Past) → Legal past → (q w : ℕ) → is_in (blocked_receives past q) w ≡ true →
-    (r : Record) → record_at past w ≡ Some r → int_lt (pos (room_of r.entry.call))
-    (attributes past q).msgsize ≡ false
+    (r : Record) → record_at past w ≡ Some r →
+    int_lt (pos (room_of r.entry.call)) (attributes past q).msgsize ≡ false
 blocked-roomy past legal q w h r at =
     let y = legal-at past legal w r at in
     let alive = called-alive (first w past) y.before r.entry.process r.entry.call q in
@@ -115,9 +116,9 @@ blocked-roomy past legal q w h r at =
       record_at-below past w r,
     )
 
-pub answered-at : (past : Past) (p w b : ℕ) → open_wait past p ≡ Some w → answered_by past p ≡
-    Some b → (s : Record) × (record_at past b ≡ Some s) × (names_wait s.entry.reply (Some w) ≡
-    true) × (w < b)
+pub answered-at : (past : Past) (p w b : ℕ) → open_wait past p ≡ Some w →
+    answered_by past p ≡ Some b → (s : Record) × (record_at past b ≡ Some s) ×
+    (names_wait s.entry.reply (Some w) ≡ true) × (w < b)
 answered-at [] p w b open_at answered = absurd (cc)
 answered-at (s ∷ past) p w b open_at answered = grind (
   arith,

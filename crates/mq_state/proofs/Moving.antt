@@ -80,9 +80,10 @@ pub entry-queue : (past : Past) (p : ℕ) (call : Call) (reply : Reply) (payload
 entry-queue past p call reply payload q on = search rules
 
 -- a reply that notifies was made on a queue that exists
-pub notifies-alive : (past : Past) → Legal past → (p : ℕ) (call : Call) (reply : Reply)
-    (payload : List ℕ) (q : ℕ) → EntryOn past p call payload reply q → is_some (notified reply) ≡
-    true → is_in (alive past) q ≡ true
+pub notifies-alive : (past : Past) → Legal past →
+    (p : ℕ) (call : Call) (reply : Reply) (payload : List ℕ) (q : ℕ) →
+    EntryOn past p call payload reply q → is_some (notified reply) ≡ true →
+    is_in (alive past) q ≡ true
 notifies-alive past legal p call reply payload q on e =
     grind (arith, called-alive past legal p call q)
 

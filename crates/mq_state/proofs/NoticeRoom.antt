@@ -85,9 +85,9 @@ map-fewer q here e (x ∷ queues) p none = let here-fewer =
 -- a notified registration ends
 map-notified : (q here : ℕ) (e : Entry) (queues : List QueueShown) (n : Registration) (p : ℕ) →
     ((m : Registration) → registration_of here e.process e.call e.reply ≢ Some m) →
-    shares n.process p ≡ true → registration_in queues q ≡ Some n → notified e.reply ≡
-    Some n.place → registrations_in (map (reregistered q here e) queues) p + 1 ≤
-    registrations_in queues p
+    shares n.process p ≡ true → registration_in queues q ≡ Some n →
+    notified e.reply ≡ Some n.place →
+    registrations_in (map (reregistered q here e) queues) p + 1 ≤ registrations_in queues p
 unfolding registration_in queue_in
 map-notified q here e [] n p none own stands is = absurd (cc)
 map-notified q here e (x ∷ queues) n p none own stands is =
@@ -147,8 +147,8 @@ noted-fewer brought given owners here e q moves queues p = grind (
 -- there is room after each entry ------------------------------------------------------------------
 
 -- threads of one process have the same room
-room-mates : (inboxes : List InboxShown) (a b : ℕ) → owner_of a ≡ owner_of b → room_in inboxes a ≡
-    room_in inboxes b
+room-mates : (inboxes : List InboxShown) (a b : ℕ) → owner_of a ≡ owner_of b →
+    room_in inboxes a ≡ room_in inboxes b
 unfolding room_in
 room-mates inboxes a b e = rw e refl
 

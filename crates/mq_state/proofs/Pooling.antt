@@ -58,8 +58,8 @@ pooled-waiting bounds moved callers queues after spares room after_room spare_ro
 
 -- what is left without queue q is the same after the removal of one of its lines
 pub without-removed : (queues : List QueueShown) (q i : ℕ) (d : QueueShown) → i < length queues →
-    ((get_or queues i d).place == q) ≡ true → without_queue (remove queues i) q ≡
-    without_queue queues q
+    ((get_or queues i d).place == q) ≡ true →
+    without_queue (remove queues i) q ≡ without_queue queues q
 unfolding without_queue
 without-removed [] q i d lt at = absurd (omega arith)
 without-removed (x ∷ queues) q zero d lt at = rw at refl

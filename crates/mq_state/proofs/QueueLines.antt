@@ -69,15 +69,15 @@ places-changed f (x ∷ queues) q stays = grind (arith, places-changed f queues 
 
 -- what the table says of one line after all were mapped
 pub queue_in-map : (f : QueueShown → QueueShown) (queues : List QueueShown) (q : ℕ) →
-    ((x : QueueShown) → (f x).place ≡ x.place) → queue_in (map f queues) q ≡
-    option_map f (queue_in queues q)
+    ((x : QueueShown) → (f x).place ≡ x.place) →
+    queue_in (map f queues) q ≡ option_map f (queue_in queues q)
 unfolding queue_in
 queue_in-map f [] q stays = refl
 queue_in-map f (x ∷ queues) q stays = grind (arith, split, queue_in-map f queues q stays)
 
 pub places-map : (f : QueueShown → QueueShown) (queues : List QueueShown) →
-    ((x : QueueShown) → (f x).place ≡ x.place) → map (λ x. x.place) (map f queues) ≡
-    map (λ x. x.place) queues
+    ((x : QueueShown) → (f x).place ≡ x.place) →
+    map (λ x. x.place) (map f queues) ≡ map (λ x. x.place) queues
 places-map f [] stays = refl
 places-map f (x ∷ queues) stays =
     rw (stays x) (ap (λ rest. x.place ∷ rest) (places-map f queues stays))
@@ -89,8 +89,8 @@ pub map-untouched : (q here : ℕ) (e : Entry) →
 map-untouched q here e same [] = refl
 map-untouched q here e same (x ∷ queues) = grind (arith, map-untouched q here e same queues)
 
-pub queue_in-place : (queues : List QueueShown) (q : ℕ) (x : QueueShown) → queue_in queues q ≡
-    Some x → x.place ≡ q
+pub queue_in-place : (queues : List QueueShown) (q : ℕ) (x : QueueShown) →
+    queue_in queues q ≡ Some x → x.place ≡ q
 unfolding queue_in
 queue_in-place queues q x e = eqb-true _ _ (find-test (λ x. x.place == q) queues x e)
 

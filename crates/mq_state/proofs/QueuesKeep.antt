@@ -59,8 +59,8 @@ slots_of-older : (past : Past) (r : Record) (xs : List ℕ) → Below (length pa
 slots_of-older past r [] below = refl
 slots_of-older past r (x ∷ xs) below = grind (arith, split, slots_of-older past r xs)
 
-pub slots_of-without : (past : Past) (m : ℕ) (xs : List ℕ) → without_place m (slots_of past xs) ≡
-    slots_of past (without m xs)
+pub slots_of-without : (past : Past) (m : ℕ) (xs : List ℕ) →
+    without_place m (slots_of past xs) ≡ slots_of past (without m xs)
 slots_of-without past m [] = refl
 slots_of-without past m (x ∷ xs) = grind (arith, split, slots_of-without past m xs)
 
@@ -98,9 +98,9 @@ presence-quiet past r q same m keeps = record {
   here = keeps (slots_of past (present past q)) ∙ same-slots past r q (same q);
 }
 
-presence-sent : (past : Past) → Legal past → (p : ℕ) (call : Call) (n : Option ℕ) (payload : List ℕ)
-    (q : ℕ) → QueuedOn past p call n q → Presence past (rec p call (Queued n) payload) q
-    (Enters (priority_given call) (length past))
+presence-sent : (past : Past) → Legal past →
+    (p : ℕ) (call : Call) (n : Option ℕ) (payload : List ℕ) (q : ℕ) → QueuedOn past p call n q →
+    Presence past (rec p call (Queued n) payload) q (Enters (priority_given call) (length past))
 presence-sent past legal p call n payload q on = record {
   elsewhere = λ k ne. present-queued_elsewhere past p call k n payload
       (rw on.called (ne_eqb q k (λ e. ne (sym e))));
@@ -114,8 +114,9 @@ presence-sent past legal p call n payload q on = record {
   );
 }
 
-presence-got : (past : Past) → Legal past → (p : ℕ) (call : Call) (m : ℕ) (a n : Option ℕ)
-    (payload : List ℕ) (q : ℕ) → GotFacts past q m a →
+presence-got : (past : Past) → Legal past →
+    (p : ℕ) (call : Call) (m : ℕ) (a n : Option ℕ) (payload : List ℕ) (q : ℕ) →
+    GotFacts past q m a →
     Presence past (rec p call (Got m a n) payload) q (Leaves m (option_map (slot_of past) a))
 presence-got past legal p call m a n payload q facts = record {
   elsewhere = λ k ne. present-got_elsewhere past p call m a n payload q k facts ne;
@@ -141,9 +142,10 @@ presence-got past legal p call m a n payload q facts = record {
         (least-in (waiting_sends past q) w (sym e))).0 in
         rw (rest, priority-older past (rec p call (Got m a n) payload) w below) refl
 
-pub presence : (past : Past) → Legal past → (p : ℕ) (call : Call) (reply : Reply) (payload : List ℕ)
-    (q : ℕ) → EntryOn past p call payload reply q → Presence past (rec p call reply payload) q
-    (line_move past call reply)
+pub presence : (past : Past) → Legal past →
+    (p : ℕ) (call : Call) (reply : Reply) (payload : List ℕ) (q : ℕ) →
+    EntryOn past p call payload reply q →
+    Presence past (rec p call reply payload) q (line_move past call reply)
 presence past legal p call (Queued n) payload q on = presence-sent past legal p call n payload q on
 presence past legal p call (Got m a n) payload q on = presence-got past legal p call m a n
     payload q on.facts

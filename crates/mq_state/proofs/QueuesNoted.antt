@@ -44,8 +44,9 @@ named-keeps past p call reply payload q on k lt = let r = rec p call reply paylo
     grind (arith, nat_tests, named-unlinked past r k q, named-created past r k, named-same past r k)
 
 -- a row of the table, before a queue is removed, remains that of its queue
-line-keeps : (past : Past) → Legal past → (p : ℕ) (call : Call) (reply : Reply) (payload : List ℕ)
-    (q : ℕ) → EntryOn past p call payload reply q →
+line-keeps : (past : Past) → Legal past →
+    (p : ℕ) (call : Call) (reply : Reply) (payload : List ℕ) (q : ℕ) →
+    EntryOn past p call payload reply q →
     (x : QueueShown) → LineMirror past x → x.place < length past →
     (q ≡ x.place → Allows (line_move past call reply) x) →
     LineMirror (rec p call reply payload ∷ past) (reregistered q (length past)
@@ -95,8 +96,9 @@ lines-keep past legal queues m p call reply payload q on allows k y found =
 
 -- the queues that exist after an entry that creates none: those before, or all but one that is
 -- needed no longer
-alive-noted : (past : Past) → Legal past → (p : ℕ) (call : Call) (reply : Reply) (payload : List ℕ)
-    (q : ℕ) → EntryOn past p call payload reply q → creates call reply ≡ false →
+alive-noted : (past : Past) → Legal past →
+    (p : ℕ) (call : Call) (reply : Reply) (payload : List ℕ) (q : ℕ) →
+    EntryOn past p call payload reply q → creates call reply ≡ false →
     alive (rec p call reply payload ∷ past) ≡
     (if may_free call reply && not (is_needed (rec p call reply payload ∷ past) q) then filter
     (λ k. not (k == q)) (alive past) else alive past)
@@ -139,8 +141,8 @@ pub noted-queues-keeps : (past : Past) → Legal past →
     (owners : List Owner) (queues : List QueueShown) → QueuesMirror past queues →
     (p : ℕ) (call : Call) (reply : Reply) (payload : List ℕ) (q : ℕ) →
     EntryOn past p call payload reply q →
-    AllowsIn queues q (line_move past call reply) → OwnersMirror (rec p call reply payload ∷ past)
-    owners → creates call reply ≡ false →
+    AllowsIn queues q (line_move past call reply) →
+    OwnersMirror (rec p call reply payload ∷ past) owners → creates call reply ≡ false →
     QueuesMirror (rec p call reply payload ∷ past) (noted_queues owners (length past)
     (record { process = p; call = call; reply = reply }) q (moves_of past call reply) queues)
 noted-queues-keeps past legal owners queues m p call reply payload q on allows om c =
@@ -191,8 +193,8 @@ on-below past q le None exists = refl
 on-below past q le (Some k) exists = ne_eqb k q (λ same. let lt = alive-below past k
     (exists k refl) in omega (arith, lt))
 
-pub registered-later : (past : Past) → Legal past → (q : ℕ) → length past ≤ q → registered past q ≡
-    None
+pub registered-later : (past : Past) → Legal past → (q : ℕ) → length past ≤ q →
+    registered past q ≡ None
 registered-later [] legal q le = refl
 registered-later (r ∷ past) legal q le = grind (
   arith,

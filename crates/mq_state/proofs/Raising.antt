@@ -138,8 +138,8 @@ room-of-new inboxes y p at = rw (slice_get-push inboxes y (owner_of p))
     (rw at (grind (arith, nat_tests)))
 
 -- threads of one process have the same room
-room-of-process : (inboxes : List InboxShown) (p : ℕ) → room_in inboxes (owner_of p) ≡
-    room_in inboxes p
+room-of-process : (inboxes : List InboxShown) (p : ℕ) →
+    room_in inboxes (owner_of p) ≡ room_in inboxes p
 unfolding room_in
 room-of-process inboxes p = rw (owner_owner p) refl
 
@@ -172,10 +172,12 @@ pub last-most : (n : ℕ) → 32 ≤ n → last_process n ≡ 32
 last-most n many = grind (arith, nat_tests)
 
 pub raised-process : (past : Past) (old new : Tables) (y : InboxShown) → AreThoseOf past old →
-    old.n < 32 → y.values ≡ [] → new.n ≡ old.n + 1 → new.callers.items ≡ old.callers.items ++
-    free_caller ∷ [] → new.calls.items ≡ old.calls.items ++ Collect ∷ [] → new.owners.items ≡
-    old.owners.items ++ free_owner ∷ [] → new.inboxes.items ≡ old.inboxes.items ++ y ∷ [] →
-    new.queues.items ≡ old.queues.items → new.waits ≡ old.waits → AreThoseOf past new
+    old.n < 32 → y.values ≡ [] → new.n ≡ old.n + 1 →
+    new.callers.items ≡ old.callers.items ++ free_caller ∷ [] →
+    new.calls.items ≡ old.calls.items ++ Collect ∷ [] →
+    new.owners.items ≡ old.owners.items ++ free_owner ∷ [] →
+    new.inboxes.items ≡ old.inboxes.items ++ y ∷ [] → new.queues.items ≡ old.queues.items →
+    new.waits ≡ old.waits → AreThoseOf past new
 raised-process past old new y are few none n callers calls owners inboxes queues waits =
     let m = are.mirror in
     let own = last-own old.n (omega (arith, few)) in
@@ -258,8 +260,8 @@ raised-then a b c x y = record {
 
 -- tables with the same rows, and more room for others
 pub raised-reserved : (old new : Tables) → new.n ≡ old.n → new.callers.items ≡ old.callers.items →
-    new.calls.items ≡ old.calls.items → new.owners.items ≡ old.owners.items → new.inboxes.items ≡
-    old.inboxes.items → new.queues ≡ old.queues → new.spares ≡ old.spares →
+    new.calls.items ≡ old.calls.items → new.owners.items ≡ old.owners.items →
+    new.inboxes.items ≡ old.inboxes.items → new.queues ≡ old.queues → new.spares ≡ old.spares →
     new.bounds ≡ old.bounds → new.waits ≡ old.waits → IsRaised old new
 raised-reserved old new n callers calls owners inboxes queues spares bounds waits = record {
   tables = λ past are. record {

@@ -92,8 +92,9 @@ pub room-stays : (bounds : Option Bounds) (j j' : Shown) (r : Record) →
 room-stays bounds j j' r stored room records entries bytes = grind (arith, room-keeps)
 
 -- the same room, shown by another
-pub room-same : (bounds : Option Bounds) (j j' : Shown) → j'.records ≡ j.records → j'.entry_room ≡
-    j.entry_room → j'.byte_room ≡ j.byte_room → HasRoomWithin bounds j → HasRoomWithin bounds j'
+pub room-same : (bounds : Option Bounds) (j j' : Shown) → j'.records ≡ j.records →
+    j'.entry_room ≡ j.entry_room → j'.byte_room ≡ j.byte_room → HasRoomWithin bounds j →
+    HasRoomWithin bounds j'
 room-same bounds j j' records entries bytes room = grind arith
 
 one-kind : (call : Call) → is_send call ≡ true → is_receive call ≡ true → ⊥

@@ -89,8 +89,9 @@ pub bound-read : (past : Past) (queues : List QueueShown) → QueuesMirror past 
 unfolding bound_in
 bound-read past queues m name = grind (arith, some-found, none-found)
   where
-    some-found : (x : QueueShown) → find (λ x. x.named && bytes_eq (name_of past x.place) name)
-        queues ≡ Some x → bound_queue past name ≡ Some x.place
+    some-found : (x : QueueShown) →
+        find (λ x. x.named && bytes_eq (name_of past x.place) name) queues ≡ Some x →
+        bound_queue past name ≡ Some x.place
     some-found x e = let line = m.lines x.place x (found-line _ queues (rising-places past queues m)
         x e) in grind (arith, line, find-test _ queues x e, bytes_eq-Decides, named-bound)
 

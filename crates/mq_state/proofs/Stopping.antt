@@ -9,8 +9,9 @@ use Rattle.mq_model.specs.declared.entries.Call.TheVariants.{MqClose, Collect, W
 use Rattle.mq_state.specs.Room.{can_make, can_call}
 
 -- such a process can make none
-pub can_make-none : (bounds : Option Bounds) (past : Past) (p : ℕ) → can_call bounds past p ≡
-    false → (call : Call) (given : List ℕ) → can_make bounds past p call given ≡ false
+pub can_make-none : (bounds : Option Bounds) (past : Past) (p : ℕ) →
+    can_call bounds past p ≡ false → (call : Call) (given : List ℕ) →
+    can_make bounds past p call given ≡ false
 can_make-none bounds past p is call given = grind (arith, nat_tests)
 
 -- any other can make one

@@ -32,9 +32,10 @@ use Rattle.mq_state.proofs.Reading.{registration-read}
 
 -- notices -----------------------------------------------------------------------------------------
 
-brings-one : (past : Past) → Legal past → (p : ℕ) (call : Call) (reply : Reply) (payload : List ℕ)
-    (q j : ℕ) → EntryOn past p call payload reply q → notified reply ≡ Some j → gives_notice reply ≡
-    false → (o : Option Registration) → o ≡ registered past q → (k : ℕ) →
+brings-one : (past : Past) → Legal past →
+    (p : ℕ) (call : Call) (reply : Reply) (payload : List ℕ) (q j : ℕ) →
+    EntryOn past p call payload reply q → notified reply ≡ Some j → gives_notice reply ≡ false →
+    (o : Option Registration) → o ≡ registered past q → (k : ℕ) →
     noted_values p o (moves_of past call reply) k (notices past k) ≡
     notices (rec p call reply payload ∷ past) k
 brings-one past legal p call reply payload q j on is quiet o same k =
@@ -44,8 +45,9 @@ brings-one past legal p call reply payload q j on is quiet o same k =
     (is ∙ ap Some (sym n.2)) quiet in
     grind arith
 
-pub notices-keep : (past : Past) → Legal past → (p : ℕ) (call : Call) (reply : Reply)
-    (payload : List ℕ) (q : ℕ) → EntryOn past p call payload reply q → (o : Option Registration) →
+pub notices-keep : (past : Past) → Legal past →
+    (p : ℕ) (call : Call) (reply : Reply) (payload : List ℕ) (q : ℕ) →
+    EntryOn past p call payload reply q → (o : Option Registration) →
     (is_some (notified reply) ≡ true → o ≡ registered past q) → (k : ℕ) →
     noted_values p o (moves_of past call reply) k (notices past k) ≡
     notices (rec p call reply payload ∷ past) k
@@ -69,13 +71,14 @@ pub record IsNotedBy (past : Past) (e : Entry) (q : ℕ) (brought : Option Held)
   pub queues_are : after_queues ≡ with_fresh brought (attributes_given e.call) (length past)
       (noted_queues after_owners (length past) e q (moves_of past e.call e.reply) queues)
   pub inbox_count : length after_inboxes ≡ length inboxes
-  pub inboxes_are : (k : ℕ) → notices_in after_inboxes k ≡ noted_values e.process
-      (registration_in queues q) (moves_of past e.call e.reply) k (notices_in inboxes k)
+  pub inboxes_are : (k : ℕ) →
+      notices_in after_inboxes k ≡ noted_values e.process (registration_in queues q)
+      (moves_of past e.call e.reply) k (notices_in inboxes k)
 
 creates-open : (past : Past) → Legal past → (owners : List Owner) (queues : List QueueShown) →
-    QueuesMirror past queues → (p : ℕ) (call : Call) (reply : Reply) (payload : List ℕ)
-    (q len capacity : ℕ) (o : Held) → EntryOn past p call payload reply q → creates call reply ≡
-    true → IsFresh call len capacity o →
+    QueuesMirror past queues →
+    (p : ℕ) (call : Call) (reply : Reply) (payload : List ℕ) (q len capacity : ℕ) (o : Held) →
+    EntryOn past p call payload reply q → creates call reply ≡ true → IsFresh call len capacity o →
     QueuesMirror (rec p call reply payload ∷ past) (noted_queues owners (length past)
     (record { process = p; call = call; reply = reply }) q (moves_of past call reply) queues ++
     fresh (length past) o.cap (attributes_given call) ∷ [])
@@ -84,9 +87,10 @@ creates-open past legal owners queues m p call (Opened d true) payload q len cap
 creates-open past legal owners queues m p call reply payload q len capacity o on c f = absurd (cc)
 
 -- the tables after an entry are those of the journal with it
-pub tables-keep : (past : Past) → Legal past → (n : ℕ) (owners after_owners : List Owner)
-    (callers after_callers : List Caller) (queues after_queues : List QueueShown)
-    (inboxes after_inboxes : List InboxShown) → TablesMirror past n owners callers queues inboxes →
+pub tables-keep : (past : Past) → Legal past →
+    (n : ℕ) (owners after_owners : List Owner) (callers after_callers : List Caller)
+    (queues after_queues : List QueueShown) (inboxes after_inboxes : List InboxShown) →
+    TablesMirror past n owners callers queues inboxes →
     (p : ℕ) (call : Call) (reply : Reply) (payload : List ℕ) (len capacity : ℕ)
     (brought : Option Held) (q : ℕ) → IsLegalNext past (rec p call reply payload) →
     EntryOn past p call payload reply q → p ≤ n → BringsOrder call reply len capacity brought →

@@ -9,15 +9,15 @@ use Rattle.mq_state.specs.WaitCounts.{waits_on, wait_count}
 abbrev one_if : Bool → ℕ
 one_if b = cond b 1 0
 
-count-cons : (q : ℕ) (x : Caller) (callers : List Caller) → wait_count q (x ∷ callers) ≡
-    one_if (waits_on q x.wait) + wait_count q callers
+count-cons : (q : ℕ) (x : Caller) (callers : List Caller) →
+    wait_count q (x ∷ callers) ≡ one_if (waits_on q x.wait) + wait_count q callers
 unfolding wait_count
 count-cons q x callers = sum_by-cons (λ (x : Caller). one_if (waits_on q x.wait)) x callers
 
 -- tables in which the same callers wait on a queue
 pub count-same : (q : ℕ) (xs ys : List Caller) → length xs ≡ length ys →
-    ((p : ℕ) → waits_on q (wait_in xs p) ≡ waits_on q (wait_in ys p)) → wait_count q xs ≡
-    wait_count q ys
+    ((p : ℕ) → waits_on q (wait_in xs p) ≡ waits_on q (wait_in ys p)) →
+    wait_count q xs ≡ wait_count q ys
 unfolding wait_in
 count-same q (x ∷ xs) (y ∷ ys) long same = rw (
   count-cons q x xs,

@@ -34,8 +34,8 @@ newest callers q kind i k new v is le lt e = let same : i ≡ k = omega (arith, 
 
 pub last-more : (callers : List Caller) (q : ℕ) (kind : WaitKind) (bound i : ℕ)
     (last new : Option ℕ) → IsLastBelow callers q kind bound i last →
-    new ≡ pending_in callers i q kind → IsLastBelow callers q kind bound (i + 1)
-    (later last new bound)
+    new ≡ pending_in callers i q kind →
+    IsLastBelow callers q kind bound (i + 1) (later last new bound)
 last-more callers q kind bound i None None before is = λ k v lt e. elim (cases_lt k i) [
   | inl g ↦ before k v g e
   | inr g ↦ absurd (let bad = newest callers q kind i k None v is g lt e in cc)
@@ -165,8 +165,8 @@ in-rest x xs k h = split (x == k) (λ e. rw e refl) (λ n. rw (n, h) refl)
 in-head : (x : ℕ) (xs : List ℕ) → is_in (x ∷ xs) x ≡ true
 in-head x xs = rw (eq-eqb x x refl) refl
 
-below-all : (bound : ℕ) (xs : List ℕ) → ((k : ℕ) → is_in xs k ≡ true → k < bound) → below bound xs ≡
-    xs
+below-all : (bound : ℕ) (xs : List ℕ) → ((k : ℕ) → is_in xs k ≡ true → k < bound) →
+    below bound xs ≡ xs
 below-all bound [] all = refl
 below-all bound (x ∷ xs) all = rw (lt-ltb x bound (all x (in-head x xs)))
     (ap (λ rest. x ∷ rest) (below-all bound xs (λ k h. all k (in-rest x xs k h))))
@@ -211,8 +211,8 @@ waiting-start past kind q n is =
 pub waiting-more : (past : Past) (callers : List Caller) → CallersMirror past callers → Legal past →
     (q : ℕ) (kind : WaitKind) (bound place : ℕ) (found : List ℕ) →
     IsLastWait callers q kind bound place →
-    found ++ below bound (waiting past kind q) ≡ waiting past kind q → (found ++ place ∷ []) ++
-    below place (waiting past kind q) ≡ waiting past kind q
+    found ++ below bound (waiting past kind q) ≡ waiting past kind q →
+    (found ++ place ∷ []) ++ below place (waiting past kind q) ≡ waiting past kind q
 waiting-more past callers mirror legal q kind bound place found last before =
     let first = below-last (waiting past kind q) (falls-waiting past kind q) place bound
     (pending-waits past callers mirror legal last.caller q kind place last.waits) last.below

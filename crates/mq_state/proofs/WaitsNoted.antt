@@ -38,8 +38,8 @@ MovesCount Ends before after = after + 1 ≡ before
 
 pub waits-moved : (callers : List Caller) (here p : ℕ) (call : Call) (reply : Reply) (q : ℕ)
     (move : WaitMove) → move ≡ wait_move reply → MovesOwnWait move (wait_in callers p) →
-    p < length callers → MovesCount move (waits_count callers)
-    (waits_count (noted_waits callers here p call reply q))
+    p < length callers →
+    MovesCount move (waits_count callers) (waits_count (noted_waits callers here p call reply q))
 waits-moved callers here p call reply q move is own lt = grind (
   arith,
   waits_count-no_wait,

@@ -13,6 +13,6 @@ those-of_whole j whole t is kept = subst (λ (x : Shown). AreThoseOf x.records t
     (sym is) kept.tables
 
 -- the record at a place of the first records
-pub none-beyond : (past : Past) (k q : ℕ) → k ≤ length past → k ≤ q → record_at (first k past) q ≡
-    None
+pub none-beyond : (past : Past) (k q : ℕ) → k ≤ length past → k ≤ q →
+    record_at (first k past) q ≡ None
 none-beyond past k q le beyond = grind (arith, record_at-past, length-first)

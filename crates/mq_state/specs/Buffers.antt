@@ -47,8 +47,8 @@ waiting_call past p = unwrap_or (option_map (λ r. r.entry.call) (option_and_the
 
 abbrev pub collected_by : Past → Call → Option ℕ → Option Collected
 collected_by past call None = None
-collected_by past call (Some by) = if is_receive call then Some
-    (GotMessage (received_at past by)) else Some Sent
+collected_by past call (Some by) = if is_receive call then Some (GotMessage (received_at past by))
+    else Some Sent
 
 -- The outcome of the open wait of process p, if it is answered. A receive gets the message of the
 -- send that names it.
@@ -57,8 +57,8 @@ collected past p = collected_by past (waiting_call past p) (answered_by past p)
 
 abbrev pub into_by : Past → Call → Option ℕ → List ℕ → List ℕ
 into_by past call None buffer = buffer
-into_by past call (Some by) buffer = if is_receive call then with_front (message_at past by)
-    buffer else buffer
+into_by past call (Some by) buffer = if is_receive call then with_front (message_at past by) buffer
+    else buffer
 
 -- the content of the buffer after a collect
 abbrev pub collected_into : Past → ℕ → List ℕ → List ℕ

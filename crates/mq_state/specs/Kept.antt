@@ -151,5 +151,5 @@ pub record IsRoomRefused (bounds : Option Bounds) (entries bytes : ℕ)
 
 -- a reply with an error other than `NoMemory` used no room for bytes
 abbrev pub SparesBytes : Shown → Shown → Reply → Type 0
-SparesBytes j j' reply = (fault : Fault) → reply ≡ Refused fault → fault ≢ NoMemory → j'.byte_room ≡
-    j.byte_room
+SparesBytes j j' reply = (fault : Fault) → reply ≡ Refused fault → fault ≢ NoMemory →
+    j'.byte_room ≡ j.byte_room

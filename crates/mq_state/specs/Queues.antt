@@ -165,8 +165,8 @@ reregistered q here e x = record {
 }
 
 abbrev pub released : List Owner → Bool → List QueueShown → ℕ → List QueueShown
-released owners freed queues q = if freed && not (is_named_in queues q || is_held_in owners q) then
-    without_queue queues q else queues
+released owners freed queues q = if freed && not (is_named_in queues q || is_held_in owners q)
+    then without_queue queues q else queues
 
 -- The table after entry `here`, made on queue q, with these changes. `owners` is the table of
 -- processes after the entry.

@@ -32,8 +32,8 @@ is_full bounds past = exceeds bounds (length past + open_waits past + 1) (payloa
 -- Process p can make some call: its wait is answered or has a deadline, or it has no open wait and
 -- there is room.
 abbrev pub can_call : Option Bounds → Past → Process → Bool
-can_call bounds past p = is_some (answered_by past p) || (is_some (wait_deadline past p) ||
-    (is_none (open_wait past p) && not (is_full bounds past)))
+can_call bounds past p = is_some (answered_by past p) ||
+    (is_some (wait_deadline past p) || (is_none (open_wait past p) && not (is_full bounds past)))
 
 -- the number of entries, beside those that end the open waits, and of payload bytes for which the
 -- journal still has room

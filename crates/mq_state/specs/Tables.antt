@@ -70,8 +70,8 @@ calls_noted _ p call calls = calls
 -- the call in which each caller waits is at its index
 pub record AreCalls (past : Past) (n : ℕ) (calls : List Call) : Type 0 where
   pub count : length calls ≡ n + 1
-  pub at : (p w : ℕ) → open_wait past p ≡ Some w → slice_index_or calls p Collect ≡
-      waiting_call past p
+  pub at : (p w : ℕ) → open_wait past p ≡ Some w →
+      slice_index_or calls p Collect ≡ waiting_call past p
 
 -- The messages of a new queue have their room, and the table of queues has room for the queue.
 pub record IsFresh (call : Call) (queues : ℕ) (capacity : ℕ) (o : Held) : Type 0 where
@@ -107,18 +107,18 @@ notices_brought None notified p = 0
 notices_brought (Some n) notified p = if notified && shares n.process p then 1 else 0
 
 -- The notices of caller p's process after an entry. If the entry notifies the registration on its
--- queue,
--- that adds one.
+-- queue, that adds one.
 abbrev pub notified_values : Option Registration → Bool → ℕ → List ℕ → List ℕ
 notified_values None notified p values = values
-notified_values (Some n) notified p values = if notified && shares n.process p then values ++
-    n.value ∷ [] else values
+notified_values (Some n) notified p values = if notified && shares n.process p
+    then values ++ n.value ∷ [] else values
 
 -- and the oldest is removed if the entry gives it to its process
 abbrev pub noted_values : ℕ → Option Registration → Moves → ℕ → List ℕ → List ℕ
 noted_values process registered moves p values =
-    if moves.given && shares process p then drop 1 (notified_values registered moves.notified p
-    values) else notified_values registered moves.notified p values
+    if moves.given && shares process p
+    then drop 1 (notified_values registered moves.notified p values)
+    else notified_values registered moves.notified p values
 
 abbrev pub with_fresh : Option Held → Attr → ℕ → List QueueShown → List QueueShown
 with_fresh None given here queues = queues

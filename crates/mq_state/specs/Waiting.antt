@@ -17,5 +17,5 @@ pub record IsLastWait (callers : List Caller) (q : ℕ) (kind : WaitKind)
 abbrev pub later : Option ℕ → Option ℕ → ℕ → Option ℕ
 later last None bound = last
 later None (Some new) bound = if nat_lt new bound then Some new else None
-later (Some old) (Some new) bound = if nat_lt old new && nat_lt new bound then Some
-    new else Some old
+later (Some old) (Some new) bound = if nat_lt old new && nat_lt new bound
+    then Some new else Some old

@@ -28,15 +28,15 @@ AreLevels next IsPersistent IsKey path levels s =
 pub covered-skips : {S : Type 0} (next : S → ℕ → Option S) (is_goal : S → Bool) (IsPersistent : S →
     ℕ → Type 0) → Suffices next is_goal IsPersistent →
     (path : List ℕ) (low high : ℕ) (s now : S) → low ≤ high →
-    after next path s ≡ Some now → ((choice : ℕ) → low ≤ choice → choice < high → next now choice ≡
-    None) →
+    after next path s ≡ Some now →
+    ((choice : ℕ) → low ≤ choice → choice < high → next now choice ≡ None) →
     Covered next is_goal IsPersistent (path ++ low ∷ []) s →
     Covered next is_goal IsPersistent (path ++ high ∷ []) s
 covered-skips {S} next is_goal IsPersistent enough [] low high s now le runs none covered =
     let same : now ≡ s = cc in
     let P : S → Type 0 = λ x. (choice : ℕ) → low ≤ choice → choice < high → next x choice ≡ None in
-    let here : (choice : ℕ) → low ≤ choice → choice < high → next s choice ≡ None =
-    subst P same none in
+    let here : (choice : ℕ) → low ≤ choice → choice < high →
+    next s choice ≡ None = subst P same none in
     let done : AreDoneBelow next is_goal s high ⊎ IsPersistent s high = elim covered.1 [
       | inl before ↦ grind (arith, nat_tests, cases_lt)
       | inr persistent ↦ elim (cases_lt low high) [
@@ -59,8 +59,7 @@ covered-skips {S} next is_goal IsPersistent enough (c ∷ path) low high s now l
 )
 
 -- What is ahead of a path that leads to a node. With a choice it is to be taken at the node, and
--- the
--- choices before it lead to no goal, or it is persistent. Without one the node leads to none.
+-- the choices before it lead to no goal, or it is persistent. Without one the node leads to none.
 abbrev pub IsAhead : {S : Type 0} → (S → ℕ → Option S) → (S → Bool) → (S → ℕ → Type 0) → List ℕ →
     S → S → Option ℕ → Type 0
 IsAhead next is_goal IsPersistent path s now None = HasNoGoal next is_goal now
@@ -195,8 +194,8 @@ pub stands-back : {S : Type 0} (next : S → ℕ → Option S) (is_goal : S → 
     ℕ → Type 0) (IsKey : S → List ℕ → Type 0) → Suffices next is_goal IsPersistent →
     (path front : List ℕ) (last : ℕ) (levels : List Level) (start machine : S) →
     (stands : Stands next is_goal IsPersistent IsKey path levels start machine None) →
-    path ≡ front ++ last ∷ [] → Leaves next is_goal IsPersistent IsKey front last levels
-    start stands.node
+    path ≡ front ++ last ∷ [] →
+    Leaves next is_goal IsPersistent IsKey front last levels start stands.node
 stands-back {S} next is_goal IsPersistent IsKey enough path front last levels start
     machine stands are =
     let runs : after next (front ++ last ∷ []) start ≡ Some stands.node =

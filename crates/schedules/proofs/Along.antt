@@ -9,8 +9,8 @@ abbrev pub AreAlong : {S L : Type 0} → (S → ℕ → Option S) → (S → ℕ
 AreAlong next IsOf [] [] s = Unit {0}
 AreAlong next IsOf [] (l ∷ ls) s = ⊥
 AreAlong next IsOf (choice ∷ path) [] s = ⊥
-AreAlong {S} next IsOf (choice ∷ path) (l ∷ ls) s = IsOf s choice l × ((t : S) → next s choice ≡
-    Some t → AreAlong next IsOf path ls t)
+AreAlong {S} next IsOf (choice ∷ path) (l ∷ ls) s = IsOf s choice l ×
+    ((t : S) → next s choice ≡ Some t → AreAlong next IsOf path ls t)
 
 -- a choice more
 pub along-push : {S L : Type 0} (next : S → ℕ → Option S) (IsOf : S → ℕ → L → Type 0)
@@ -44,8 +44,8 @@ along-last {S} next IsOf [] last (l ∷ []) s now runs are = record {
   kept = l;
   are = refl;
   front_are = tt;
-  here = λ node is. let same : s ≡ node = cc in let P : S → Type 0 = λ x. IsOf x last l in
-      subst P same are.0;
+  here = λ node is. let same : s ≡ node = cc in let P : S →
+      Type 0 = λ x. IsOf x last l in subst P same are.0;
 }
 along-last {S} next IsOf [] last (l ∷ m ∷ ls) s now runs are = grind arith
 along-last next IsOf (c ∷ front) last [] s now runs are = absurd are

@@ -102,7 +102,7 @@ pub persist-new : {S : Type 0} (next : S → ℕ → Option S) (is_goal : S → 
     Observed) (IsAlike : S → S → Type 0) (IsPersistent : S → ℕ → Type 0) (start : S) →
     Persist next is_goal IsAlike IsPersistent start →
     ((x y : S) → IsAlike x y → outcome x ≡ outcome y) →
-    (found : List Witnessed) → Persist next (is_new_goal is_goal outcome found) IsAlike
-    IsPersistent start
+    (found : List Witnessed) →
+    Persist next (is_new_goal is_goal outcome found) IsAlike IsPersistent start
 persist-new next is_goal outcome IsAlike IsPersistent start laws same_outcome found =
     grind (arith, new-alike)

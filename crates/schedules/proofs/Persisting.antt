@@ -94,8 +94,7 @@ pub suffices : {S : Type 0} (next : S → ℕ → Option S) (is_goal : S → Boo
     Type 0) (IsPersistent : S → ℕ → Type 0) (start : S) →
     Persist next is_goal IsAlike IsPersistent start →
     Suffices next is_goal (IsReachedPersistent next IsPersistent start)
-suffices {S} next is_goal IsAlike IsPersistent start laws s choice persistent none
-    schedule to runs =
+suffices {S} next is_goal IsAlike IsPersistent start laws s choice persistent none schedule to runs =
     let goes : (o : Option S) → next s choice ≡ o → IsSome o → is_goal to ≡ false =
     λ (o : Option S). elim o as (λ o. next s choice ≡ o → IsSome o → is_goal to ≡ false) [
       | None ↦ (λ e some. cc)

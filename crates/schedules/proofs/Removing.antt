@@ -15,8 +15,8 @@ pub length-pushed : {X : Type 0} (xs : List X) (x : X) → length (xs ++ x ∷ [
 length-pushed [] x = refl
 length-pushed (y ∷ xs) x = ap suc (length-pushed xs x)
 
-last-pushed : {T : Type 0} (front : List (Mark T)) (mark : Mark T) → last_of (front ++ mark ∷ []) ≡
-    Some mark
+last-pushed : {T : Type 0} (front : List (Mark T)) (mark : Mark T) →
+    last_of (front ++ mark ∷ []) ≡ Some mark
 last-pushed front mark =
     let at : length (front ++ mark ∷ []) - 1 ≡ length front =
     omega (arith, length-pushed front mark) in

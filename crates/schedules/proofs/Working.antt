@@ -225,8 +225,8 @@ pub spends-left : {S : Type 0} (next : S → ℕ → Option S) (choices : S → 
     ((x : S) (choice : ℕ) → choices x ≤ choice → next x choice ≡ None) →
     (budget steps more again total : ℕ) (path front : List ℕ) (last : ℕ) (start node now : S)
     (choice other : Option ℕ) →
-    path ≡ front ++ last ∷ [] → after next path start ≡ Some node → after next front start ≡
-    Some now → steps < budget →
+    path ≡ front ++ last ∷ [] → after next path start ≡ Some node →
+    after next front start ≡ Some now → steps < budget →
     again + 1 ≤ back (length front + 1) → total ≤ more + again →
     ((c : ℕ) → other ≡ Some c → last + 1 ≤ c) →
     HasSpent next choices back budget steps more path start node choice →
@@ -239,8 +239,9 @@ spends-left {S} next choices back others budget steps more again total path fron
 pub spends-within : {S : Type 0} (next : S → ℕ → Option S) (choices : S → ℕ) (back : ℕ → ℕ) →
     ((x : S) (choice : ℕ) → choices x ≤ choice → next x choice ≡ None) →
     (budget steps more : ℕ) (path : List ℕ) (start now : S) (choice : Option ℕ) →
-    after next path start ≡ Some now → HasSpent next choices back budget steps more path start now
-    choice → budget ≤ steps + more → TakesAll next choices back budget start
+    after next path start ≡ Some now →
+    HasSpent next choices back budget steps more path start now choice → budget ≤ steps + more →
+    TakesAll next choices back budget start
 spends-within next choices back others budget steps more path start now choice runs has all =
     grind (arith, spent-within)
 

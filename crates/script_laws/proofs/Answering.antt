@@ -41,8 +41,8 @@ newest-blocks : (past : Past) (x : Record) (s : WaitKind) (q : ℕ) →
 newest-blocks past x s q h = grind (arith, and_parts, newest-send, newest-receive)
 
 -- a call that waits is of its kind
-blocked-of : (past : Past) (s : WaitKind) (q w : ℕ) (r : Record) → is_in (blocked past s q) w ≡
-    true → record_at past w ≡ Some r → is_of s r.entry.call ≡ true
+blocked-of : (past : Past) (s : WaitKind) (q w : ℕ) (r : Record) →
+    is_in (blocked past s q) w ≡ true → record_at past w ≡ Some r → is_of s r.entry.call ≡ true
 blocked-of [] s q w r h at = absurd (cc)
 blocked-of (x ∷ past) s q w r h at = split (w == length past)
     (λ here.
@@ -92,8 +92,9 @@ pub record Answers (past : Past) (by : ℕ) (waiting : Call) : Type 0 where
   pub at : record_at past by ≡ Some answer
   pub kind : is_send answer.entry.call ≡ is_receive waiting
 
-pub answer-kind : (past : Past) → Legal past → (p w b : ℕ) (r : Record) → open_wait past p ≡
-    Some w → answered_by past p ≡ Some b → record_at past w ≡ Some r → Answers past b r.entry.call
+pub answer-kind : (past : Past) → Legal past → (p w b : ℕ) (r : Record) →
+    open_wait past p ≡ Some w → answered_by past p ≡ Some b → record_at past w ≡ Some r →
+    Answers past b r.entry.call
 answer-kind [] legal p w b r open_at answered at = absurd (cc)
 answer-kind (s ∷ past) legal p w b r open_at answered at = split (s.entry.process == p)
     (λ own. let bad : None ≡ Some b = rw own at answered in absurd (cc))

@@ -71,8 +71,8 @@ pub course-goes-on : (p q phase : ℕ) (program : Vec Planned Global) (to : Past
     (moves : List Move) (from : Past) (progress : Progress) (a own : Past) → (q ≡ p → ⊥) →
     All (λ r. author r ≡ p) own → to ≡ (a ++ own) ++ from →
     ((move : Move) (rest : List Move) → moves ≡ move ∷ rest → move.own ≡ [] → ⊥) →
-    Course q phase program to end moves from progress → Course q phase program to end moves
-    (own ++ from) progress
+    Course q phase program to end moves from progress →
+    Course q phase program to end moves (own ++ from) progress
 course-goes-on p q phase program to end [] from progress a own differ by_p at none course =
     grind (arith, common_steps, append_cancel_right, both-empty, filter-append)
 course-goes-on p q phase program to end (move ∷ moves) from progress a own differ by_p

@@ -129,8 +129,8 @@ pub all-grow : (journal : Past) (tickets : List (Ticket Record)) →
     AreEnds journal tickets
 all-grow journal [] all = tt
 all-grow journal (t ∷ tickets) all =
-    let P : Ticket Record → Type 0 = λ process. Grows author process.number
-    process.left journal [] in
+    let P : Ticket Record →
+    Type 0 = λ process. Grows author process.number process.left journal [] in
     let first = All-head P t tickets all in (
       record { more = first.behind; is = first.is },
       all-grow journal tickets

@@ -35,8 +35,8 @@ rests-turn b p phase past to r rests = grind (arith, no-turn, and_parts)
 
 -- what is reported --------------------------------------------------------------------------------
 
-stand-more : (script first more : List ℕ) → stand_text script (first ++ more) ≡
-    stand_text script first ++ stand_text script more
+stand-more : (script first more : List ℕ) →
+    stand_text script (first ++ more) ≡ stand_text script first ++ stand_text script more
 stand-more script [] more = refl
 stand-more script (line ∷ first) more = grind (arith, append_assoc, stand-more script first more)
 
@@ -84,8 +84,8 @@ module _ (frame : Frame) (phase : ℕ) (past to : Past) (runners : List Runner)
     (worked : List (Worked (Ticket Record))) (count : length runners ≡ length worked)
     (rest : (i : ℕ) (r : Runner) (w : Worked (Ticket Record)) → slice_get runners i ≡ Some r →
     slice_get worked i ≡ Some w → Rests w.blocked (i + 1) phase past to r) where
-  of-runner : (i : ℕ) (r : Runner) → slice_get runners i ≡ Some r → (w : Worked (Ticket Record)) ×
-      Rests w.blocked (i + 1) phase past to r
+  of-runner : (i : ℕ) (r : Runner) → slice_get runners i ≡ Some r →
+      (w : Worked (Ticket Record)) × Rests w.blocked (i + 1) phase past to r
   of-runner i r has =
       let below : i < length runners = slice_get_within runners i r has in
       let there = there-is worked i (omega (arith, below, count)) in

@@ -36,9 +36,9 @@ behind-them [] rest = refl
 behind-them (x ∷ earlier) rest = behind-them earlier rest
 
 planned-is : (phase : ℕ) (program : Vec Planned Global) (begun : ℕ) (call : WrittenCall)
-    (o : Option Planned) → slice_get program.items begun ≡ o → option_map plan_of o ≡
-    Some (plan phase call) → IsNext phase program begun (step_by call.moment call.command)
-    (given_by call.command)
+    (o : Option Planned) → slice_get program.items begun ≡ o →
+    option_map plan_of o ≡ Some (plan phase call) →
+    IsNext phase program begun (step_by call.moment call.command) (given_by call.command)
 planned-is phase program begun call None has is = absurd (cc)
 planned-is phase program begun call (Some planned) has is =
     let same : plan_of planned ≡ plan phase call = cc in

@@ -36,8 +36,8 @@ pub record IsAt (p : ℕ) (at : Past) (process : Ticket Record) : Type 0 where
   pub free : IsFree process
   pub near : Grows author p at process.left []
 
-pub at-free : (p : ℕ) (at : Past) (process : Ticket Record) → IsAt p at process → open_wait at p ≡
-    None
+pub at-free : (p : ℕ) (at : Past) (process : Ticket Record) → IsAt p at process →
+    open_wait at p ≡ None
 at-free p at process is = sym (wait-grown is.near) ∙ ap (λ (n : ℕ). open_wait process.left n)
     (sym is.number) ∙ is.free
 
@@ -52,8 +52,8 @@ pub record Came (p phase : ℕ) (program : Vec Planned Global) (from : Past) (pr
   pub at : Past
   pub is : IsAt p at new
   pub goes : (to : Past) (end : Progress) (moves : List Move) →
-      Course p phase program to end moves at next → (all : List Move) × Course p phase program to
-      end all from progress
+      Course p phase program to end moves at next →
+      (all : List Move) × Course p phase program to end all from progress
 
 -- it started and completed its next line, for which this is printed
 abbrev pub Moved : ℕ → ℕ → Vec Planned Global → Past → Progress → Ticket Record → List ℕ → Type 0

@@ -27,9 +27,9 @@ use Rattle.script_laws.proofs.Runners.{AreOnCourse, Frame, Runner, ends_in, prog
 use Rattle.script_laws.proofs.Sitting.{AllSit, all-run}
 use Rattle.script_laws.proofs.Weaving.{IsOf, ended, weaving}
 
-pub then-after : (schedule more : List ℕ) (from mid to : Stage) → after next_stage schedule from ≡
-    Some mid → after next_stage more mid ≡ Some to → after next_stage (schedule ++ more) from ≡
-    Some to
+pub then-after : (schedule more : List ℕ) (from mid to : Stage) →
+    after next_stage schedule from ≡ Some mid → after next_stage more mid ≡ Some to →
+    after next_stage (schedule ++ more) from ≡ Some to
 then-after schedule more from mid to first rest = grind (arith, after-append)
 
 -- as many programs as processes
@@ -59,8 +59,8 @@ pub record Reached (from : Stage) (journal : Past) (programs : List (Vec Planned
   pub left : AllLeft past tickets
   pub here : IsEnd past journal
   pub count : frame.phases ≡ phase + length phases
-  pub leads : 1 ≤ length phases → after next_stage schedule from ≡
-      Some (record {
+  pub leads : 1 ≤ length phases →
+      after next_stage schedule from ≡ Some (record {
         programs = programs;
         phases = frame.phases;
         script = frame.script;
@@ -111,10 +111,10 @@ pub phases-observed : (GoesOn : Stage → ℕ → Type 0) (journal : Past)
     AreAmplePhases phases before tickets text ran →
     Reached from journal programs frame phase (phases ++ later) before →
     AreObservedBefore GoesOn from phase (phase_replies phases before tickets text ran)
-phases-observed GoesOn journal programs frame later tickets of few ends then [] phase from before
-    text ran ample reached = grind arith
-phases-observed GoesOn journal programs frame later tickets of few ends then (calls ∷ phases) phase
-    from before text ran ample reached =
+phases-observed GoesOn journal programs frame later tickets of few ends
+    then [] phase from before text ran ample reached = grind arith
+phases-observed GoesOn journal programs frame later tickets of few ends
+    then (calls ∷ phases) phase from before text ran ample reached =
     let between : List (Ticket Record) = ran.1 in
     let rest : List (List WrittenCall) = phases ++ later in
     let past : Past = reached.past in
@@ -154,8 +154,8 @@ phases-observed GoesOn journal programs frame later tickets of few ends then (ca
       last,
       record { runs = runs.1; goal = still frame phase past to runners through },
       said,
-      phases-observed GoesOn journal programs frame later tickets of few ends then phases
-          (phase + 1) last between ran.4 ran.7 ample.1 on,
+      phases-observed GoesOn journal programs frame later tickets of few ends
+          then phases (phase + 1) last between ran.4 ran.7 ample.1 on,
     )
 
 -- a stage with this journal before all phases
@@ -165,8 +165,9 @@ frame_of from past = record { phases = from.phases; script = from.script; start 
 -- the processes of a script start in its first phase
 pub all-reached : (past : Past) (script : Whole) (system : LockId) (journal : Past) (from : Stage) →
     bounds_in system.fixed ≡ None → NoneWaits past script.processes → IsEnd past journal →
-    BeginsAfter past script from → Reached from journal from.programs (frame_of from past) 0
-    script.phases (tickets_with system past 1 script.processes)
+    BeginsAfter past script from →
+    Reached from journal from.programs (frame_of from past) 0 script.phases
+    (tickets_with system past 1 script.processes)
 all-reached past script system journal from unbounded free end begins =
     record {
       past = past;
@@ -183,8 +184,9 @@ all-reached past script system journal from unbounded free end begins =
 
 -- before all calls
 pub new-reached : (script : Whole) (system : LockId) (journal : Past) (from : Stage) →
-    bounds_in system.fixed ≡ None → Begins script from → Reached from journal from.programs
-    (frame_of from []) 0 script.phases (tickets_from system 1 script.processes)
+    bounds_in system.fixed ≡ None → Begins script from →
+    Reached from journal from.programs (frame_of from []) 0 script.phases
+    (tickets_from system 1 script.processes)
 new-reached script system journal from unbounded begins =
     all-reached [] script system journal from unbounded (λ p low high. refl)
     (record { more = journal; is = sym (append-nil journal) }) begins
@@ -241,8 +243,8 @@ pub record FoundBefore (GoesOn : Stage → ℕ → Type 0) (first : Stage) (foun
 
 pub observed-found : (GoesOn : Stage → ℕ → Type 0) (first from : Stage) (schedule : List ℕ)
     (found : List Witnessed) (phase : ℕ) (texts : List (List ℕ)) →
-    AreAll next_stage stands_still observed first found → after next_stage schedule first ≡
-    Some from → AreObservedBefore GoesOn from phase texts →
+    AreAll next_stage stands_still observed first found →
+    after next_stage schedule first ≡ Some from → AreObservedBefore GoesOn from phase texts →
     FoundBefore GoesOn first found phase texts
 observed-found GoesOn first from schedule found phase [] all leads are = grind arith
 observed-found GoesOn first from schedule found phase (text ∷ texts) all leads are =

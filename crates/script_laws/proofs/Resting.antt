@@ -16,8 +16,9 @@ use Rattle.script_laws.proofs.Weaving.{ended}
 
 -- a process that does not wait, and whose next line is of a later phase, cannot go on
 pub no-turn : (past : Past) (phase p : ℕ) (progress : Progress) (program : Vec Planned Global) →
-    open_wait past p ≡ None → ((planned : Planned) → slice_get program.items progress.begun ≡
-    Some planned → phase < planned.phase) → after_turn past phase p progress program ≡ None
+    open_wait past p ≡ None →
+    ((planned : Planned) → slice_get program.items progress.begun ≡ Some planned →
+    phase < planned.phase) → after_turn past phase p progress program ≡ None
 no-turn past phase p progress program free later = grind (arith, nat_tests)
 
 pub has-in : {B : Type 0} (f : Runner → B) (runners : List Runner) (i : ℕ) (r : Runner) →
@@ -73,6 +74,7 @@ module _ (frame : Frame) (phase : ℕ) (past to : Past) (runners : List Runner)
   tells = grind (arith, waits-none)
 
   -- the next phase, if there is one
-  pub next-begins : phase + 1 < frame.phases → next_stage (ended frame phase to runners)
-      (length (programs_in runners)) ≡ Some (in_next_phase (ended frame phase to runners))
+  pub next-begins : phase + 1 < frame.phases →
+      next_stage (ended frame phase to runners) (length (programs_in runners)) ≡
+      Some (in_next_phase (ended frame phase to runners))
   next-begins more = grind (arith, eq-eqb, nat_tests, still, waits-none)

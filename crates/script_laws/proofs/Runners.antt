@@ -63,14 +63,14 @@ there-is [] i below = let k : ⊥ = omega (arith, below) in absurd k
 there-is (x ∷ xs) zero below = (x, refl)
 there-is (x ∷ xs) (suc i) below = there-is xs i (omega (arith, below))
 
-pub get-set-here : {A : Type 0} (xs : List A) (i : ℕ) (y x : A) → slice_get (slice_set xs i y) i ≡
-    Some x → x ≡ y
+pub get-set-here : {A : Type 0} (xs : List A) (i : ℕ) (y x : A) →
+    slice_get (slice_set xs i y) i ≡ Some x → x ≡ y
 get-set-here (z ∷ xs) (suc i) y x h = get-set-here xs i y x h
 get-set-here xs i y x h = cc
 
 -- replacing an element by one with the same value under f does not change the map
-pub map-set-same : {A B : Type 0} (f : A → B) (xs : List A) (i : ℕ) (x y : A) → slice_get xs i ≡
-    Some x → f y ≡ f x → map f (slice_set xs i y) ≡ map f xs
+pub map-set-same : {A B : Type 0} (f : A → B) (xs : List A) (i : ℕ) (x y : A) →
+    slice_get xs i ≡ Some x → f y ≡ f x → map f (slice_set xs i y) ≡ map f xs
 map-set-same f [] i x y h e = refl
 map-set-same {A} {B} f (z ∷ xs) zero x y h e = grind arith
 map-set-same {A} {B} f (z ∷ xs) (suc i) x y h e = ap (λ (l : List B). f z ∷ l)

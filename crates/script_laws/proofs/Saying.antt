@@ -19,12 +19,14 @@ pub record Tells {A : Type 0} (says : Past → Reply → Option (Result A Fault)
     (buffer : Past → Reply → List ℕ) : Type 0 where
   pub waits : (past : Past) → says past Waits ≡ None
   pub refuses : (past : Past) (fault : Fault) → says past (Refused fault) ≡ Some (Err fault)
-  pub prints : (past : Past) (p : ℕ) (reply : Reply) (result : Result A Fault) → says past reply ≡
-      Some result → said past p reply ≡ reply_line p (outcome_by shows result) (buffer past reply)
+  pub prints : (past : Past) (p : ℕ) (reply : Reply) (result : Result A Fault) →
+      says past reply ≡ Some result → said past p reply ≡ reply_line p (outcome_by shows result)
+      (buffer past reply)
 
 -- a message at the start of a buffer is printed unchanged
-pub message-prints : (past : Past) (p place : ℕ) (before : List ℕ) → said_of_message past p place ≡
-    reply_line p (outcomes.Got (received_at past place)) (with_front (message_at past place) before)
+pub message-prints : (past : Past) (p place : ℕ) (before : List ℕ) →
+    said_of_message past p place ≡ reply_line p (outcomes.Got (received_at past place))
+    (with_front (message_at past place) before)
 unfolding with_front
 message-prints past p place before = grind (arith, take-length, take-append_seam)
 
@@ -36,8 +38,8 @@ open-tells buffer = record {
   prints = λ past p reply result h. grind arith;
 }
 
-pub done-tells : (buffer : List ℕ) → Tells (λ _ reply. done_says reply)
-    (λ _. outcomes.Done) (λ _ _. buffer)
+pub done-tells : (buffer : List ℕ) →
+    Tells (λ _ reply. done_says reply) (λ _. outcomes.Done) (λ _ _. buffer)
 done-tells buffer = record {
   waits = λ past. refl;
   refuses = λ past fault. refl;
@@ -60,8 +62,8 @@ notice-tells buffer = record {
   prints = λ past p reply result h. grind arith;
 }
 
-pub send-tells : (buffer : List ℕ) → Tells (λ _ reply. send_says reply)
-    (λ _. outcomes.Done) (λ _ _. buffer)
+pub send-tells : (buffer : List ℕ) →
+    Tells (λ _ reply. send_says reply) (λ _. outcomes.Done) (λ _ _. buffer)
 send-tells buffer = record {
   waits = λ past. refl;
   refuses = λ past fault. refl;

@@ -74,9 +74,9 @@ first-line phase (calls ∷ phases) p x has =
     grind (arith, head-of, first-line (phase + 1) phases p x)
 
 next-later : (phase : ℕ) (phases : List (List WrittenCall)) (p : ℕ) (program : Vec Planned Global)
-    (earlier : List Plan) (begun : ℕ) (planned : Planned) → map plan_of program.items ≡ earlier ++
-    program_of (phase + 1) phases p → length earlier ≡ begun → slice_get program.items begun ≡
-    Some planned → phase < planned.phase
+    (earlier : List Plan) (begun : ℕ) (planned : Planned) →
+    map plan_of program.items ≡ earlier ++ program_of (phase + 1) phases p →
+    length earlier ≡ begun → slice_get program.items begun ≡ Some planned → phase < planned.phase
 next-later phase phases p program earlier begun planned are count has =
     let there : slice_get (map plan_of program.items) begun ≡ Some (plan_of planned) =
     slice_get-map plan_of program.items begun ∙
@@ -113,8 +113,8 @@ pub one-runs : (phase : ℕ) (calls : List WrittenCall) (phases : List (List Wri
     (old new process : Ticket Record) (completions : List Completion) →
     Sits phase (calls ∷ phases) p program seat old →
     RunsCalls (calls_of old.number calls) completions old new → IsSameProcess old new →
-    All HadMemory completions → FindsLength n new process → old.left ≡ past → process.left ≡
-    to → (p ≤ 32) × AreFirst to →
+    All HadMemory completions → FindsLength n new process → old.left ≡ past →
+    process.left ≡ to → (p ≤ 32) × AreFirst to →
     OneRuns phase calls phases p past to program seat completions process
 one-runs phase calls phases n p past to program seat old new process completions sits ran same
     memory found before after few =
@@ -191,9 +191,9 @@ pub record AllRun (phase : ℕ) (phases : List (List WrittenCall)) (p : ℕ) (pa
   pub sit : AllSit (phase + 1) phases p programs (seats_cleared (ends_in runners)) processes
 
 more-through : (p phase : ℕ) (past to : Past) (first : Runner) (runners : List Runner) →
-    Through p phase past to first → ((i : ℕ) (r : Runner) → slice_get runners i ≡ Some r →
-    Through (i + suc p) phase past to r) → (i : ℕ) (r : Runner) → slice_get (first ∷ runners) i ≡
-    Some r → Through (i + p) phase past to r
+    Through p phase past to first →
+    ((i : ℕ) (r : Runner) → slice_get runners i ≡ Some r → Through (i + suc p) phase past to r) →
+    (i : ℕ) (r : Runner) → slice_get (first ∷ runners) i ≡ Some r → Through (i + p) phase past to r
 more-through p phase past to first runners one rest zero r has = grind (arith, Runner)
 more-through p phase past to first runners one rest (suc i) r has =
     let here : i + suc p ≡ suc i + p = omega arith in
@@ -203,8 +203,9 @@ pub all-run : (phase : ℕ) (calls : List WrittenCall) (phases : List (List Writ
     (past to : Past) (programs : List (Vec Planned Global)) (seats : List Progress)
     (before ended between : List (Ticket Record)) (text : List ℕ)
     (ran : RunsPhase calls before ended text) →
-    IsAmplePhase calls before ended text ran → AllSit phase (calls ∷ phases) p programs seats
-    before → AllZip (FindsLength n) ended between → AllLeft past before → AllLeft to between →
+    IsAmplePhase calls before ended text ran →
+    AllSit phase (calls ∷ phases) p programs seats before →
+    AllZip (FindsLength n) ended between → AllLeft past before → AllLeft to between →
     p + length programs ≤ 33 → AreFirst to →
     AllRun phase phases p past to programs seats between text
 all-run phase calls phases n p past to programs seats [] [] [] text ran ample sit found before after

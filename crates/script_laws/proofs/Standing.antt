@@ -227,8 +227,8 @@ stand-observed script lines old new from stop ample begins =
 -- and found if all interleavings were tried
 pub stand-found : (from : Stage) (found : List Witnessed) (n : ℕ) (texts : List (List ℕ))
     (lines : List ℕ) → length texts ≡ n → AreAll next_stage stands_still observed from found →
-    ComesToStand from 0 texts lines → AreFound found 0 texts ×
-    (is_among found (stand_outcome from.script n lines) ≡ true)
+    ComesToStand from 0 texts lines →
+    AreFound found 0 texts × (is_among found (stand_outcome from.script n lines) ≡ true)
 stand-found from found n texts lines count all comes =
     let f = observed-found (Stands from.script lines) from from [] found 0 texts all refl comes in
     let stands = f.goes_on in

@@ -47,7 +47,8 @@ legal-grown p before after g legal = legal-behind g.behind before
 
 -- what a collect prints: the line of a send, or a message
 pub said-by : (b : Bool) (past : Past) (p by : ℕ) (waiting : Call) → is_receive waiting ≡ b →
-    Answers past by waiting → said_of_collect past p by ≡
+    Answers past by waiting →
+    said_of_collect past p by ≡
     (if b then said_of_message past p by else reply_line p outcomes.Done [])
 said-by b past p by waiting kind answers = grind arith
 
@@ -101,8 +102,9 @@ collect-goes phase program p by waited wait progress found legal next waits at =
 -- the move that begins it
 pub wait-goes : (phase : ℕ) (program : Vec Planned Global) (p : ℕ) (from found : Past)
     (progress : Progress) (call : Call) (given : List ℕ)
-    → open_wait from p ≡ None → Grows author p from found [] → IsNext phase program progress.begun
-    (steps.Call call) given → IsLegalNext found (recorded p call given Waits)
+    → open_wait from p ≡ None → Grows author p from found [] →
+    IsNext phase program progress.begun (steps.Call call) given →
+    IsLegalNext found (recorded p call given Waits)
     → Goes p phase program (record {
       found = found;
       own = recorded p call given Waits ∷ [];

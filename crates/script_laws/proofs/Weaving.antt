@@ -130,8 +130,9 @@ eager-next phase to past runners on e =
       has = e.has;
       next = e.next;
       found = course.0.eager e.leaves;
-      others = λ j r other has. let P : Past → Type 0 = λ own. Course (j + 1) phase r.program to
-          r.end r.moves (own ++ past) r.seat in subst P (sym e.leaves) (on j r has);
+      others = λ j r other has. let P : Past →
+          Type 0 = λ own. Course (j + 1) phase r.program to r.end r.moves (own ++ past) r.seat in
+          subst P (sym e.leaves) (on j r has);
     }
 
 -- process i + 1, whose record directly follows the journal
@@ -244,8 +245,8 @@ one-less (x ∷ runners) (suc i) r seat move moves has next =
 all-ended : (frame : Frame) (phase : ℕ) (to past : Past) (runners : List Runner) →
     AreOnCourse phase to past runners → AllMade to past runners → Weaves frame phase to past runners
 all-ended frame phase to past runners on all =
-    let same : (i : ℕ) (r : Runner) → slice_get runners i ≡ Some r → r.seat ≡ r.end =
-    λ i r has. (subst (λ (moves : List Move). CourseOf i phase to past r moves)
+    let same : (i : ℕ) (r : Runner) → slice_get runners i ≡ Some r →
+    r.seat ≡ r.end = λ i r has. (subst (λ (moves : List Move). CourseOf i phase to past r moves)
     (all.made i r has) (on i r has)).0 in (
       [],
       rw (all.here, map-agree (λ (r : Runner). r.seat) (λ (r : Runner). r.end) runners same)
@@ -254,7 +255,8 @@ all-ended frame phase to past runners on all =
 
 -- after the next move all are on their courses
 next-on : (phase : ℕ) (to past : Past) (runners : List Runner) → AreOnCourse phase to past runners →
-    (n : Next phase to past runners) → AreOnCourse phase to (n.move.own ++ n.move.found)
+    (n : Next phase to past runners) →
+    AreOnCourse phase to (n.move.own ++ n.move.found)
     (slice_set runners n.at (gone n.runner n.move.next n.moves))
 next-on phase to past runners on n i r has =
     split (i == n.at)

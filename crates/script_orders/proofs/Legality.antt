@@ -98,8 +98,8 @@ turn-legal past phase p progress program new bounds legal h =
     let begins : Option Turned = option_map (turned 1 progress)
     (option_and_then (after_line past phase p progress)
     (slice_get program.items progress.begun)) in
-    let goes : (b : Bool) → is_some (open_wait past p) ≡ b → (if b then collects else begins) ≡
-    Some new → Legal new.past =
+    let goes : (b : Bool) → is_some (open_wait past p) ≡ b →
+    (if b then collects else begins) ≡ Some new → Legal new.past =
     λ (b : Bool). elim b as (λ b. is_some (open_wait past p) ≡ b →
     (if b then collects else begins) ≡ Some new → Legal new.past) [
       | true ↦ (λ e h. turned-legal 0 progress (after_call (scene_of past progress) p Collect [])
@@ -147,8 +147,9 @@ phase-legal x y b legal h = grind arith
 next-legal : (x y : Stage) (choice : ℕ) → length x.programs ≤ 32 → Legal x.past →
     next_stage x choice ≡ Some y → Legal y.past
 next-legal x y choice few legal step =
-    let goes : (b : Bool) → (if b then after_phase x else option_map (with_turn x choice)
-    (turn_of x choice)) ≡ Some y → Legal y.past =
+    let goes : (b : Bool) →
+    (if b then after_phase x else option_map (with_turn x choice) (turn_of x choice)) ≡ Some y →
+    Legal y.past =
     λ (b : Bool). elim b as (λ b. (if b then after_phase x else option_map (with_turn x choice)
     (turn_of x choice)) ≡ Some y → Legal y.past) [
       | true ↦ (λ h. phase-legal x y (nat_lt (x.phase + 1) x.phases &&

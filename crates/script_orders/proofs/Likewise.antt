@@ -59,12 +59,13 @@ call-alike {received} x y text p call given may alike =
     let to = alike.to in
     let steps = steps-agree to x y alike.equivalent p call given may in
     let longer : Past → Past = λ past. record_of_call past p call given ∷ past in
-    let scene : Past → Past → Scene = λ past new. record {
+    let scene : Past → Past →
+    Scene = λ past new. record {
       past = new;
       text = text ++ said new p (reply_to past p call given);
     } in
-    let after : Past → Bool → Option Scene = λ past b. option_map (scene past)
-    (if b then Some (longer past) else None) in
+    let after : Past → Bool →
+    Option Scene = λ past b. option_map (scene past) (if b then Some (longer past) else None) in
     let goes : (b c : Bool) → can_call x p call given ≡ b → can_call y p call given ≡ c → c ≡ b →
     AreBothAlike (ScenesAlike received) (after x b) (after y c) =
     λ (b c : Bool). elim b as (λ b. can_call x p call given ≡ b → can_call y p call given ≡ c → c ≡
@@ -90,8 +91,8 @@ call-alike {received} x y text p call given may alike =
 
 -- an exit -----------------------------------------------------------------------------------------
 
-may-other : (received : Bool) (call : Call) → is_receive call ≡ false → may_come received call ≡
-    true
+may-other : (received : Bool) (call : Call) → is_receive call ≡ false →
+    may_come received call ≡ true
 may-other received call e = grind arith
 
 close-alike : {received : Bool} (x y : Past) (p d : ℕ) → (1 ≤ p) × (p ≤ 32) → Free x p → Free y p →
@@ -134,8 +135,9 @@ record TurnsAlike (received : Bool) (from : ℕ) (t u : Turned) : Type 0 where
   later : from ≤ t.progress.begun
 
 turned-alike : (received : Bool) (lines : ℕ) (progress : Progress) (o q : Option Scene) →
-    AreBothAlike (ScenesAlike received) o q → AreBothAlike (TurnsAlike received progress.begun)
-    (option_map (turned lines progress) o) (option_map (turned lines progress) q)
+    AreBothAlike (ScenesAlike received) o q →
+    AreBothAlike (TurnsAlike received progress.begun) (option_map (turned lines progress) o)
+    (option_map (turned lines progress) q)
 turned-alike received lines progress o q alike = grind arith
 
 turn-alike : {received : Bool} (x y : Past) (phase : ℕ) (p : Process) (progress : Progress)
@@ -145,9 +147,11 @@ turn-alike : {received : Bool} (x y : Past) (phase : ℕ) (p : Process) (progres
     AreBothAlike (TurnsAlike received progress.begun) (after_turn x phase p progress program)
     (after_turn y phase p progress program)
 turn-alike {received} x y phase p progress program bounds may alike =
-    let collects : Past → Option Turned = λ past. option_map (turned 0 progress)
+    let collects : Past →
+    Option Turned = λ past. option_map (turned 0 progress)
     (after_call (scene_of past progress) p Collect []) in
-    let begins : Past → Option Turned = λ past. option_map (turned 1 progress)
+    let begins : Past →
+    Option Turned = λ past. option_map (turned 1 progress)
     (option_and_then (after_line past phase p progress)
     (slice_get program.items progress.begun)) in
     let goes : (b : Bool) → is_some (open_wait x p) ≡ b → is_some (open_wait y p) ≡ b →
@@ -189,8 +193,8 @@ any-later is_such (planned ∷ program) (suc m) zero le r = absurd (omega (arith
 any-later is_such (planned ∷ program) (suc m) (suc n) le r = any-later is_such program m n
     (omega (arith, le)) r
 
-one-of : (s : Stage) (n index : ℕ) → index < n → will_receive s index ≡ true → one_receives s n ≡
-    true
+one-of : (s : Stage) (n index : ℕ) → index < n → will_receive s index ≡ true →
+    one_receives s n ≡ true
 one-of s zero index lt e = absurd (omega (arith, lt))
 one-of s (suc n) index lt e = split (index == n)
     (λ t. let here : will_receive s n ≡ true = subst (λ (k : ℕ). will_receive s k ≡ true)
@@ -203,8 +207,9 @@ one-of s (suc n) index lt e = split (index == n)
     by false h = h
 
 -- if no receive is to come at one stage, none is at another where no process has more to do
-fewer-receive : (s t : Stage) (n : ℕ) → ((k : ℕ) → will_receive t k ≡ true → will_receive s k ≡
-    true) → one_receives s n ≡ false → one_receives t n ≡ false
+fewer-receive : (s t : Stage) (n : ℕ) →
+    ((k : ℕ) → will_receive t k ≡ true → will_receive s k ≡ true) → one_receives s n ≡ false →
+    one_receives t n ≡ false
 fewer-receive s t zero fewer e = refl
 fewer-receive s t (suc n) fewer e =
     let before : one_receives s n ≡ false = split (one_receives s n) (λ y. let bad : true ≡
@@ -244,11 +249,12 @@ turn_of-alike : (s : Stage) (past : Past) (index : ℕ) → length s.programs �
     Agree (receives s) s.past past → AreBothAlike (TurnsAlike (receives s) (begun_at s index))
     (turn_of s index) (turn_of (with_past s past) index)
 turn_of-alike s past index few alike =
-    let by_seat : Past → Vec Planned Global → Option Progress → Option Turned =
-    λ at program o. option_and_then (λ (seat : Progress). after_turn at s.phase (index + 1)
-    seat program) o in
-    let by_program : Past → Option (Vec Planned Global) → Option Turned = λ at o. option_and_then
-    (λ (program : Vec Planned Global). by_seat at program (slice_get s.seats index)) o in
+    let by_seat : Past → Vec Planned Global → Option Progress →
+    Option Turned = λ at program o. option_and_then (λ (seat : Progress). after_turn at s.phase
+    (index + 1) seat program) o in
+    let by_program : Past → Option (Vec Planned Global) →
+    Option Turned = λ at o. option_and_then (λ (program : Vec Planned Global). by_seat at
+    program (slice_get s.seats index)) o in
     let sits : (program : Vec Planned Global) → slice_get s.programs index ≡ Some program →
     (o : Option Progress) → slice_get s.seats index ≡ o →
     AreBothAlike
@@ -324,9 +330,9 @@ turns-next s past choice (Some t) (Some u) few alike = record {
 turns-next s past choice _ _ few alike = absurd alike
 
 -- a new phase has the same lines to come
-cleared-get : (seats : List Progress) (k : ℕ) → option_map (λ (seat : Progress). seat.begun)
-    (slice_get (seats_cleared seats) k) ≡ option_map (λ (seat : Progress). seat.begun)
-    (slice_get seats k)
+cleared-get : (seats : List Progress) (k : ℕ) →
+    option_map (λ (seat : Progress). seat.begun) (slice_get (seats_cleared seats) k) ≡
+    option_map (λ (seat : Progress). seat.begun) (slice_get seats k)
 cleared-get (seat ∷ seats) (suc k) = cleared-get seats k
 cleared-get _ _ = refl
 
@@ -354,8 +360,8 @@ phase-receives s k = by (slice_get s.programs k)
         ∙ sym (will-begun program (slice_get s.seats k))
 
 past-next : (s : Stage) (past : Past) (choice : ℕ) → length s.programs ≤ 32 →
-    Agree (receives s) s.past past → AreBothAlike AreStagesAlike (next_stage s choice)
-    (next_stage (with_past s past) choice)
+    Agree (receives s) s.past past →
+    AreBothAlike AreStagesAlike (next_stage s choice) (next_stage (with_past s past) choice)
 past-next s past choice few alike = grind (
   arith,
   turns-next,
@@ -385,14 +391,10 @@ reach-first schedule s x h = reach-start next_stage first_stage next-first sched
 
 decodable-seat : IsDecodable seat_code
 decodable-seat a b u v e =
-    let message : Progress → Message = λ (q : Progress). record {
-      prio = q.begun;
-      bytes = q.text;
-    } in
-    let progress : Message → Progress = λ (m : Message). record {
-      begun = m.prio;
-      text = m.bytes;
-    } in
+    let message : Progress →
+    Message = λ (q : Progress). record { prio = q.begun; bytes = q.text } in
+    let progress : Message →
+    Progress = λ (m : Message). record { begun = m.prio; text = m.bytes } in
     let same = decodable-message (message a) (message b) u v e in
     (ap progress same.0, same.1)
 

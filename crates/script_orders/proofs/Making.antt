@@ -67,8 +67,8 @@ program-good : (k : ℕ) (phases : List (List WrittenCall)) (p : ℕ) → Good k
 program-good k [] p = tt
 program-good k (calls ∷ phases) p = grind (arith, list-good, program-good (k + 1) phases p)
 
-append-last : {A : Type 0} (xs : List A) (y : A) (i : ℕ) (x : A) → slice_get (xs ++ y ∷ []) i ≡
-    Some x → (slice_get xs i ≡ Some x) ⊎ (y ≡ x)
+append-last : {A : Type 0} (xs : List A) (y : A) (i : ℕ) (x : A) →
+    slice_get (xs ++ y ∷ []) i ≡ Some x → (slice_get xs i ≡ Some x) ⊎ (y ≡ x)
 append-last [] y zero x h = inr cc
 append-last [] y (suc i) x h = cc
 append-last (z ∷ xs) y zero x h = inl h
@@ -142,8 +142,9 @@ record Holds (s : Stage) : Type 0 where
   few : length s.programs ≤ 32
   good : (i : ℕ) (program : Vec Planned Global) → slice_get s.programs i ≡ Some program →
       GoodProgram program
-  ready : (i : ℕ) (program : Vec Planned Global) (seat : Progress) → slice_get s.programs i ≡
-      Some program → slice_get s.seats i ≡ Some seat → ReadyAt s.phase program seat
+  ready : (i : ℕ) (program : Vec Planned Global) (seat : Progress) →
+      slice_get s.programs i ≡ Some program → slice_get s.seats i ≡ Some seat →
+      ReadyAt s.phase program seat
 
 turned-begun : (lines : ℕ) (progress : Progress) (o : Option Scene) (t : Turned) →
     option_map (turned lines progress) o ≡ Some t → t.progress.begun ≡ progress.begun + lines
@@ -205,8 +206,8 @@ turn-ready past phase p progress program t good ready h =
     goes (is_some (open_wait past p)) h
 
 -- a step of a process
-pub set-cases : {A : Type 0} (xs : List A) (c i : ℕ) (t s : A) → slice_get (slice_set xs c t) i ≡
-    Some s → ((i ≡ c) × (s ≡ t)) ⊎ (slice_get xs i ≡ Some s)
+pub set-cases : {A : Type 0} (xs : List A) (c i : ℕ) (t s : A) →
+    slice_get (slice_set xs c t) i ≡ Some s → ((i ≡ c) × (s ≡ t)) ⊎ (slice_get xs i ≡ Some s)
 set-cases [] c i t s h = inr cc
 set-cases (x ∷ xs) zero zero t s h = inl (refl, cc)
 set-cases (x ∷ xs) zero (suc i) t s h = inr h
@@ -222,9 +223,10 @@ pub record Went (s : Stage) (choice : ℕ) (t : Turned) : Type 0 where
   pub goes : after_turn s.past s.phase (choice + 1) seat program ≡ Some t
 
 went-seat : (s : Stage) (choice : ℕ) (t : Turned) (program : Vec Planned Global)
-    (o : Option Progress) → slice_get s.programs choice ≡ Some program → slice_get s.seats choice ≡
-    o → option_and_then (λ (seat : Progress). after_turn s.past s.phase (choice + 1) seat program)
-    o ≡ Some t → Went s choice t
+    (o : Option Progress) → slice_get s.programs choice ≡ Some program →
+    slice_get s.seats choice ≡ o →
+    option_and_then (λ (seat : Progress). after_turn s.past s.phase (choice + 1) seat program) o ≡
+    Some t → Went s choice t
 went-seat s choice t program None has sits h = cc
 went-seat s choice t program (Some seat) has sits h = record {
   program = program;
@@ -250,14 +252,19 @@ one-waits-none : (past : Past) (n i : ℕ) → i < n → one_waits past n ≡ fa
     open_wait past (i + 1) ≡ None
 one-waits-none past zero i below h = let k : ⊥ = omega (arith, below) in absurd k
 one-waits-none past (suc n) i below h =
-    let split : (a b : Bool) → (a || b) ≡ false → (a ≡ false) × (b ≡ false) =
-    λ (a : Bool) (b : Bool). elim a as (λ a. (a || b) ≡ false → (a ≡ false) × (b ≡ false))
-    [ true ↦ (λ h. cc) | false ↦ (λ h. (refl, h)) ] in
+    let split : (a b : Bool) → (a || b) ≡ false →
+    (a ≡ false) × (b ≡ false) = λ (a : Bool) (b : Bool). elim a as (λ a. (a || b) ≡ false →
+    (a ≡ false) × (b ≡ false)) [ true ↦ (λ h. cc) | false ↦ (λ h. (refl, h)) ] in
     let parts = split (one_waits past n) (is_some (open_wait past (n + 1))) h in
-    let last : (o : Option ℕ) → is_some o ≡ false → o ≡ None = λ (o : Option ℕ). elim o as
-    (λ o. is_some o ≡ false → o ≡ None) [ None ↦ (λ h. refl) | Some w ↦ (λ h. cc) ] in
-    let goes : (b : Bool) → (i == n) ≡ b → open_wait past (i + 1) ≡ None = λ (b : Bool). elim b as
-    (λ b. (i == n) ≡ b → open_wait past (i + 1) ≡ None) [
+    let last : (o : Option ℕ) → is_some o ≡ false →
+    o ≡ None = λ (o : Option ℕ). elim o as (λ o. is_some o ≡ false → o ≡ None) [
+      | None ↦
+          (λ h. refl)
+      | Some w ↦ (λ h. cc)
+    ] in
+    let goes : (b : Bool) → (i == n) ≡ b →
+    open_wait past (i + 1) ≡ None = λ (b : Bool). elim b as (λ b. (i == n) ≡ b → open_wait past
+    (i + 1) ≡ None) [
       | true ↦ (λ e. let same : i ≡ n = eqb-true i n e in ap (λ (k : ℕ). open_wait past (k + 1))
           same ∙ last (open_wait past (n + 1)) parts.1)
       | false ↦ (λ e. one-waits-none past n i (grind (arith, nat_tests)) parts.0)
@@ -267,9 +274,9 @@ one-waits-none past (suc n) i below h =
 
 -- the next line of a process that neither waits nor can take a step is in a later phase
 later-line : (s : Stage) (i : ℕ) (program : Vec Planned Global) (seat : Progress)
-    (planned : Planned) → Holds s → slice_get s.programs i ≡ Some program → slice_get s.seats i ≡
-    Some seat → slice_get program.items seat.begun ≡ Some planned → is_some (turn_of s i) ≡ false →
-    open_wait s.past (i + 1) ≡ None → s.phase < planned.phase
+    (planned : Planned) → Holds s → slice_get s.programs i ≡ Some program →
+    slice_get s.seats i ≡ Some seat → slice_get program.items seat.begun ≡ Some planned →
+    is_some (turn_of s i) ≡ false → open_wait s.past (i + 1) ≡ None → s.phase < planned.phase
 later-line s i program seat planned holds has sits next stands free =
     grind (arith, slice_get_within, eqb-true, line-goes, turn_of-is)
 

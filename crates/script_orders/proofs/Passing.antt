@@ -190,8 +190,8 @@ module _ (a : Request) (Holds : Past → Type 0) (Passes : Past → Process → 
       let same : is_held ahead q d ≡ is_held past q d =
       ap not (refused-alike (reply_to ahead q (MqClose d) [])
       (reply_to past q (MqClose d) []) one.reply) in
-      let closed : Past → Bool → Past = λ x b. if b then record_of_call x q (MqClose d) [] ∷
-      x else x in
+      let closed : Past → Bool → Past = λ x b. if b then record_of_call x q (MqClose d) [] ∷ x
+      else x in
       let goes : (b : Bool) → Moved a Holds past (closed past b) (closed ahead b) =
       λ (b : Bool). elim b as (λ b. Moved a Holds past (closed past b) (closed ahead b)) [
         | true ↦
@@ -222,11 +222,13 @@ module _ (a : Request) (Holds : Past → Type 0) (Passes : Past → Process → 
       ScenePassed a Holds past scene
       (after_call (record { past = ahead; text = text }) q call given)
   call-scene q call given past ahead text scene ne passes c step =
-      let scene_of_call : Past → Past → Scene = λ x new. record {
+      let scene_of_call : Past → Past →
+      Scene = λ x new. record {
         past = new;
         text = text ++ said new q (reply_to x q call given);
       } in
-      let after : Past → Bool → Option Scene = λ x b. option_map (scene_of_call x)
+      let after : Past → Bool →
+      Option Scene = λ x b. option_map (scene_of_call x)
       (if b then Some (record_of_call x q call given ∷ x) else None) in
       let goes : (b : Bool) → can_call past q call given ≡ b → after past b ≡ Some scene →
       ScenePassed a Holds past scene (after ahead (can_call ahead q call given)) =
@@ -235,8 +237,9 @@ module _ (a : Request) (Holds : Past → Type 0) (Passes : Past → Process → 
         | true ↦ (λ can h.
             let one = call-passes q call given past ahead ne (passes can) can c in
             let here : scene_of_call past (record_of_call past q call given ∷ past) ≡ scene = cc in
-            let P : Scene → Type 0 = λ s. ScenePassed a Holds past s
-            (after ahead (can_call ahead q call given)) in
+            let P : Scene →
+            Type 0 = λ s. ScenePassed a Holds past s (after ahead (can_call ahead q call given))
+            in
             subst P here
             record {
               there = scene_of_call ahead (record_of_call ahead q call given ∷ ahead);
@@ -261,7 +264,8 @@ module _ (a : Request) (Holds : Past → Type 0) (Passes : Past → Process → 
       let line : List ℕ = text ++ reply_line q (outcomes.Refused fault) [] in
       let here : Scene = record { past = past; text = line } in
       let e : here ≡ scene = cc in
-      let P : Scene → Type 0 = λ s. ScenePassed a Holds past s
+      let P : Scene →
+      Type 0 = λ s. ScenePassed a Holds past s
       (after_step (record { past = ahead; text = text }) q given (steps.Refusal fault)) in
       subst P e (record {
         there = record { past = ahead; text = line };
@@ -273,7 +277,8 @@ module _ (a : Request) (Holds : Past → Type 0) (Passes : Past → Process → 
       let line : List ℕ = text ++ reply_line q outcomes.Done [] in
       let here : Scene = record { past = close_first past q 16; text = line } in
       let e : here ≡ scene = cc in
-      let P : Scene → Type 0 = λ s. ScenePassed a Holds past s
+      let P : Scene →
+      Type 0 = λ s. ScenePassed a Holds past s
       (after_step (record { past = ahead; text = text }) q given steps.Exit) in
       subst P e (record {
         there = record { past = close_first ahead q 16; text = line };
@@ -291,8 +296,8 @@ module _ (a : Request) (Holds : Past → Type 0) (Passes : Past → Process → 
       ScenePassed a Holds past scene (option_and_then (after_line ahead phase q progress) o)
   line-passes q phase past ahead progress None scene ne bounds free may c h = absurd (cc)
   line-passes q phase past ahead progress (Some next) scene ne bounds free may c h =
-      let line : Past → Bool → Option Scene = λ x b. if b then after_step (scene_of x progress) q
-      next.given.items next.step else None in
+      let line : Past → Bool → Option Scene = λ x b. if b
+      then after_step (scene_of x progress) q next.given.items next.step else None in
       let goes : (b : Bool) → (next.phase == phase) ≡ b → line past b ≡ Some scene →
       ScenePassed a Holds past scene (line ahead b) =
       λ (b : Bool). elim b as (λ b. (next.phase == phase) ≡ b → line past b ≡ Some scene →
@@ -306,13 +311,14 @@ module _ (a : Request) (Holds : Past → Type 0) (Passes : Past → Process → 
 
   turned-passes : (past : Past) (lines : ℕ) (progress : Progress) (o q : Option Scene)
       (t : Turned) → ((scene : Scene) → o ≡ Some scene → ScenePassed a Holds past scene q) →
-      option_map (turned lines progress) o ≡ Some t → TurnPassed a Holds past progress.begun t
-      (option_map (turned lines progress) q)
+      option_map (turned lines progress) o ≡ Some t →
+      TurnPassed a Holds past progress.begun t (option_map (turned lines progress) q)
   turned-passes past lines progress None q t passes h = absurd (cc)
   turned-passes past lines progress (Some scene) q t passes h =
       let one = passes scene refl in
       let e : turned lines progress scene ≡ t = cc in
-      let P : Turned → Type 0 = λ u. TurnPassed a Holds past progress.begun u
+      let P : Turned →
+      Type 0 = λ u. TurnPassed a Holds past progress.begun u
       (option_map (turned lines progress) q) in
       subst P e (record {
         there = turned lines progress one.there;
@@ -336,9 +342,11 @@ module _ (a : Request) (Holds : Past → Type 0) (Passes : Past → Process → 
       IsReady a Holds past ahead → after_turn past phase q progress program ≡ Some t →
       TurnPassed a Holds past progress.begun t (after_turn ahead phase q progress program)
   turn-passes q phase past ahead progress program t ne bounds collects_pass lines_pass c h =
-      let collects : Past → Option Turned = λ x. option_map (turned 0 progress)
+      let collects : Past →
+      Option Turned = λ x. option_map (turned 0 progress)
       (after_call (scene_of x progress) q Collect []) in
-      let begins : Past → Option Turned = λ x. option_map (turned 1 progress)
+      let begins : Past →
+      Option Turned = λ x. option_map (turned 1 progress)
       (option_and_then (after_line x phase q progress) (slice_get program.items progress.begun))
       in
       let goes : (b : Bool) → is_some (open_wait past q) ≡ b →
@@ -368,6 +376,7 @@ module _ (a : Request) (Holds : Past → Type 0) (Passes : Past → Process → 
       rw (others-differ a.process q ne) refl in
       let same : is_some (open_wait ahead q) ≡ is_some (open_wait past q) =
       sym (c.journals.equivalent.waits q) ∙ mid in
-      let P : Bool → Type 0 = λ b. TurnPassed a Holds past progress.begun t
+      let P : Bool →
+      Type 0 = λ b. TurnPassed a Holds past progress.begun t
       (if b then collects ahead else begins ahead) in
       subst P (sym same) (goes (is_some (open_wait past q)) refl h)

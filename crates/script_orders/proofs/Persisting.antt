@@ -83,8 +83,8 @@ some-of : {A : Type 0} (o : Option A) → is_some o ≡ true → (x : A) × (o �
 some-of o h = grind arith
 
 step-of : (s : Stage) (index : ℕ) (program : Vec Planned Global) (t : Turned) →
-    slice_get s.programs index ≡ Some program → turn_of s index ≡ Some t → next_stage s index ≡
-    Some (with_turn s index t)
+    slice_get s.programs index ≡ Some program → turn_of s index ≡ Some t →
+    next_stage s index ≡ Some (with_turn s index t)
 step-of s index program t has turns = grind (arith, slice_get_within)
 
 record StepOf (s z : Stage) (choice : ℕ) : Type 0 where
@@ -128,8 +128,8 @@ set-both {A} (z ∷ xs) (suc i) (suc j) x y ne = ap (λ (ys : List A). z ∷ ys)
 set-both _ _ _ x y ne = refl
 
 pub prepared-turns : (s : Stage) (index : ℕ) (a : Request) (lines : ℕ)
-    (p : IsPrepared s index a lines) → can_make s.past a ≡ true → turn_of s index ≡
-    Some (with_made lines s.past a p.seat)
+    (p : IsPrepared s index a lines) → can_make s.past a ≡ true →
+    turn_of s index ≡ Some (with_made lines s.past a p.seat)
 prepared-turns s index a lines p can = turn_of-is s index p.program p.seat p.has p.sits ∙
     p.turns s.past can
 
@@ -307,7 +307,8 @@ collector s index may =
     let t = some-of (turn_of s index) may.can in
     let went = went-of s index t.0 (slice_get s.programs index) refl t.1 in
     let p = index + 1 in
-    let scene : Past → Scene = λ new. record {
+    let scene : Past →
+    Scene = λ new. record {
       past = new;
       text = went.seat.text ++
           said new p (reply_to s.past p Collect []);
@@ -315,7 +316,8 @@ collector s index may =
     let begins : Option Turned = option_map (turned 1 went.seat)
     (option_and_then (after_line s.past s.phase p went.seat)
     (slice_get went.program.items went.seat.begun)) in
-    let collects : Bool → Option Turned = λ b. option_map (turned 0 went.seat)
+    let collects : Bool →
+    Option Turned = λ b. option_map (turned 0 went.seat)
     (option_map scene (if b then Some (record_of_call s.past p Collect [] ∷ s.past) else None))
     in
     let here : collects (can_call s.past p Collect []) ≡ Some t.0 =

@@ -31,8 +31,8 @@ collect_by p (Some None) = reply_line p outcomes.Done []
 collect_by p (Some (Some m)) = said_by p (Some m)
 
 -- what is printed for a wait depends on what the entry that answered it sends
-pub said-collect : (past : Past) (p : Process) (by : Place) → said_of_collect past p by ≡
-    collect_by p (at told past by)
+pub said-collect : (past : Past) (p : Process) (by : Place) →
+    said_of_collect past p by ≡ collect_by p (at told past by)
 said-collect past p by = grind arith
 
 -- a reply -----------------------------------------------------------------------------------------
@@ -54,8 +54,8 @@ pub said-alike : (x y : Past) (p : Process) (a b : Reply) → is_collected a ≡
 said-alike x y p a b not_a not_b e f = grind arith
 
 collect-said : {received : Bool} (to : ℕ → ℕ) (x y : Past) (r s : Record) (p : Process) →
-    AgreeUnder received to x y → is_some (answered_by x p) ≡ true → is_some (answered_by y p) ≡
-    true →
+    AgreeUnder received to x y → is_some (answered_by x p) ≡ true →
+    is_some (answered_by y p) ≡ true →
     said_of_collect (s ∷ y) p (unwrap_or (answered_by y p) 0) ≡ said_of_collect (r ∷ x) p
     (unwrap_or (answered_by x p) 0)
 collect-said to x y r s p alike some_x some_y =
@@ -66,8 +66,8 @@ collect-said to x y r s p alike some_x some_y =
 -- a call ------------------------------------------------------------------------------------------
 
 pub shape-same : {received : Bool} (to : ℕ → ℕ) (x y : Past) (p : Process) (call : Call)
-    (given : List ℕ) → StepsAgree received to x y p call given → shape (reply_to y p call given) ≡
-    shape (reply_to x p call given)
+    (given : List ℕ) → StepsAgree received to x y p call given →
+    shape (reply_to y p call given) ≡ shape (reply_to x p call given)
 shape-same to x y p call given steps = sym (shape-outline (reply_to y p call given)) ∙
     ap shape steps.reply ∙ shape-outline (reply_to x p call given)
 
@@ -79,8 +79,8 @@ other-said to x y p call given other steps = grind (arith, said-alike, never-col
 
 -- what is printed of a call after two journals that agree
 pub call-said : {received : Bool} (to : ℕ → ℕ) (x y : Past) (p : Process) (call : Call)
-    (given : List ℕ) → AgreeUnder received to x y → may_call x p call ≡ true → may_call y p call ≡
-    true → StepsAgree received to x y p call given →
+    (given : List ℕ) → AgreeUnder received to x y → may_call x p call ≡ true →
+    may_call y p call ≡ true → StepsAgree received to x y p call given →
     said (record_of y p call given ∷ y) p (reply_to y p call given) ≡
     said (record_of x p call given ∷ x) p (reply_to x p call given)
 call-said to x y p Collect given alike can_x can_y steps =

@@ -112,8 +112,8 @@ abbrev entries_of : List Reported → List ℕ
 entries_of [] = []
 entries_of (r ∷ rs) = entry_of r ++ entries_of rs
 
-entries-of : (phase before : ℕ) (found : List Witnessed) → entries_text phase before found ≡
-    entries_of (reported phase before found)
+entries-of : (phase before : ℕ) (found : List Witnessed) →
+    entries_text phase before found ≡ entries_of (reported phase before found)
 entries-of phase before [] = refl
 entries-of phase before (one ∷ found) =
     grind (arith, cases_Bool, entries-of phase (before + 1) found)
@@ -152,8 +152,8 @@ ends-marked : (x : List ℕ) → Ends x → Marked x
 ends-marked x end = grind arith
 
 -- an entry with what follows it
-after-entry : (r : Reported) (x : List ℕ) → entry_of r ++ x ≡ (word_of r.stuck ++ decimal r.number)
-    ++ 10 ∷ (r.text ++ x)
+after-entry : (r : Reported) (x : List ℕ) →
+    entry_of r ++ x ≡ (word_of r.stuck ++ decimal r.number) ++ 10 ∷ (r.text ++ x)
 after-entry r x = grind (arith, common_steps)
 
 entries-marked : (rs : List Reported) (x : List ℕ) → Ends x → Marked (entries_of rs ++ x)
@@ -167,12 +167,13 @@ same-reported one other number stuck text = grind arith
 same-cons : (r s : Reported) (rs ss : List Reported) → r ≡ s → rs ≡ ss → r ∷ rs ≡ s ∷ ss
 same-cons r s rs ss one other = cc
 
-one-more : (r : Reported) (rs : List Reported) (x : List ℕ) → entries_of (r ∷ rs) ++ x ≡
-    (word_of r.stuck ++ decimal r.number) ++ 10 ∷ (r.text ++ (entries_of rs ++ x))
+one-more : (r : Reported) (rs : List Reported) (x : List ℕ) →
+    entries_of (r ∷ rs) ++ x ≡ (word_of r.stuck ++ decimal r.number) ++ 10 ∷
+    (r.text ++ (entries_of rs ++ x))
 one-more r rs x = append_assoc (entry_of r) (entries_of rs) x ∙ after-entry r (entries_of rs ++ x)
 
-none-more : (r : Reported) (rs : List Reported) (x y : List ℕ) → Ends x → x ≡ entries_of (r ∷ rs) ++
-    y → ⊥
+none-more : (r : Reported) (rs : List Reported) (x y : List ℕ) → Ends x →
+    x ≡ entries_of (r ∷ rs) ++ y → ⊥
 none-more r rs x y end same = grind (arith, one-more)
 
 entries : (rs ss : List Reported) (x y : List ℕ) → Fits rs → Fits ss → Ends x → Ends y →
@@ -215,8 +216,9 @@ line-no_feed found phase low short = grind (
   decimal-no_feed,
 )
 
-after-line : (found : List Witnessed) (phase : ℕ) (x : List ℕ) → phase_text found phase ++ x ≡
-    line_of found phase ++ 10 ∷ (entries_of (reported phase 0 found) ++ x)
+after-line : (found : List Witnessed) (phase : ℕ) (x : List ℕ) →
+    phase_text found phase ++ x ≡ line_of found phase ++ 10 ∷
+    (entries_of (reported phase 0 found) ++ x)
 after-line found phase x =
     let o = decimal (count_by (is_outcome_of phase) found) in
     let d = decimal (count_by (is_deadlock_of phase) found) in
@@ -354,8 +356,8 @@ fewer m n found others complete whole steps other states kept less low one two s
     in
     phase-no_end complete steps states more.rest (end_text whole other kept) is end.1
 
-end-one : (complete whole : Bool) (steps other states kept : ℕ) → end_text complete steps states ≡
-    end_text whole other kept → whole ≡ complete
+end-one : (complete whole : Bool) (steps other states kept : ℕ) →
+    end_text complete steps states ≡ end_text whole other kept → whole ≡ complete
 end-one complete whole steps other states kept same = grind arith
 
 as-many : (m n : ℕ) (found others : List Witnessed) (complete whole : Bool)

@@ -50,8 +50,9 @@ record TransferFacts (past : Past) (p : ℕ) (call : Call) : Type 0 where
   covered : is_covered call ≡ true
   names : changes_names call ≡ false
   queues : changes_queues call ≡ false
-  own : (reply : Reply) → whose_notices_by past p call reply ≡
-      option_map (λ (n : Registered). owner_of n.process) (notified_registration past p call reply)
+  own : (reply : Reply) →
+      whose_notices_by past p call reply ≡ option_map (λ (n : Registered). owner_of n.process)
+      (notified_registration past p call reply)
   free : may_call past p call ≡ is_none (open_wait past p)
 
 transfer-facts : (past : Past) (p : ℕ) (call : Call) → is_transfer call ≡ true →
@@ -59,8 +60,9 @@ transfer-facts : (past : Past) (p : ℕ) (call : Call) → is_transfer call ≡ 
 transfer-facts past p call e = grind arith
 
 -- a call on a queue without a registration notifies nobody
-notifies-none : (past : Past) (p q : ℕ) (call : Call) (reply : Reply) → called_queue past p call ≡
-    Some q → registered_as past q ≡ None → notified_registration past p call reply ≡ None
+notifies-none : (past : Past) (p q : ℕ) (call : Call) (reply : Reply) →
+    called_queue past p call ≡ Some q → registered_as past q ≡ None →
+    notified_registration past p call reply ≡ None
 notifies-none past p q call reply on none = grind arith
 
 differs-from : (q : ℕ) (o : Option ℕ) → is_place q o ≡ false → differ (Some q) o ≡ true
@@ -148,8 +150,8 @@ not-any {A} is_such (y ∷ xs) zero x e is = grind arith
 not-any is_such (y ∷ xs) (suc n) x e is = not-any is_such xs n x e is
 
 not-to-come : (is_such : Planned → Bool) (s : Stage) (index : ℕ) (program : Vec Planned Global)
-    (seat : Progress) → slice_get s.programs index ≡ Some program → slice_get s.seats index ≡
-    Some seat →
+    (seat : Progress) → slice_get s.programs index ≡ Some program →
+    slice_get s.seats index ≡ Some seat →
     is_to_come is_such s index ≡ false → list_any is_such (drop seat.begun program.items) ≡ false
 not-to-come is_such s index program seat has sits e = grind arith
 
@@ -244,8 +246,8 @@ alone-moves s index u = prepared-moves s index (next_request s index u.queue u.n
 -- it stays alone ----------------------------------------------------------------------------------
 
 use-fewer : (x y : Past) (p : ℕ) (q : Queue) (call : Call) →
-    ((p d : ℕ) → is_held_on x p q d ≡ true → is_held_on y p q d ≡ true) → may_use x p q call ≡
-    true → may_use y p q call ≡ true
+    ((p d : ℕ) → is_held_on x p q d ≡ true → is_held_on y p q d ≡ true) →
+    may_use x p q call ≡ true → may_use y p q call ≡ true
 use-fewer x y p q (MqOpen flags attr) fewer e = refl
 use-fewer x y p q MqUnlink fewer e = refl
 use-fewer x y p q (MqClose d) fewer e = fewer p d e
@@ -259,8 +261,8 @@ use-fewer x y p q (MqNotify d value) fewer e = fewer p d e
 use-fewer x y p q call fewer e = e
 
 among-fewer : (x y : Past) (p q n : ℕ) →
-    ((p d : ℕ) → is_held_on x p q d ≡ true → is_held_on y p q d ≡ true) → is_held_among x p q n ≡
-    true → is_held_among y p q n ≡ true
+    ((p d : ℕ) → is_held_on x p q d ≡ true → is_held_on y p q d ≡ true) →
+    is_held_among x p q n ≡ true → is_held_among y p q n ≡ true
 among-fewer x y p q zero fewer e = e
 among-fewer x y p q (suc n) fewer e = split (is_held_among x p q n)
     (λ t. rw (among-fewer x y p q n fewer t) refl)
@@ -272,8 +274,8 @@ among-fewer x y p q (suc n) fewer e = split (is_held_among x p q n)
     by false h = h
 
 step-fewer : (x y : Past) (p : ℕ) (q : Queue) (step : Step) →
-    ((p d : ℕ) → is_held_on x p q d ≡ true → is_held_on y p q d ≡ true) → step_may_use x p q step ≡
-    true → step_may_use y p q step ≡ true
+    ((p d : ℕ) → is_held_on x p q d ≡ true → is_held_on y p q d ≡ true) →
+    step_may_use x p q step ≡ true → step_may_use y p q step ≡ true
 step-fewer x y p q (steps.Call call) fewer e = use-fewer x y p q call fewer e
 step-fewer x y p q (steps.Refusal fault) fewer e = e
 step-fewer x y p q steps.Exit fewer e = among-fewer x y p q 16 fewer e
@@ -311,8 +313,8 @@ will-fewer s q choice k t later fewer e =
     e)
 
 others-fewer : (s t : Stage) (q : Queue) (index n : ℕ) →
-    ((k : ℕ) → will_use t q k ≡ true → will_use s q k ≡ true) → others_will_use s q index n ≡
-    false → others_will_use t q index n ≡ false
+    ((k : ℕ) → will_use t q k ≡ true → will_use s q k ≡ true) →
+    others_will_use s q index n ≡ false → others_will_use t q index n ≡ false
 others-fewer s t q index zero fewer e = refl
 others-fewer s t q index (suc n) fewer e =
     let before : others_will_use s q index n ≡ false = split (others_will_use s q index n)
@@ -349,8 +351,9 @@ alone-passes x y z index other legal u ne to_y to_z =
       unregistered = ap (option_map unplaced) n.starts.unregistered;
       fewer = λ p d h. h;
     } in
-    let used : (k : ℕ) → k < length x.programs → (index == k) ≡ false → will_use x q k ≡ false =
-    λ k lt other. others-none x q index (length x.programs) k lt other u.alone in
+    let used : (k : ℕ) → k < length x.programs → (index == k) ≡ false →
+    will_use x q k ≡ false = λ k lt other. others-none x q index (length x.programs) k lt
+    other u.alone in
     let unused : will_use x q other ≡ false = beyond (slice_get x.programs other) refl used in
     let both = both-orders x y z index other a 1 (transfer-passable a q x.past n.starts.transfers)
     few legal starts prepared n.starts.can (turn-passes x index other a q unused) ne to_y to_z
@@ -391,16 +394,17 @@ alone-passes x y z index other legal u ne to_y to_z =
 pub starts-on : (past : Past) (phase p : ℕ) (seat : Progress) (program : List Planned)
     (next : Planned) (call : Call) (o : Option Queue) → slice_get program seat.begun ≡ Some next →
     (next.phase == phase) ≡ true → next.step ≡ steps.Call call →
-    IfSome o (λ q. is_transfer call ≡ true) → IfSome o (λ q. can_call past p call next.given.items ≡
-    true) → IfSome o (λ q. called_queue past p call ≡ Some q) →
+    IfSome o (λ q. is_transfer call ≡ true) →
+    IfSome o (λ q. can_call past p call next.given.items ≡ true) →
+    IfSome o (λ q. called_queue past p call ≡ Some q) →
     IfSome o (λ q. registered past q ≡ None) → IfSome o (StartsOn past phase p seat program)
 starts-on past phase p seat program next call None line now is transfers can on none = tt
 starts-on past phase p seat program next call (Some q) line now is transfers can on none =
     search rules
 
 pub next-on : (s : Stage) (index : ℕ) (program : Vec Planned Global) (seat : Progress)
-    (o : Option Queue) → slice_get s.programs index ≡ Some program → slice_get s.seats index ≡
-    Some seat →
+    (o : Option Queue) → slice_get s.programs index ≡ Some program →
+    slice_get s.seats index ≡ Some seat →
     IfSome o (StartsOn s.past s.phase (index + 1) seat program.items) → IfSome o (IsNextOn s index)
 next-on s index program seat None has sits starts = tt
 next-on s index program seat (Some q) has sits starts = record {

@@ -31,7 +31,7 @@ AreLegal from = (schedule : List ℕ) (to : Stage) → after next_stage schedule
 -- is one, is in a later phase.
 abbrev pub HasMade : Stage → ℕ → Type 0
 HasMade s index =
-    (program : Vec Planned Global) (seat : Progress) (next : Planned) → slice_get s.programs index ≡
-    Some program →
+    (program : Vec Planned Global) (seat : Progress) (next : Planned) →
+    slice_get s.programs index ≡ Some program →
     slice_get s.seats index ≡ Some seat → slice_get program.items seat.begun ≡ Some next →
     s.phase < next.phase

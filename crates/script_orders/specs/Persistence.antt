@@ -1,6 +1,5 @@
 -- Which steps of a stage are persistent: a collect, and a send or a receive on a queue that no
--- other
--- process will use in this phase.
+-- other process will use in this phase.
 use Rattle.std.specs.Prelude.{◌≡◌, ◌⊎◌, ◌≤◌, ◌+◌, ◌==◌, ◌&&◌, ◌||◌, not, ℕ, zero, suc, Bool, true, false, List, Some, None, is_some, length, slice_get, Vec}
 use Rattle.std.specs.Option.{option_map}
 use Rattle.std.specs.declared.alloc.Global.{Global}
@@ -57,16 +56,15 @@ will_use s q index = is_to_come (line_may_use s.past s.phase (index + 1) q) s in
 -- one of the first n processes, other than the one at an index, may
 abbrev pub others_will_use : Stage → Queue → ℕ → ℕ → Bool
 others_will_use s q index zero = false
-others_will_use s q index (suc n) = others_will_use s q index n || not (n == index)
-    && will_use s q n
+others_will_use s q index (suc n) = others_will_use s q index n ||
+    not (n == index) && will_use s q n
 
 -- a call that sends or receives a message, or tries to
 abbrev pub is_transfer : Call → Bool
 is_transfer call = is_send call || is_receive call
 
 -- The next line of process p is in this phase. It is a send or a receive on queue q that the
--- process
--- may make now, and nobody is registered for notification there.
+-- process may make now, and nobody is registered for notification there.
 pub record StartsOn (past : Past) (phase : ℕ) (p : Process) (seat : Progress)
     (program : List Planned) (q : Queue) : Type 0 where
   pub next : Planned

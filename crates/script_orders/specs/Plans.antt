@@ -30,8 +30,8 @@ plan_of planned = record {
 
 -- A call with a name. If the name is malformed, it fails before it reaches the queues.
 abbrev pub named_step : List ℕ → Call → Step
-named_step name call = if is_name name then ACall call else Refusal
-    (if has_name_form name then NameTooLong else Invalid)
+named_step name call = if is_name name then ACall call
+    else Refusal (if has_name_form name then NameTooLong else Invalid)
 
 -- what a command does in a phase with this time
 abbrev pub step_by : Deadline → Command Word → Step

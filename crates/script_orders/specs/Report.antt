@@ -24,8 +24,8 @@ entry_head found number = (if found.outcome.stuck then codes "deadlock " else co
     (decimal number ++ 10 ∷ [])
 
 abbrev pub entry_text : ℕ → ℕ → Witnessed → List ℕ
-entry_text phase number found = if found.outcome.stage == phase then entry_head found number ++
-    found.outcome.text.items else []
+entry_text phase number found = if found.outcome.stage == phase
+    then entry_head found number ++ found.outcome.text.items else []
 
 -- the outcomes and deadlocks of a phase; `before` is how many come before these
 abbrev pub entries_text : ℕ → ℕ → List Witnessed → List ℕ
@@ -44,7 +44,8 @@ phases_text found (suc n) = phases_text found n ++ phase_text found n
 -- the last line; an incomplete search took as many steps as its budget has
 abbrev pub end_text : Bool → ℕ → ℕ → List ℕ
 end_text complete steps states =
-    if complete then codes "every order was tried, in " ++
+    if complete
+    then codes "every order was tried, in " ++
     (decimal steps ++
     (codes " steps, " ++ (decimal states ++ (codes " states kept" ++ 10 ∷ []))))
     else codes "the budget of " ++

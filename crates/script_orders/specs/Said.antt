@@ -23,8 +23,8 @@ is_send_at past place = unwrap_or (option_map (λ r. is_send r.entry.call) (reco
 -- For a call that waited, given the entry that answered it. A send hands over its message, and a
 -- receive admits one.
 abbrev pub said_of_collect : Past → Process → Place → List ℕ
-said_of_collect past p by = if is_send_at past by then said_of_message past p by else reply_line p
-    outcomes.Done []
+said_of_collect past p by = if is_send_at past by then said_of_message past p by
+    else reply_line p outcomes.Done []
 
 -- for a reply to process p, the last in the journal: nothing if the call waits
 abbrev pub said : Past → Process → Reply → List ℕ

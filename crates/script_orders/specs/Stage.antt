@@ -100,8 +100,8 @@ after_phase s = if is_phase_over s then Some (in_next_phase s) else None
 -- A step of the process at an index. If the choice is the number of processes, the next phase
 -- begins.
 abbrev pub next_stage : Stage → ℕ → Option Stage
-next_stage s choice = if choice == length s.programs then after_phase s else option_map
-    (with_turn s choice) (turn_of s choice)
+next_stage s choice = if choice == length s.programs then after_phase s
+    else option_map (with_turn s choice) (turn_of s choice)
 
 abbrev pub choice_count : Stage → ℕ
 choice_count s = length s.programs + 1
@@ -125,8 +125,8 @@ wait_line_of s index =
 
 -- the text about the process at an index: if it waits, the line of that call
 abbrev pub wait_of : Stage → ℕ → List ℕ
-wait_of s index = if is_some (open_wait s.past (index + 1)) then wait_text s.script
-    (wait_line_of s index) else []
+wait_of s index = if is_some (open_wait s.past (index + 1))
+    then wait_text s.script (wait_line_of s index) else []
 
 -- the text about the calls in which the first n processes wait
 abbrev pub waiting_lines : Stage → ℕ → List ℕ

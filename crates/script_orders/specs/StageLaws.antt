@@ -10,8 +10,8 @@ use Rattle.script_orders.specs.Turns.{Turned, after_turn}
 use Rattle.script_orders.specs.Stage.{Stage, after_phase, choice_count, first_stage, in_next_phase, next_stage, stands_still, turn_of, waits, with_turn}
 use Rattle.script_orders.specs.declared.plan.Planned.{Planned}
 
-turn-first : (x y : Stage) (choice : ℕ) (o : Option Turned) → option_map (with_turn x choice) o ≡
-    Some y → first_stage y ≡ first_stage x
+turn-first : (x y : Stage) (choice : ℕ) (o : Option Turned) →
+    option_map (with_turn x choice) o ≡ Some y → first_stage y ≡ first_stage x
 turn-first x y choice None h = cc
 turn-first x y choice (Some turned) h = let e : with_turn x choice turned ≡ y =
     cc in ap first_stage (sym e)
@@ -22,11 +22,12 @@ phase-first x y true h = let e : in_next_phase x ≡ y = cc in ap first_stage (s
 phase-first x y false h = cc
 
 -- a step keeps the lines and the number of phases
-pub next-first : (x y : Stage) (choice : ℕ) → next_stage x choice ≡ Some y → first_stage y ≡
-    first_stage x
+pub next-first : (x y : Stage) (choice : ℕ) → next_stage x choice ≡ Some y →
+    first_stage y ≡ first_stage x
 next-first x y choice step =
-    let goes : (b : Bool) → (if b then after_phase x else option_map (with_turn x choice)
-    (turn_of x choice)) ≡ Some y → first_stage y ≡ first_stage x =
+    let goes : (b : Bool) →
+    (if b then after_phase x else option_map (with_turn x choice) (turn_of x choice)) ≡ Some y →
+    first_stage y ≡ first_stage x =
     λ (b : Bool). elim b as (λ b. (if b then after_phase x else option_map (with_turn x choice)
     (turn_of x choice)) ≡ Some y → first_stage y ≡ first_stage x) [
       | true ↦ (λ h. phase-first x y (nat_lt (x.phase + 1) x.phases &&

@@ -27,14 +27,14 @@ scene_of past progress = record { past = past; text = progress.text }
 -- after a line, if it is in this phase
 abbrev pub after_line : Past → ℕ → Process → Progress → Planned → Option Scene
 after_line past phase p progress next =
-    if next.phase == phase then after_step (scene_of past progress) p next.given.items
-    next.step else None
+    if next.phase == phase then after_step (scene_of past progress) p next.given.items next.step
+    else None
 
 -- The next step of process p in this phase, if there is one. If it waits it collects; otherwise it
 -- begins its next line, if that is in this phase.
 abbrev pub after_turn : Past → ℕ → Process → Progress → Vec Planned Global → Option Turned
 after_turn past phase p progress program =
-    if is_some (open_wait past p) then option_map (turned 0 progress)
-    (after_call (scene_of past progress) p Collect [])
+    if is_some (open_wait past p)
+    then option_map (turned 0 progress) (after_call (scene_of past progress) p Collect [])
     else option_map (turned 1 progress) (option_and_then (after_line past phase p progress)
     (slice_get program.items progress.begun))

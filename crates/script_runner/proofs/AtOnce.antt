@@ -56,9 +56,9 @@ send-refused {fault = fault} start = record {
 }
 
 pub receive-done : {old new : Ticket Record} {call : Call} {before after : List ℕ}
-    {received : Received} → ReceiveCall start_receive_says old new call before after
-    (Ok (Some received)) → Shows outcomes.Got (Receives old new call before after)
-    (outcomes.Got received)
+    {received : Received} →
+    ReceiveCall start_receive_says old new call before after (Ok (Some received)) →
+    Shows outcomes.Got (Receives old new call before after) (outcomes.Got received)
 receive-done {new = new} {received = received} start = record {
   result = Ok received;
   called = inl (record {

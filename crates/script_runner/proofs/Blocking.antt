@@ -54,6 +54,6 @@ pub calls-later : {old mid new : Ticket Record} → Calls old mid [] → Calls m
     Calls old new []
 calls-later first later = calls-on (λ _. []) first later
 
-pub room-later : {old new : Ticket Record} → Calls old new [] → waiting_room new.left new.number ≡
-    waiting_room old.left old.number
+pub room-later : {old new : Ticket Record} → Calls old new [] →
+    waiting_room new.left new.number ≡ waiting_room old.left old.number
 room-later calls = rw calls.number (room-grown calls.grows)

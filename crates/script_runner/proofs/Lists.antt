@@ -22,6 +22,6 @@ pub text_in-more : (workers : List (Worked (Ticket Record))) (i : ℕ) (d : Work
 text_in-more workers i d low = flat_map-more (λ (w : Worked (Ticket Record)). reply_lines
     w.process.number w.completions.items) workers i d low
 
-pub calls_in-push : (turns : List Turn) (turn : Turn) → calls_in (turns ++ turn ∷ []) ≡
-    calls_in turns ++ said_call turn.call ∷ []
+pub calls_in-push : (turns : List Turn) (turn : Turn) →
+    calls_in (turns ++ turn ∷ []) ≡ calls_in turns ++ said_call turn.call ∷ []
 calls_in-push turns turn = map-append (λ (t : Turn). said_call t.call) turns (turn ∷ [])

@@ -83,8 +83,8 @@ stand-made mq calls before lines after stands ready =
     (All-map (λ (p : Ticket Record). p.lock ≡ mq) (λ w. w.process) stands.ended made)
 
 pub stand-count : (calls : List WrittenCall) (before : List (Ticket Record)) (lines : List ℕ)
-    (after : List (Ticket Record)) → ComesToAStand calls before lines after → length after ≡
-    length before
+    (after : List (Ticket Record)) → ComesToAStand calls before lines after →
+    length after ≡ length before
 stand-count = grind (arith, AllZip-long, length-map)
 
 -- one worker more

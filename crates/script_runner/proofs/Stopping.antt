@@ -12,19 +12,19 @@ use Rattle.script_runner.specs.Stops.{AppendsInto}
 
 -- what holds of the script that was read holds of the one that the input writes
 pub of-script : (P : Whole → Type 0) {text slice front : List ℕ} {read script : Whole} →
-    text ≡ front → slice ≡ text → script_written slice ≡ Ok read → script_written front ≡
-    Ok script → P read → P script
+    text ≡ front → slice ≡ text → script_written slice ≡ Ok read →
+    script_written front ≡ Ok script → P read → P script
 of-script P {read = read} {script = script} whole sliced first second holds = let same : read ≡
     script = cc in subst P same holds
 
 -- the phases before one, that one, and the later ones
 pub phases-split : (phases : List (Vec (ScriptCall (Bor Word)) Global)) (i : ℕ)
-    (d : Vec (ScriptCall (Bor Word)) Global) → i < length phases → said_phases phases ≡
-    said_phases (take i phases) ++ said_calls (get_or phases i d).items ∷ said_phases
-    (drop (suc i) phases)
+    (d : Vec (ScriptCall (Bor Word)) Global) → i < length phases →
+    said_phases phases ≡ said_phases (take i phases) ++ said_calls (get_or phases i d).items ∷
+    said_phases (drop (suc i) phases)
 phases-split phases i d low =
-    let said : Vec (ScriptCall (Bor Word)) Global → List WrittenCall =
-    λ phase. said_calls phase.items in
+    let said : Vec (ScriptCall (Bor Word)) Global →
+    List WrittenCall = λ phase. said_calls phase.items in
     let split : phases ≡ take i phases ++ get_or phases i d ∷ drop (suc i) phases =
     sym (take-append-drop i phases) ∙ ap (λ rest. take i phases ++ rest)
     (drop-cons phases i d low) in

@@ -8,8 +8,8 @@ use Rattle.script_runner.proofs.Working.{after-ready, count-after}
 use Rattle.script_text.specs.Script.{Whole}
 
 pub whole-of : (script : Whole) (mq : LockId) (before : List (Ticket Record)) (replies : List ℕ)
-    (journal : Past) → mq.count ≡ script.processes → script.processes ≤ 32 → bounds_in mq.fixed ≡
-    None → before ≡ tickets_from mq 1 script.processes →
+    (journal : Past) → mq.count ≡ script.processes → script.processes ≤ 32 →
+    bounds_in mq.fixed ≡ None → before ≡ tickets_from mq 1 script.processes →
     RunsOn mq before script.phases replies journal → RunsWhole script replies journal
 whole-of script mq before replies journal count few unbounded are runs = grind arith
 

@@ -101,8 +101,9 @@ RunsPhases-push (c ∷ phases) calls before mid after text more ran last =
 
 pub phases-more : (phases : List (Vec (ScriptCall (Bor Word)) Global)) (i : ℕ)
     (d : Vec (ScriptCall (Bor Word)) Global) (before mid after : List (Ticket Record))
-    (text more : List ℕ) → i < length phases → RunsPhases (said_phases (take i phases)) before mid
-    text → RunsAndMeets (said_calls (get_or phases i d).items) mid after more →
+    (text more : List ℕ) → i < length phases →
+    RunsPhases (said_phases (take i phases)) before mid text →
+    RunsAndMeets (said_calls (get_or phases i d).items) mid after more →
     RunsPhases (said_phases (take (i + 1) phases)) before after (text ++ more)
 phases-more phases i d before mid after text more low ran last =
     grind (arith, common_steps, take_more, map-append, RunsPhases-push)

@@ -16,8 +16,8 @@ onto : (b : ℕ) (xs : List ℕ) (n : ℕ) → lines_of xs ≡ take (suc n) xs �
 onto b xs n first = let more : 1 + n ≡ suc n = omega arith in rw more (ap (onto_first_line b) first)
 
 -- the first line is the text up to its first line feed, which is included, or all of it
-pub lines_of-first : (b : ℕ) (bs : List ℕ) → lines_of (b ∷ bs) ≡
-    take (suc (position_or_len is_feed (b ∷ bs))) (b ∷ bs) ∷
+pub lines_of-first : (b : ℕ) (bs : List ℕ) →
+    lines_of (b ∷ bs) ≡ take (suc (position_or_len is_feed (b ∷ bs))) (b ∷ bs) ∷
     lines_of (drop (suc (position_or_len is_feed (b ∷ bs))) (b ∷ bs))
 lines_of-first b [] = elim (cases_Bool (is_feed b)) [ inl feed ↦ rw feed | inr other ↦ rw other ]
 lines_of-first b (c ∷ cs) = grind (arith, cases_Bool, onto, lines_of-first c cs)
@@ -30,8 +30,8 @@ place_none : (n m : ℕ) → cond (ltb n m) (Some n) None ≡ None → m ≤ n
 place_none n m none = grind (arith, cases_Bool, ltb-false)
 
 -- the first line, if a line feed is found, and if there is none
-pub lines_of-found : (text : List ℕ) (at : ℕ) → position is_feed text ≡ Some at → lines_of text ≡
-    take (at + 1) text ∷ lines_of (drop (at + 1) text)
+pub lines_of-found : (text : List ℕ) (at : ℕ) → position is_feed text ≡ Some at →
+    lines_of text ≡ take (at + 1) text ∷ lines_of (drop (at + 1) text)
 lines_of-found text at found = grind (arith, add-one, lines_of-at)
 
 pub lines_of-none : (text : List ℕ) → 0 < length text → position is_feed text ≡ None →

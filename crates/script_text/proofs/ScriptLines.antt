@@ -31,7 +31,8 @@ pub whole_behind-line : (old new : Phases) (processes : Option ℕ) (at place : 
 whole_behind-line old new processes at place bytes rest line gives same =
     let is : line_read processes at bytes ≡ Some (line, place) =
     read_some (line_read processes at bytes) (at.lines + 1) (line, place) gives in
-    let next : Line WrittenCall × Place → Result Written ℕ = λ read. result_map (with_line read.0)
+    let next : Line WrittenCall × Place →
+    Result Written ℕ = λ read. result_map (with_line read.0)
     (script_read (processes_behind read.0 processes) read.1 rest) in
     fused (with_line line) (whole_behind old) (whole_behind new)
     (script_read (processes_behind line processes) place rest) same

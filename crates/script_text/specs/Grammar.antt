@@ -17,8 +17,8 @@ use Rattle.script_text.specs.declared.verb.Verb.TheVariants as verb
 
 -- the access mode of a letter: r, w or b
 abbrev pub access_written : ℕ → Option Access
-access_written letter = if letter == 114 then Some Read else (if letter == 119 then Some Write else
-    (if letter == 98 then Some Both else None))
+access_written letter = if letter == 114 then Some Read
+    else (if letter == 119 then Some Write else (if letter == 98 then Some Both else None))
 
 abbrev pub is_at_most_once : List ℕ → ℕ → Bool
 is_at_most_once letters letter = nat_le (count_by (λ b. b == letter) letters) 1
@@ -32,8 +32,8 @@ is_option_letter b = list_any (λ letter. letter == b) option_letters
 
 -- any of these letters, each at most once
 abbrev pub are_options : List ℕ → Bool
-are_options letters = list_all is_option_letter letters && list_all
-    (is_at_most_once letters) option_letters
+are_options letters = list_all is_option_letter letters &&
+    list_all (is_at_most_once letters) option_letters
 
 -- the flags of an open: the letter of its access mode, then c for create, x for exclusive, n for
 -- nonblocking

@@ -29,8 +29,8 @@ is_phase_end words = false
 
 -- `processes N`
 abbrev pub processes_written : List Word → Option ℕ
-processes_written (word ∷ count ∷ []) = if bytes_eq word (codes "processes") then count_written
-    32 count else None
+processes_written (word ∷ count ∷ []) = if bytes_eq word (codes "processes")
+    then count_written 32 count else None
 processes_written words = None
 
 -- a line whose first word is `clock`
@@ -69,8 +69,8 @@ call_line_written processes number moment (process ∷ words) = do
 -- What the words of a line mean. The first line that is not skipped has the number of processes. No
 -- clock line may follow a call of its phase.
 abbrev pub line_written : Option ℕ → ℕ → PhaseTime → List Word → Option (Line WrittenCall)
-line_written None number time words = if is_skipped words then Some Skipped else option_map
-    Processes (processes_written words)
+line_written None number time words = if is_skipped words then Some Skipped
+    else option_map Processes (processes_written words)
 line_written (Some processes) number time words =
     if is_skipped words then Some Skipped
     else (if is_phase_end words then Some PhaseEnd
@@ -112,8 +112,8 @@ is_within_limits at = nat_le at.bytes 1048576 && nat_le at.calls 1000
 abbrev pub line_read : Option ℕ → Place → List ℕ → Option (Line WrittenCall × Place)
 line_read processes at bytes = do
   line ← line_written processes (at.lines + 1) at.time (words_of bytes)
-  if is_within_limits (place_behind at bytes line) then Some (line, place_behind at bytes line) else
-      None
+  if is_within_limits (place_behind at bytes line) then Some (line, place_behind at bytes line)
+      else None
 
 -- a script, with the calls of its first phase and of its later ones
 pub record Written : Type 0 where

@@ -26,6 +26,6 @@ pub wrote_at : {E : Type 0} (a b : Option (List ℕ)) (r : Result ℕ E) (buf : 
 wrote_at a b r buf n wrote is = rw is at wrote
 
 pub read_at : {E : Type 0} (a b : Option (List ℕ)) (r : Result ℕ E) (buf : List ℕ) (n : ℕ) →
-    ReadConsumes a b r buf → r ≡ Ok n → Consumes a b (take n buf) × (n ≡ 0 → 0 < length buf →
-    IsAtEnd b)
+    ReadConsumes a b r buf → r ≡ Ok n →
+    Consumes a b (take n buf) × (n ≡ 0 → 0 < length buf → IsAtEnd b)
 read_at a b r buf n read is = rw is at read

@@ -36,8 +36,8 @@ number-Decides k w =
     (Decides-and (list_all is_ascii_digit w) _ (digits-Decides w)
     (Decides-ltb (digits_value 10 w) (2 ^ k)))
 
-pub written_some : (k : ℕ) (w : List ℕ) → IsNumber k w → number_written k w ≡
-    Some (digits_value 10 w)
+pub written_some : (k : ℕ) (w : List ℕ) → IsNumber k w →
+    number_written k w ≡ Some (digits_value 10 w)
 written_some k w is = rw ((number-Decides k w).1 (is.0.0, (is.0.1, is.1)))
 
 pub written_none : (k : ℕ) (w : List ℕ) → ¬ (IsNumber k w) → number_written k w ≡ None

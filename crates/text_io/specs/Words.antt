@@ -24,8 +24,8 @@ words_of line = filter (λ word. nat_lt 0 (length word)) (slice_split is_separat
 
 -- at least one decimal digit, with a value of at most k bits
 abbrev pub is_number : ℕ → Word → Bool
-is_number k word = nat_lt 0 (length word) && (list_all is_ascii_digit word && nat_lt
-    (digits_value 10 word) (2 ^ k))
+is_number k word = nat_lt 0 (length word) &&
+    (list_all is_ascii_digit word && nat_lt (digits_value 10 word) (2 ^ k))
 
 -- the k-bit number that a word means
 abbrev pub number_written : ℕ → Word → Option ℕ

@@ -10,8 +10,8 @@ invariant-loop-good l = record {
   impossible : IsImpossible (front_part l.calls l.returns.items l.bad);
   shortest : l.is_shortest ≡ true → (before : ℕ) → before + 1 ≡ l.good →
       IsPossible (front_part l.calls l.returns.items before);
-  unsure : l.is_shortest ≡ false → (before : ℕ) × (before < l.good) × UsesUp l.share
-      (front_part l.calls l.returns.items before);
+  unsure : l.is_shortest ≡ false →
+      (before : ℕ) × (before < l.good) × UsesUp l.share (front_part l.calls l.returns.items before);
 }
 
 abbrev pub decreases-loop-good : goal.decreases-loop-good

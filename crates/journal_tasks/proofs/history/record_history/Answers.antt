@@ -10,13 +10,13 @@ use Rattle.journal_tasks.specs.Histories.{IsHistoryInPart, RecordsHistory, Write
 use Rattle.journal_tasks.proofs.history.record_history.Goals as goal
 
 -- what comes before the run is no deadlock
-read-no_deadlock : (lines : Vec ℕ Global) (fault : ReadFault) → Deadlock lines ≡
-    of_read_fault fault → ⊥
+read-no_deadlock : (lines : Vec ℕ Global) (fault : ReadFault) →
+    Deadlock lines ≡ of_read_fault fault → ⊥
 read-no_deadlock lines read.Failed is = cc
 read-no_deadlock lines read.NoMemory is = cc
 
-script-no_deadlock : (lines : Vec ℕ Global) (fault : ScriptFault) → Deadlock lines ≡
-    of_script_fault fault → ⊥
+script-no_deadlock : (lines : Vec ℕ Global) (fault : ScriptFault) →
+    Deadlock lines ≡ of_script_fault fault → ⊥
 script-no_deadlock lines (script.BadCall line) is = cc
 script-no_deadlock lines script.NoMemory is = cc
 
@@ -57,7 +57,8 @@ returns-clause-done g c = λ all script known written.
     rw known at c.in_ok-text.ensures.bytes in
     let same = same_script _ _ (take 1048577 all) (said_script c.in_ok-script.script) script text
     c.as_slice.ensures.value c.in_ok-script.ensures.written written in
-    let P : Whole → Type 0 = λ s. OnOk c.run_recorded.result
+    let P : Whole →
+    Type 0 = λ s. OnOk c.run_recorded.result
     (RecordsHistory s (g.W.Write.contents c.args.output.now)
     (g.W.Write.contents c.run_recorded.new.output)) in
     subst P same c.run_recorded.ensures.done

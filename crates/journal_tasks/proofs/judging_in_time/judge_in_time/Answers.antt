@@ -15,8 +15,8 @@ use Rattle.journal_tasks.proofs.Naming.{named_line}
 use Rattle.journal_tasks.proofs.judging_in_time.judge_in_time.Goals as goal
 
 -- no other error says that a history is ill-formed
-journal-well_formed : (fault : JournalFault) (line : ℕ) (why : IllFormed) → OfForm line why ≡
-    of_journal_fault fault → ⊥
+journal-well_formed : (fault : JournalFault) (line : ℕ) (why : IllFormed) →
+    OfForm line why ≡ of_journal_fault fault → ⊥
 journal-well_formed (journal.BadLine at) line why is = cc
 journal-well_formed journal.Input line why is = cc
 journal-well_formed journal.NoMemory line why is = cc

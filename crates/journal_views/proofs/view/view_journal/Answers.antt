@@ -11,8 +11,9 @@ use Rattle.journal_views.specs.declared.view.Viewed.{Viewed}
 use Rattle.journal_views.proofs.view.view_journal.Goals as goal
 
 -- the error of a journal that was not read is that of the reading
-unread : (fault other : JournalFault) → ◌≡◌ {A = Result Viewed Unviewed} (Err (Unread fault))
-    (Err (Unread other)) → ◌≡◌ {A = Result Journal JournalFault} (Err fault) (Err other)
+unread : (fault other : JournalFault) →
+    ◌≡◌ {A = Result Viewed Unviewed} (Err (Unread fault)) (Err (Unread other)) →
+    ◌≡◌ {A = Result Journal JournalFault} (Err fault) (Err other)
 unread fault other same = cc
 
 pub returns-in-Err-clause-bad_line : goal.returns-in-Err-clause-bad_line

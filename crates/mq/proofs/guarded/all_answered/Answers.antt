@@ -17,13 +17,12 @@ pub overflow_add-bits : goal.overflow_add-bits
 overflow_add-bits c = grind (arith, bits_room)
 
 pub loop-process-preserved : goal.loop-process-preserved
-loop-process-preserved c = let f : ℕ → Bool = λ p. is_answered c.args.books.now.records p in
-    record {
-      few = omega arith;
-      bits = ap (λ z. 2 * c.loop-process.bits + z) (c.bit.ensures ∙ ap flag c.answered.ensures) ∙
-          bits_down f c.loop-process.process c.loop-process.bits c.loop-process-test.true
-          c.loop-process.invariant.few c.loop-process.invariant.bits;
-    }
+loop-process-preserved c = let f : ℕ → Bool = λ p. is_answered c.args.books.now.records p in record {
+  few = omega arith;
+  bits = ap (λ z. 2 * c.loop-process.bits + z) (c.bit.ensures ∙ ap flag c.answered.ensures) ∙
+      bits_down f c.loop-process.process c.loop-process.bits c.loop-process-test.true
+      c.loop-process.invariant.few c.loop-process.invariant.bits;
+}
 
 pub returns : goal.returns
 returns c = search rules

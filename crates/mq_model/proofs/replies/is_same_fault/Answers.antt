@@ -6,7 +6,8 @@ use Rattle.mq_model.proofs.replies.is_same_fault.Goals as goal
 
 abbrev fault_of : ℕ → Fault
 fault_of n =
-    if n == 1 then Again else (if n == 2 then BadDescriptor else (if n == 3 then Busy else
+    if n == 1 then Again
+    else (if n == 2 then BadDescriptor else (if n == 3 then Busy else
     (if n == 4 then Exists else (if n == 5 then Invalid else (if n == 6 then TooManyOpen
     else (if n == 7 then MessageSize else (if n == 8 then NameTooLong else
     (if n == 9 then NoEntry else (if n == 10 then NoSpace else (if n == 11 then NoMemory else

@@ -4,5 +4,5 @@ use Rattle.mq_state.specs.Queues.{is_bound_to}
 use Rattle.mq_state.proofs.queues.bound.Given as goal
 
 abbrev pub invariant-loop-i : goal.invariant-loop-i
-invariant-loop-i l = (k : ℕ) (d : QueueShown) → k < l.i → is_bound_to l.fn.journal.records l.fn.name
-    (get_or l.fn.queues k d) ≡ false
+invariant-loop-i l = (k : ℕ) (d : QueueShown) → k < l.i →
+    is_bound_to l.fn.journal.records l.fn.name (get_or l.fn.queues k d) ≡ false

@@ -30,8 +30,8 @@ invariant-loop-steps g l = record {
   witnessed : All (IsWitness g.M.Machine.next g.M.Machine.is_goal g.M.Observable.outcome
       (g.M.Machine.start l.fn.machine)) l.found.items;
   spent :
-      (node : g.row.M.Denot) → after g.M.Machine.next l.path.items
-      (g.M.Machine.start l.fn.machine) ≡ Some node →
+      (node : g.row.M.Denot) →
+      after g.M.Machine.next l.path.items (g.M.Machine.start l.fn.machine) ≡ Some node →
       HasSpent g.M.Machine.next g.M.Machine.choices (λ depth. 1) l.fn.budget l.steps 0 l.path.items
       (g.M.Machine.start l.fn.machine) node l.next;
   within : AreFoundWithin (l.steps + length l.path.items) l.found.items;

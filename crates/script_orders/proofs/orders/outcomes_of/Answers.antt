@@ -9,8 +9,8 @@ use Rattle.script_orders.proofs.orders.outcomes_of.Goals as goal
 
 pub returns-clause-witnessed : goal.returns-clause-witnessed
 returns-clause-witnessed c =
-    let P : Witnessed → Type 0 = IsWitness next_stage stands_still observed
-    (first_stage c.args.play.now) in
+    let P : Witnessed →
+    Type 0 = IsWitness next_stage stands_still observed (first_stage c.args.play.now) in
     let before : All P c.in_ok-found.field-0.found.items = c.in_ok-found.ensures.witnessed in
     subst (λ (found : List Witnessed). All P found) (sym c.in_ok-found-2.ensures)
     (all-joined-all P c.in_ok-found.field-0.found.items before)

@@ -5,8 +5,8 @@ use Rattle.script_orders.specs.Waiting.{line_numbered, spaced, wait_text}
 use Rattle.script_orders.proofs.waiting.wait_text.Goals as goal
 
 -- the parts of the text, one after another
-joined : (head script text end : List ℕ) (number : ℕ) → head ≡ codes "line " ++
-    (decimal number ++ codes ": waits for ever:") →
+joined : (head script text end : List ℕ) (number : ℕ) →
+    head ≡ codes "line " ++ (decimal number ++ codes ": waits for ever:") →
     text ≡ head ++ spaced (words_of (line_numbered script number)) → end ≡ text ++ 10 ∷ [] →
     end ≡ wait_text script number
 joined head script text end number first then last =

@@ -45,12 +45,12 @@ returns-clause-output g c = λ all script known written failed.
     (c.run_phases.ensures.output failed)
 
 -- nor to a deadlock
-read-no_deadlock : (lines : Vec ℕ Global) (fault : ReadFault) → Deadlock lines ≡
-    of_read_fault fault → ⊥
+read-no_deadlock : (lines : Vec ℕ Global) (fault : ReadFault) →
+    Deadlock lines ≡ of_read_fault fault → ⊥
 read-no_deadlock = grind arith
 
-script-no_deadlock : (lines : Vec ℕ Global) (fault : ScriptFault) → Deadlock lines ≡
-    of_script_fault fault → ⊥
+script-no_deadlock : (lines : Vec ℕ Global) (fault : ScriptFault) →
+    Deadlock lines ≡ of_script_fault fault → ⊥
 script-no_deadlock = grind arith
 
 pub returns-in_err-text-clause-deadlock : goal.returns-in_err-text-clause-deadlock

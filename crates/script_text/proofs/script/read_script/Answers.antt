@@ -11,8 +11,9 @@ loop-rest-preserved c =
     let line = said_line c.in_ok-line.line in
     let behind : c.processes_behind-processes.result ≡ processes_behind line c.loop-rest.processes =
     c.processes_behind-processes.ensures in
-    let same : (script : Written) → whole_behind c.add.new.self script ≡
-    whole_behind c.loop-rest.phases (with_line line script) = search rules in
+    let same : (script : Written) →
+    whole_behind c.add.new.self script ≡ whole_behind c.loop-rest.phases
+    (with_line line script) = search rules in
     let step = whole_behind-line c.loop-rest.phases c.add.new.self c.loop-rest.processes
     c.loop-rest.at c.in_ok-line.place c.first_line.result.0.now
     (lines_of c.first_line.result.1.now) line c.in_ok-line.ensures.read same in

@@ -39,8 +39,8 @@ pub loop-old-preserved : goal.loop-old-preserved
 loop-old-preserved g c =
     let k : ℕ = c.loop-old.process in
     let in_found : ℕ → _ = λ p. g.S.Logged.is_answered p c.args.seat.me.0.found in
-    let in_given : ℕ → _ = λ p. g.S.Logged.is_answered p (list_in g.S.Logged.items c.args.seat.me.1)
-    in
+    let in_given : ℕ →
+    _ = λ p. g.S.Logged.is_answered p (list_in g.S.Logged.items c.args.seat.me.1) in
     let size : 33 - k ≡ suc (32 - k) = omega (arith, c.args.self.now.shape) in
     let old_bit = bits_step in_found k (32 - k) (33 - k) c.loop-old.old size
     c.loop-old.invariant.before in

@@ -118,7 +118,8 @@ returns-clause-tables c =
       c.len-here.ensures,
       c.moves_of-moves.ensures,
     ) refl in
-    let inboxes : (k : ℕ) → notices_in made.inboxes.items k ≡ noted_values e.process
+    let inboxes : (k : ℕ) →
+    notices_in made.inboxes.items k ≡ noted_values e.process
     (registration_in before.queues.items q) moves k (notices_in before.inboxes.items k) =
     λ k. rw (
       c.note_queues.ensures.same,
@@ -127,8 +128,9 @@ returns-clause-tables c =
           k,
       c.moves_of-moves.ensures,
     ) refl in
-    let rooms : (k : ℕ) → room_in before.inboxes.items k ≤ room_in made.inboxes.items k +
-    notices_brought (registration_in before.queues.items q) moves.notified k =
+    let rooms : (k : ℕ) →
+    room_in before.inboxes.items k ≤ room_in made.inboxes.items k + notices_brought
+    (registration_in before.queues.items q) moves.notified k =
     λ k. rw (c.note_queues.ensures.same, c.note_process.ensures.same)
     (rw c.moves_of-moves.ensures at (c.note_notices.ensures.notice_room k)) in
     let mirror : TablesMirror (r ∷ past) before.n made.owners.items made.callers.items

@@ -36,8 +36,8 @@ returns-then-branch-clause-bounded c before = grind (arith, common_steps, grows)
 
 -- a key that was not there was put in, so that it passes too
 puts : {K : Type 0} (test : K → Bool) (old new : List K) (key : K) (added : Bool) → added ≡ true →
-    MatchBool added (IsPermutation (key ∷ old) new) (new ≡ old) → list_any test new ≡
-    (test key || list_any test old)
+    MatchBool added (IsPermutation (key ∷ old) new) (new ≡ old) →
+    list_any test new ≡ (test key || list_any test old)
 puts test old new key true is put = sym (list_any-IsPermutation test (key ∷ old) new put)
 puts test old new key false is put = absurd (cc)
 
