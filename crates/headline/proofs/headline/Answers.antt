@@ -4,8 +4,7 @@ use Rattle.headline.proofs.headline.Goals as goal
 pub returns : goal.returns
 returns c = λ start. record {
   one_inside = λ about s. one-inside _ _ _ _ about s;
-  turn = λ old new call given before after result is. is-turn c.A.Returned.kind.says old new call
-      given before after
-      result is;
+  turn = λ old new call given before after result is.
+      is-turn c.A.Returned.kind.says old new call given before after result is;
   history = is-headline;
 }
