@@ -1,9 +1,12 @@
 // Visits every reachable world of a few processes that acquire Lamport's lock and sleep while they
 // wait for it, and counts the dead ones: somebody sleeps, and everybody else sleeps or is at rest.
 //
-//   sleepers N PROTOCOL [--trace]
+//   sleepers N PROTOCOL [--trace | --fair]
 //
-// N is 1 to 4. --trace prints the steps to the first dead world. The protocols:
+// N is 1 to 4. --trace prints the steps to the first dead world. --fair also counts the circles:
+// the largest sets of worlds in which schedules can go round for ever although they are fair and
+// nobody enters. In a fair schedule each process takes steps again and again, unless it sleeps or
+// is at rest again and again. The protocols:
 //   library      that of the library, in Rattle, without time-outs
 //   early        as library, but the process announces its sleep behind its last poll
 //   nostore      as library, but who wakes does not store 1 again for the others
@@ -13,6 +16,7 @@
 //   unchained    as handles, but who announced at a flag and goes on wakes nobody there
 //   anywhere     as handles, but a try of a call may end at each point, and the process sleeps there
 // In each of them a thread may also wake for no reason, but for handles.
+#include <algorithm>
 #include <array>
 #include <cstdint>
 #include <cstdio>
@@ -102,14 +106,21 @@ public:
         return code;
     }
 
+    static bool is_inside(const World &w, int i) { return w.processes[i].point == Inside; }
+
+    // Whether process i + 1 neither sleeps nor is at rest, so that a fair schedule goes on with it.
+    static bool goes_on(const World &w, int i)
+    {
+        const Process &p = w.processes[i];
+        return p.phase != Asleep && (p.phase != Awake || p.point != Rest);
+    }
+
     bool is_dead(const World &w) const
     {
         bool somebody_sleeps = false;
         for (int i = 0; i < n; ++i) {
-            const Process &p = w.processes[i];
-            if (p.phase == Asleep)
-                somebody_sleeps = true;
-            else if (p.phase != Awake || p.point != Rest)
+            somebody_sleeps = somebody_sleeps || w.processes[i].phase == Asleep;
+            if (goes_on(w, i))
                 return false;
         }
         return somebody_sleeps;
@@ -341,6 +352,120 @@ void Machine::print(const World &w) const
     std::printf("\n");
 }
 
+// The circles among these worlds, by Tarjan's algorithm over the steps by which nobody enters.
+class Circles {
+public:
+    Circles(const Machine &machine, int count, const std::vector<World> &all,
+        const std::unordered_map<uint64_t, uint32_t> &places)
+        : machine(machine), n(count), worlds(all), place(places), order(all.size(), 0),
+          low(all.size(), 0), is_open(all.size(), false)
+    {
+    }
+
+    uint64_t count()
+    {
+        for (uint32_t w = 0; w < worlds.size(); ++w)
+            if (order[w] == 0)
+                visit(w);
+        return circles;
+    }
+
+private:
+    struct Step {
+        uint32_t to;
+        int process;
+    };
+    struct Visit {
+        uint32_t world;
+        std::vector<Step> steps;
+        size_t taken;
+    };
+
+    const Machine &machine;
+    const int n;
+    const std::vector<World> &worlds;
+    const std::unordered_map<uint64_t, uint32_t> &place;
+    std::vector<uint32_t> order, low;
+    std::vector<bool> is_open;
+    std::vector<uint32_t> open;
+    uint32_t next_order = 0;
+    uint64_t circles = 0;
+
+    std::vector<Step> steps_from(uint32_t w) const
+    {
+        std::vector<Step> steps;
+        for (int i = 0; i < n; ++i)
+            for (const World &to : machine.next(worlds[w], i))
+                if (Machine::is_inside(worlds[w], i) || !Machine::is_inside(to, i))
+                    steps.push_back({place.at(machine.number(to)), i});
+        return steps;
+    }
+
+    void begin(uint32_t w, std::vector<Visit> &path)
+    {
+        order[w] = low[w] = ++next_order;
+        open.push_back(w);
+        is_open[w] = true;
+        path.push_back({w, steps_from(w), 0});
+    }
+
+    void visit(uint32_t first)
+    {
+        std::vector<Visit> path;
+        begin(first, path);
+        while (!path.empty()) {
+            Visit &now = path.back();
+            const uint32_t w = now.world;
+            if (now.taken < now.steps.size()) {
+                const uint32_t to = now.steps[now.taken++].to;
+                if (order[to] == 0)
+                    begin(to, path);
+                else if (is_open[to])
+                    low[w] = std::min(low[w], order[to]);
+                continue;
+            }
+            path.pop_back();
+            if (!path.empty())
+                low[path.back().world] = std::min(low[path.back().world], low[w]);
+            if (low[w] == order[w])
+                close(w);
+        }
+    }
+
+    // All worlds from which steps lead round to w are open, behind w.
+    void close(uint32_t w)
+    {
+        size_t from = open.size();
+        while (open[--from] != w) {
+        }
+        if (is_circle(from))
+            ++circles;
+        for (size_t k = from; k < open.size(); ++k)
+            is_open[open[k]] = false;
+        open.resize(from);
+    }
+
+    bool is_circle(size_t from) const
+    {
+        std::unordered_map<uint32_t, bool> within;
+        for (size_t k = from; k < open.size(); ++k)
+            within[open[k]] = true;
+        bool has_step = false;
+        std::array<bool, MOST> is_served = {};
+        for (size_t k = from; k < open.size(); ++k) {
+            for (int i = 0; i < n; ++i)
+                is_served[i] = is_served[i] || !Machine::goes_on(worlds[open[k]], i);
+            for (const Step &step : steps_from(open[k]))
+                if (within.count(step.to) != 0)
+                    has_step = is_served[step.process] = true;
+        }
+        for (int i = 0; i < n; ++i)
+            if (!is_served[i])
+                return false;
+        return has_step;
+    }
+};
+
 // The steps to a world, from the numbers of the worlds before each.
 void print_trace(const Machine &machine, const World &first, uint64_t last, int n,
     const std::unordered_map<uint64_t, uint64_t> &before)
@@ -374,8 +499,11 @@ int main(int argc, char **argv)
     }
     const Machine machine(n, protocol_of(argv[2]));
     const bool traces = argc > 3 && std::strcmp(argv[3], "--trace") == 0;
+    const bool is_fair = argc > 3 && std::strcmp(argv[3], "--fair") == 0;
     const World first = {};
     std::unordered_map<uint64_t, uint64_t> before = {{machine.number(first), 0}};
+    std::unordered_map<uint64_t, uint32_t> places;
+    std::vector<World> all;
     std::deque<World> open = {first};
     uint64_t worlds = 0, dead = 0, first_dead = 0;
     while (!open.empty()) {
@@ -383,6 +511,10 @@ int main(int argc, char **argv)
         const uint64_t number = machine.number(w);
         open.pop_front();
         ++worlds;
+        if (is_fair) {
+            places.emplace(number, all.size());
+            all.push_back(w);
+        }
         if (machine.is_dead(w) && dead++ == 0)
             first_dead = number;
         if (dead != 0 && traces)
@@ -392,8 +524,13 @@ int main(int argc, char **argv)
                 if (before.emplace(machine.number(to), number).second)
                     open.push_back(to);
     }
-    std::printf("%s n=%d worlds=%llu dead=%llu\n", argv[2], n, (unsigned long long)worlds,
+    std::printf("%s n=%d worlds=%llu dead=%llu", argv[2], n, (unsigned long long)worlds,
         (unsigned long long)dead);
+    if (is_fair) {
+        before.clear();
+        std::printf(" circles=%llu", (unsigned long long)Circles(machine, n, all, places).count());
+    }
+    std::printf("\n");
     if (dead != 0 && traces)
         print_trace(machine, first, first_dead, n, before);
     return 0;
