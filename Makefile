@@ -35,6 +35,7 @@ VERSION := $(shell cat VERSION)
 PROGRAMS = mqrun mqlog
 TOOLS = run seeds record
 RECORDER = libyakyrombe-record.so
+ARCHIVES = $(LIB)/libyakyrombe-journal.a $(LIB)/libyakyrombe.a
 # The folder of the programs for another machine (tools/packing/cross), and each program.
 CROSS =
 program = $(if $(CROSS),$(CROSS)/$(1),crates/$(1)/out/$(1))
@@ -67,11 +68,11 @@ $(LIB)/$(RECORDER): tools/recorder/record.c
 	$(CC) $(CFLAGS) $(LDFLAGS) -shared -fPIC -Wl,-soname,$(RECORDER) -o $@ $< -ldl -lrt
 
 # The benchmark, by the handles of yakyrombe.h.
-$(LIB)/mqbench: $(wildcard tools/bench/*.[ch]) $(LIB)/libyakyrombe.a
+$(LIB)/mqbench: $(wildcard tools/bench/*.[ch]) $(ARCHIVES)
 	$(CC) $(CFLAGS) $(LDFLAGS) -std=gnu11 -Wall -Wextra -Iinclude \
-	  -DYAK_BENCH_VERSION='"$(VERSION)"' tools/bench/*.c $(LIB)/libyakyrombe.a -lpthread -lm -o $@
+	  -DYAK_BENCH_VERSION='"$(VERSION)"' tools/bench/*.c $(ARCHIVES) -lpthread -lm -o $@
 
-$(LIB)/libyakyrombe.a:
+$(ARCHIVES):
 	$(MAKE) -C c $@ LIB='$(LIB)'
 
 install: $(foreach it,$(PROGRAMS),$(call program,$(it))) $(LIB)/$(RECORDER)

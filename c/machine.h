@@ -8,7 +8,7 @@
  * the calls on queues are steps, since the trace is to show what the queues hold.
  *
  * libyakyrombe-seed and libyakyrombe-explore have the machine with the calls of <mqueue.h>
- * (explored_calls.c), and libyakyrombe.a has it with those by handles (seed_handles.c). */
+ * (explored_calls.c), and libyakyrombe-journal.a has it with those by handles (seed_handles.c). */
 #ifndef YAKYROMBE_MACHINE_H
 #define YAKYROMBE_MACHINE_H
 

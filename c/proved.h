@@ -1,4 +1,5 @@
-/* proved.h: the exports of the proved library, which wait.c and libyakyrombe-mqueue call.
+/* proved.h: the exports of the proved libraries, which wait.c, journal.c and libyakyrombe-mqueue
+ * call.
  *
  * Each makes one attempt of its call and never sleeps. It returns YAK_RETRY if the process did not
  * acquire the lock. Then the acquisition is in progress, and blocks others until a call on the
@@ -33,14 +34,16 @@ uint32_t yak_proved_collect(yak_process *process, uint8_t *buf, size_t len, yak_
 uint32_t yak_proved_end_wait(yak_process *process, uint8_t *buf, size_t len, yak_message *message,
                              const yak_moment *now);
 uint32_t yak_proved_check(yak_process *process);
-uint32_t yak_proved_entry(yak_process *process, uint64_t place, uint8_t *text, size_t size,
-                          size_t *len);
 uint32_t yak_proved_room(yak_process *process, yak_room_left *room);
 uint32_t yak_proved_nobody_can_call(yak_process *process);
 /* Empties the handle, even if its process has an open wait. */
 uint32_t yak_proved_free(yak_process *process);
 /* Which futex word the process sleeps on (wait.h). */
 uint32_t yak_proved_futex_word(yak_process *process, uint32_t *futex_word);
+
+/* This one is of libyakyrombe-journal.a. */
+uint32_t yak_proved_entry(yak_process *process, uint64_t place, uint8_t *text, size_t size,
+                          size_t *len);
 
 #pragma GCC visibility pop
 

@@ -1,4 +1,4 @@
-/* The calls by handles for the machine, in libyakyrombe.a: a call on queues is a step. */
+/* The calls by handles for the machine, in libyakyrombe-journal.a: a call on queues is a step. */
 #define _GNU_SOURCE
 #include "machine.h"
 

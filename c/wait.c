@@ -374,10 +374,20 @@ THROUGH(collect, (PROCESS, uint8_t *buf, size_t len, yak_message *message), proc
 THROUGH(end_wait, (PROCESS, uint8_t *buf, size_t len, yak_message *message, const yak_moment *now),
         process, buf, len, message, now)
 THROUGH(check, (PROCESS), process)
-THROUGH(entry, (PROCESS, uint64_t place, uint8_t *text, size_t size, size_t *len), process, place,
-        text, size, len)
 THROUGH(room, (PROCESS, yak_room_left *room), process, room)
 THROUGH(nobody_can_call, (PROCESS), process)
+
+uint32_t yak_through_(yak_process *process, yak_try_ *attempt, void *with)
+{
+    way its = {0};
+    uint32_t answer;
+    begin_call(process);
+    while ((answer = attempt(process, with)) == YAK_RETRY)
+        rest(process, &its);
+    come_through(process, &its);
+    end_call(process);
+    return answer;
+}
 
 uint32_t yak_free(yak_process *process)
 {
@@ -678,52 +688,10 @@ uint32_t yak_timed_receive(yak_process *process, uint32_t d, uint8_t *buf, size_
     return yak_clock_receive(process, d, buf, len, message, until, yak_now);
 }
 
-/* ---- the journal, and the end of a system ---- */
+/* ---- the end of a system ---- */
 
-/* Gives the line of each entry to `line`, from a buffer that grows: YAK_NO_ENTRY behind the last.
- */
-static uint32_t give_lines(yak_process *process, yak_line *line, void *with)
+uint32_t yak_finish(yak_process *processes, size_t count)
 {
-    static uint8_t none[1];
-    uint8_t *text = none, *larger;
-    size_t size = 0, len;
-    uint64_t place = 0;
-    uint32_t answer;
-    for (;;) {
-        answer = yak_entry(process, place, text, size, &len);
-        if (answer == YAK_DONE) {
-            line(with, text, len);
-            ++place;
-        } else if (answer != YAK_SHORT) {
-            break;
-        } else if ((larger = realloc(text != none ? text : 0, 2 * len)) != 0) {
-            text = larger;
-            size = 2 * len;
-        } else {
-            answer = YAK_NOMEMORY;
-            break;
-        }
-    }
-    free(text != none ? text : 0);
-    return answer;
-}
-
-static void write_line(void *with, const uint8_t *text, size_t len)
-{
-    fwrite(text, 1, len, with);
-}
-
-uint32_t yak_write_journal(yak_process *process, FILE *to)
-{
-    const uint32_t answer = give_lines(process, write_line, to);
-    if (answer != YAK_NO_ENTRY)
-        return answer;
-    return fflush(to) != 0 || ferror(to) ? YAK_NOT_WRITTEN : YAK_DONE;
-}
-
-uint32_t yak_finish(yak_process *processes, size_t count, yak_line *line, void *with)
-{
-    uint32_t answer;
     if (count == 0)
         return YAK_EMPTY;
     for (size_t i = 0; i < count; ++i)
@@ -732,11 +700,7 @@ uint32_t yak_finish(yak_process *processes, size_t count, yak_line *line, void *
     for (size_t i = 1; i < count; ++i)
         if (processes[i].futex_words != processes[0].futex_words)
             return YAK_INVAL;
-    answer = yak_check(&processes[0]);
-    if (answer == YAK_DONE && line != 0)
-        answer = give_lines(&processes[0], line, with);
-    if (answer == YAK_NOMEMORY || (answer == YAK_UNSTORED && line != 0))
-        return answer;
+    (void)yak_check(&processes[0]);
     for (size_t i = 0; i < count; ++i)
         yak_proved_free(&processes[i]);
     return YAK_DONE;

@@ -94,6 +94,12 @@ static inline void yak_pause_(unsigned turns)
  * contention, long backoffs let the holder of the lock make several calls in a row. */
 bool yak_spin_(unsigned *tries, unsigned most);
 
+/* One try of a call on a handle: YAK_RETRY if the process did not acquire the lock. */
+typedef uint32_t yak_try_(yak_process *process, void *with);
+
+/* Makes a call whose tries are not in this archive, until its process comes inside the lock. */
+uint32_t yak_through_(yak_process *process, yak_try_ *attempt, void *with);
+
 /* Lets a seed schedule the calls; null ends that. */
 void yak_follow_(const yak_turns_ *turns);
 

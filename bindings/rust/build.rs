@@ -1,7 +1,8 @@
-//! Links the proved library, `libyakyrombe.a`. The build looks for it, in this order, in the folder
-//! that `YAKYROMBE_LIB` names, in the folder that pkg-config names, in `lib` of the crate, and in
-//! `lib` of the repository or archive that has the crate as `bindings/rust`. Without it the crate can
-//! be checked, documented and packed, and warnings say what a program needs to be linked.
+//! Links the proved library, `libyakyrombe.a`, and `libyakyrombe-journal.a` beside it. The build
+//! looks for them, in this order, in the folder that `YAKYROMBE_LIB` names, in the folder that
+//! pkg-config names, in `lib` of the crate, and in `lib` of the repository or archive that has the
+//! crate as `bindings/rust`. Without them the crate can be checked, documented and packed, and
+//! warnings say what a program needs to be linked.
 
 use std::env;
 use std::path::{Path, PathBuf};
@@ -9,6 +10,7 @@ use std::process::{exit, Command};
 
 const FOLDER: &str = "YAKYROMBE_LIB";
 const LIBRARY: &str = "libyakyrombe.a";
+const JOURNAL: &str = "libyakyrombe-journal.a";
 
 fn main() {
     for variable in
@@ -18,8 +20,12 @@ fn main() {
     }
     match find() {
         Ok(folder) => {
-            println!("cargo:rerun-if-changed={}", folder.join(LIBRARY).display());
+            for library in [LIBRARY, JOURNAL] {
+                println!("cargo:rerun-if-changed={}", folder.join(library).display());
+            }
             println!("cargo:rustc-link-search=native={}", folder.display());
+            // A linker wants the second behind the first, which uses it.
+            println!("cargo:rustc-link-lib=static=yakyrombe-journal");
             println!("cargo:rustc-link-lib=static=yakyrombe");
             // The feature `model` looks for yak-explore there.
             println!("cargo:rustc-env=YAKYROMBE_FOLDER={}", folder.display());
@@ -46,7 +52,7 @@ fn find() -> Result<PathBuf, String> {
     if let Some(named) = env::var_os(FOLDER) {
         return has_library(PathBuf::from(&named)).ok_or_else(|| {
             format!(
-                "{FOLDER} names {}, which has no {LIBRARY}: name the folder that has it",
+                "{FOLDER} names {}, which lacks {LIBRARY} or {JOURNAL}: name the folder that has both",
                 Path::new(&named).display()
             )
         });
@@ -57,19 +63,19 @@ fn find() -> Result<PathBuf, String> {
     }
     let [lib, above] = own.map(|it| it.display().to_string());
     Err(format!(
-        "{LIBRARY} is not there, so no program can be linked. One of these helps:\n\
+        "{LIBRARY} and {JOURNAL} are not there, so no program can be linked. One of these helps:\n\
          - unpack a release of Yakyrombe, or build it by checks/c_library at the top of its \
          repository, and name its folder lib: \
          {FOLDER}=/path/to/lib cargo build\n\
          - install it (make install), so that `pkg-config --modversion yakyrombe` says {}\n\
-         - put it into {lib} or {above}",
+         - put both into {lib} or {above}",
         env!("CARGO_PKG_VERSION")
     ))
 }
 
-/// The absolute path of the folder, if it has the library.
+/// The absolute path of the folder, if it has the libraries.
 fn has_library(folder: PathBuf) -> Option<PathBuf> {
-    let is_there = folder.join(LIBRARY).is_file();
+    let is_there = [LIBRARY, JOURNAL].iter().all(|it| folder.join(it).is_file());
     is_there.then(|| folder.canonicalize().unwrap_or(folder))
 }
 

@@ -1,5 +1,6 @@
-# find_package(yakyrombe) gives two targets:
+# find_package(yakyrombe) gives three targets:
 #   yakyrombe::yakyrombe  the handles of yakyrombe.h, a static library
+#   yakyrombe::journal    the same with journals as text, and with seed.h
 #   yakyrombe::mqueue     the calls of <mqueue.h> as exported symbols, a shared library
 include(CMakeFindDependencyMacro)
 set(THREADS_PREFER_PTHREAD_FLAG ON)
@@ -14,6 +15,12 @@ if(NOT TARGET yakyrombe::yakyrombe)
     IMPORTED_LOCATION "${_yakyrombe_libraries}/libyakyrombe.a"
     INTERFACE_INCLUDE_DIRECTORIES "${_yakyrombe_headers}"
     INTERFACE_LINK_LIBRARIES Threads::Threads)
+
+  add_library(yakyrombe::journal STATIC IMPORTED)
+  set_target_properties(yakyrombe::journal PROPERTIES
+    IMPORTED_LOCATION "${_yakyrombe_libraries}/libyakyrombe-journal.a"
+    INTERFACE_INCLUDE_DIRECTORIES "${_yakyrombe_headers}"
+    INTERFACE_LINK_LIBRARIES yakyrombe::yakyrombe)
 
   add_library(yakyrombe::mqueue SHARED IMPORTED)
   set_target_properties(yakyrombe::mqueue PROPERTIES

@@ -248,7 +248,7 @@ static bool run(unsigned long *counts)
     }
     /* Open waits too. */
     for (int i = 0; i < SYSTEMS && alike; ++i)
-        alike = yak_finish(systems[i], PROCESSES, 0, 0) == YAK_DONE;
+        alike = yak_finish(systems[i], PROCESSES) == YAK_DONE;
     return alike;
 }
 

@@ -38,5 +38,5 @@ int main()
     worker.join();
     std::printf("%u: %.*s, priority %u\n", unsigned(answer), int(message.len),
                 reinterpret_cast<const char *>(buf), unsigned(message.prio));
-    return yak_finish(processes, 2, nullptr, nullptr) != YAK_DONE;
+    return yak_finish(processes, 2) != YAK_DONE;
 }

@@ -219,5 +219,5 @@ int main(void)
     if (!ends_by_moves(d))
         return 7;
     puts("well");
-    return yak_finish(processes, 2, 0, 0) != YAK_DONE;
+    return yak_finish(processes, 2) != YAK_DONE;
 }

@@ -74,6 +74,6 @@ int main(void)
         count += it->count;
     }
     printf("%u: %lu\n", (unsigned)answer, count);
-    return yak_finish(processes, 1 + THREADS, 0, 0) != YAK_DONE || answer != YAK_DONE ||
+    return yak_finish(processes, 1 + THREADS) != YAK_DONE || answer != YAK_DONE ||
            count != (unsigned long)THREADS * ROUNDS;
 }

@@ -39,6 +39,6 @@ int main(void)
         if (mq_receive(0, buf, sizeof buf, 0) != 1 || buf[0] != '0' + part)
             return 3;
     puts("well");
-    return yak_finish(&process, 1, 0, 0) != YAK_DONE;
+    return yak_finish(&process, 1) != YAK_DONE;
 }
 #endif

@@ -28,5 +28,5 @@ int main()
     one.join();
     other.join();
     std::printf("%s\n", shared.value > 0 ? "counted" : "");
-    return yak_finish(&process, 1, nullptr, nullptr) != YAK_DONE;
+    return yak_finish(&process, 1) != YAK_DONE;
 }

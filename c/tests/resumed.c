@@ -95,7 +95,7 @@ static bool has(const uint8_t *buf, yak_message got, const char *message, uint32
 
 static void finish(void)
 {
-    WANT(yak_finish(processes, PROCESSES, 0, 0) == YAK_DONE && blocks == 0);
+    WANT(yak_finish(processes, PROCESSES) == YAK_DONE && blocks == 0);
 }
 
 static journal written(void)

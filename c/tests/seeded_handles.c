@@ -74,5 +74,5 @@ int main(int count, char **words)
     for (int i = 0; i < 2; ++i)
         pthread_join(threads[i], 0);
     puts("done");
-    return yak_finish(processes, 3, 0, 0) != YAK_DONE;
+    return yak_finish(processes, 3) != YAK_DONE;
 }

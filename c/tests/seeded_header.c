@@ -47,5 +47,5 @@ int main(void)
     for (int i = 0; i < 2; ++i)
         pthread_join(threads[i], 0);
     puts("done");
-    return yak_finish(processes, 3, 0, 0) != YAK_DONE;
+    return yak_finish(processes, 3) != YAK_DONE;
 }

@@ -97,8 +97,8 @@ int main(void)
         puts("messages were lost");
     else if (!is_unstored(&processes[1]))
         puts("the journal is read");
-    else if (yak_finish(processes, 2, no_line, 0) != YAK_UNSTORED ||
-             yak_finish(processes, 2, 0, 0) != YAK_DONE)
+    else if (yak_lines(&processes[0], no_line, 0) != YAK_UNSTORED ||
+             yak_finish(processes, 2) != YAK_DONE)
         puts("the end");
     else
         puts("well");

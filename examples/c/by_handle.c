@@ -13,5 +13,5 @@ int main(void)
     answer = yak_send(&process, d, fire, sizeof fire - 1, 9);
     answer = yak_receive(&process, d, buf, sizeof buf, &message);
     printf("%d: %.*s, priority %u\n", yak_errno(answer), (int)message.len, (const char *)buf, (unsigned)message.prio);
-    return yak_errno(yak_finish(&process, 1, 0, 0));
+    return yak_errno(yak_finish(&process, 1));
 }

@@ -14,5 +14,5 @@ int main(void)
     mq_send(orders, "put out the fire", 16, 9);
     ssize_t len = mq_receive(orders, buf, sizeof buf, &prio);
     printf("%.*s, priority %u\n", (int)len, buf, prio);
-    return yak_errno(yak_finish(&process, 1, 0, 0));
+    return yak_errno(yak_finish(&process, 1));
 }

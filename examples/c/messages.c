@@ -115,7 +115,8 @@ int main(void)
     }
     printf("received %llu messages, sum %llu\n", (unsigned long long)count, (unsigned long long)sum);
     uint64_t entries = 0;
-    failed |= yak_finish(processes, 1 + CONSUMERS, count_line, &entries);
+    failed |= yak_lines(&processes[0], count_line, &entries);
+    failed |= yak_finish(processes, 1 + CONSUMERS);
     printf("history %s\n", failed == YAK_DONE && entries > 2 * MESSAGES ? "ok" : "not ok");
     return failed == YAK_DONE ? 0 : 1;
 }

@@ -293,11 +293,11 @@ static void systems(void)
     IS(YAK_FULL, yak_new(three, 3));
     IS(YAK_INVAL, yak_new(three, SIZE_MAX));
     IS(YAK_DONE, yak_new(&three[2], 1));
-    IS(YAK_INVAL, yak_finish(three, 3, 0, 0));
-    IS(YAK_INVAL, yak_finish(&three[1], 2, 0, 0));
+    IS(YAK_INVAL, yak_finish(three, 3));
+    IS(YAK_INVAL, yak_finish(&three[1], 2));
     expect(three[0].full && three[1].full && three[2].full, "handles of two systems that are kept");
-    IS(YAK_DONE, yak_finish(three, 2, 0, 0));
-    IS(YAK_DONE, yak_finish(&three[2], 1, 0, 0));
+    IS(YAK_DONE, yak_finish(three, 2));
+    IS(YAK_DONE, yak_finish(&three[2], 1));
 }
 
 int main(void)
@@ -310,9 +310,9 @@ int main(void)
     notices(&two[0]);
     handles(two);
     IS(YAK_DONE, yak_check(&two[1]));
-    IS(YAK_EMPTY, yak_finish(two, 0, 0, 0));
-    IS(YAK_DONE, yak_finish(two, 2, 0, 0));
-    IS(YAK_EMPTY, yak_finish(two, 2, 0, 0));
+    IS(YAK_EMPTY, yak_finish(two, 0));
+    IS(YAK_DONE, yak_finish(two, 2));
+    IS(YAK_EMPTY, yak_finish(two, 2));
     bounds();
     systems();
     printf("%u passed, %u failed\n", passed, failed);

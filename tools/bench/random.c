@@ -209,7 +209,7 @@ void bench_storm(const workload *of, measured *to)
         bench_want(yak_check(&processes[0]));
         bench_add(to, "; history ok");
     }
-    bench_want(yak_finish(processes, STORM_PROCESSES, 0, 0));
+    bench_want(yak_finish(processes, STORM_PROCESSES));
 }
 
 /* ---- a soak ---- */
@@ -362,5 +362,5 @@ void bench_soak(const workload *of, measured *to)
                    (unsigned long long)sent, (unsigned long long)received);
     bench_add(to, "; %llu messages received once and in order; %s", (unsigned long long)received,
               memory.text);
-    bench_want(yak_finish(processes, SOAKED + 1, 0, 0));
+    bench_want(yak_finish(processes, SOAKED + 1));
 }

@@ -71,7 +71,7 @@ static void in_threads(const workload *of, measured *to, uint64_t count, part ev
                               .to = bench_open(&processes[i], "/members", USUAL_DEPTH),
                               .back = bench_open(&processes[i], "/back", USUAL_DEPTH)};
     to->nanoseconds = run_members(members, count);
-    bench_want(yak_finish(processes, count, 0, 0));
+    bench_want(yak_finish(processes, count));
 }
 
 /* Threads with a queue of their own each: in systems of so many processes. */
@@ -92,7 +92,7 @@ static void in_own_queues(const workload *of, measured *to, uint64_t together)
     to->operations = 2 * count * of->size;
     to->nanoseconds = run_members(members, count);
     for (uint64_t i = 0; i < count; i += together)
-        bench_want(yak_finish(&processes[i], together, 0, 0));
+        bench_want(yak_finish(&processes[i], together));
 }
 
 void bench_queues(const workload *of, measured *to)
@@ -158,5 +158,5 @@ void bench_idle(const workload *of, measured *to)
     for (uint64_t i = 1; i <= blocked; ++i)
         pthread_join(members[i].thread, 0);
     bench_add(to, "; %.0f ms of processor time in %.0f ms", processor / 1e6, to->nanoseconds / 1e6);
-    bench_want(yak_finish(processes, of->processes, 0, 0));
+    bench_want(yak_finish(processes, of->processes));
 }

@@ -38,14 +38,17 @@ install_to_room() {
   local prefix=$1 libraries=$2 file words=()
   [ "$(uname -sm)" = "Linux x86_64" ] || stop "this is not Linux on x86-64"
   [ -z "$(git status --porcelain)" ] || stop "files differ from the commit: git status"
-  [ -f lib/libyakyrombe.a ] || stop "lib/libyakyrombe.a is not there: run ./test"
+  for file in lib/libyakyrombe{,-journal}.a; do
+    [ -f "$file" ] || stop "$file is not there: run ./test"
+  done
   mkdir "$room/lib"
   if [ "$machine" = x86_64 ]; then
-    cp lib/libyakyrombe.a "$room/lib"
+    cp lib/libyakyrombe{,-journal}.a "$room/lib"
   else
     tools/packing/cross "$machine" >&2
     words=(LD="${tool_prefix}ld" AR="${tool_prefix}ar" OBJCOPY="${tool_prefix}objcopy"
-      CROSS="$PWD/lib/$machine" PROVED="$PWD/lib/$machine/libc_exports.a")
+      CROSS="$PWD/lib/$machine" PROVED="$PWD/lib/$machine/libc_exports.a"
+      PROVED_JOURNAL="$PWD/lib/$machine/libc_journals.a")
   fi
   make -s install DESTDIR="$room/tree" PREFIX="$prefix" LIBDIR="$libraries" LIB="$room/lib" \
     CC="$compiler" "${words[@]}" \
@@ -54,6 +57,8 @@ install_to_room() {
   logic=$(logic_of "$room/tree$libraries/libyakyrombe.a")
   [ -n "$logic" ] || stop "lib/libyakyrombe.a does not say by which logic it was proved"
   grep -q "logic ${logic:0:16}" README.md || stop "README.md does not name the logic $logic"
+  [[ $(logic_of "$room/tree$libraries/libyakyrombe-journal.a") == "$logic" ]] \
+    || stop "libyakyrombe-journal.a does not say that it was proved by the logic $logic"
   for file in bin/mqrun bin/mqlog libexec/yakyrombe/mqexplore; do
     [ "$file" != libexec/yakyrombe/mqexplore ] || [ -e "$room/tree$prefix/$file" ] || continue
     [[ $(logic_of "$room/tree$prefix/$file") == "$logic" ]] \

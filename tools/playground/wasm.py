@@ -1,6 +1,6 @@
-"""Compiles the LLVM module of a proved program or library for WebAssembly.
+"""Compiles the LLVM modules of a proved program or libraries for WebAssembly.
 
-The kit makes the module for Linux on x86-64. Its layouts agree with those of wasm64 (little endian,
+The kit makes a module for Linux on x86-64. Its layouts agree with those of wasm64 (little endian,
 64-bit pointers, the same alignments), so clang compiles it for that. It is linked with `runtime`,
 which has the allocator and, for a program, the C functions of the system. Then Binaryen gives it
 32-bit addresses, for browsers that have no others.
@@ -72,14 +72,18 @@ def compile_runtime(clang, names, folder):
     return [f"{folder}/{name}.o" for name in names]
 
 
-def write_wasm(clang, module, exports, out, levels=GOOD):
-    """Compiles a module to the file `out`. A library exports these functions too."""
+def write_wasm(clang, modules, exports, out, levels=GOOD):
+    """Compiles modules to the file `out`. Libraries export these functions too."""
     with tempfile.TemporaryDirectory() as folder:
-        proved, is_program = compile_module(clang, module, levels[0], folder)
+        proved, is_program = [], False
+        for number, module in enumerate(modules):
+            os.mkdir(f"{folder}/{number}")
+            path, is_program = compile_module(clang, module, levels[0], f"{folder}/{number}")
+            proved.append(path)
         parts = compile_runtime(clang, PROGRAM if is_program else LIBRARY, folder)
         linked = f"{folder}/linked.wasm"
         words = ["wasm-ld", *LINK, *(f"--export={it}" for it in exports), "-o", linked]
-        run(*words, proved, *parts, executable=clang)
+        run(*words, *proved, *parts, executable=clang)
         with open(linked, "rb") as file:
             data = with_table32(file.read())
         with open(linked, "wb") as file:

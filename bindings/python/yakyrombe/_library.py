@@ -53,7 +53,7 @@ _FUNCTIONS = {
     "prepaid": (_HANDLE, c_size_t),
     "bounded": (_HANDLE, c_size_t, c_uint64, c_uint64),
     "resume": (_HANDLE, c_size_t, _BYTES, c_size_t, POINTER(c_uint64)),
-    "finish": (_HANDLE, c_size_t, c_void_p, c_void_p),
+    "finish": (_HANDLE, c_size_t),
     "open": (_HANDLE, _BYTES, c_size_t, POINTER(Opening), POINTER(c_uint32)),
     "close": (_HANDLE, c_uint32),
     "unlink": (_HANDLE, _BYTES, c_size_t),

@@ -88,12 +88,12 @@ class System:
 
     def __del__(self) -> None:
         if hasattr(self, "_handles") and all(it.at for it in self._handles):
-            raw.library.yak_finish(self._handles, len(self._handles), None, None)
+            raw.library.yak_finish(self._handles, len(self._handles))
 
     def close(self) -> None:
         """Ends the system. No process may be in a call. Later calls fail."""
         if all(it.at for it in self._handles):
-            want(raw.library.yak_finish(self._handles, len(self._handles), None, None))
+            want(raw.library.yak_finish(self._handles, len(self._handles)))
 
     def entries(self) -> Iterator[str]:
         """The lines of the journal, which must be stored, as `mqlog` reads them."""

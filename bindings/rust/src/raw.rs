@@ -119,9 +119,6 @@ pub struct Moment {
 /// `yak_clock`.
 type Clock = unsafe extern "C" fn() -> Moment;
 
-/// `yak_line`.
-type Line = unsafe extern "C" fn(with: *mut c_void, text: *const u8, len: usize);
-
 /// `yak_process`: a process as the library keeps it for its caller.
 #[allow(dead_code)]
 #[repr(C)]
@@ -173,12 +170,7 @@ extern "C" {
         len: usize,
         line: *mut u64,
     ) -> u32;
-    fn yak_finish(
-        processes: *mut Fields,
-        count: usize,
-        line: Option<Line>,
-        with: *mut c_void,
-    ) -> u32;
+    fn yak_finish(processes: *mut Fields, count: usize) -> u32;
     fn yak_free(process: *mut Fields) -> u32;
     fn yak_open(
         process: *mut Fields,
@@ -332,8 +324,8 @@ impl Handle {
     /// Empties all handles of one system, even if their processes have open waits.
     pub fn finish(mut handles: Vec<Handle>) {
         let (first, count) = (handles.as_mut_ptr().cast::<Fields>(), handles.len());
-        // SAFETY: `first` points to `count` handles. No function for lines is given.
-        unsafe { yak_finish(first, count, None, null_mut()) };
+        // SAFETY: `first` points to `count` handles.
+        unsafe { yak_finish(first, count) };
     }
 
     /// Whether the calls of a system that is made now are steps of an exploration.
@@ -539,11 +531,10 @@ impl Drop for Handle {
     fn drop(&mut self) {
         // A `Process` ends its wait before it is dropped, except one without a deadline, from a
         // journal. Then the library refuses to free it, and `yak_finish` ends it.
-        // SAFETY: the handle was borrowed, and an empty one stays unchanged. No function for lines
-        // is given.
+        // SAFETY: the handle was borrowed, and an empty one stays unchanged.
         unsafe {
             if yak_free(self.0.get()) == answer::WAITING {
-                yak_finish(self.0.get(), 1, None, null_mut());
+                yak_finish(self.0.get(), 1);
             }
         }
     }

@@ -1,6 +1,6 @@
-//! Reading the journal from C.
+//! What C finds out of a journal without its text.
 ghost use Rattle.c_handles.specs.Handles.{process_in};
-ghost use Rattle.c_handles.specs.Readings.{Checks, GivesNobody, GivesRoom, ReadsAt};
+ghost use Rattle.c_handles.specs.Readings.{Checks, GivesNobody, GivesRoom};
 
 use c_handles::handle::Handle;
 use c_handles::reading;
@@ -14,28 +14,6 @@ pub extern "C" fn yak_check(alloc: Global, process: &mut Handle) -> u32
     ensures { Checks (process_in process.old) (process_in process.new) result }
 {
     reading::check(alloc, process)
-}
-
-/// Writes the line of a journal entry, as in the text of the journal, to the start of a buffer, and
-/// the length of the line. The process may have an open wait, and keeps it.
-#[unsafe(no_mangle)]
-pub extern "C" fn yak_entry(
-    alloc: Global,
-    process: &mut Handle,
-    place: u64,
-    text: &mut [u8],
-    len: &mut usize,
-) -> u32
-    ensures { ReadsAt place (process_in process.old) (process_in process.new)
-        (record {
-          before = text.old;
-          after = text.new;
-          len_before = len.old;
-          len = len.new;
-          code = result;
-        }) }
-{
-    reading::entry(alloc, process, place, text, len)
 }
 
 /// Writes the number of entries and payload bytes for which the journal still has room, or the

@@ -2,14 +2,11 @@
 ghost use Rattle.std.specs.Prelude.{◌≡◌, true, false, Some, None};
 ghost use Rattle.c_handles.specs.Handles.{process_in};
 ghost use Rattle.c_handles.specs.Codes.{freed_code};
-ghost use Rattle.c_handles.specs.Resumes.{Resumes};
 ghost use Rattle.c_handles.specs.Systems.{Makes};
-ghost use Rattle.mq_equivalence.specs.Equivalence.{Equivalent};
 
 use c_handles::handle::Handle;
 use c_handles::numbers::{DONE, EMPTY};
-use c_handles::{resuming, system};
-use mq_model::bounds::Bounds;
+use c_handles::system;
 use std::alloc::Global;
 
 /// Makes a system with as many processes as there are handles, and puts the processes into the
@@ -53,61 +50,6 @@ pub extern "C" fn yak_prepaid(alloc: Global, processes: &mut [Handle]) -> u32
     ensures { Makes None false processes.old processes.new result }
 {
     system::prepaid(alloc, processes)
-}
-
-/// Makes a system as `yak_new` does that continues from the journal with this text, as if its calls
-/// had been made on the system. If the journal cannot be used because of a line, writes the number
-/// of that line.
-#[unsafe(no_mangle)]
-pub extern "C" fn yak_resume(
-    alloc: Global,
-    processes: &mut [Handle],
-    text: &[u8],
-    line: &mut u64,
-) -> u32
-    ensures { Resumes (λ written past. past ≡ written) None text.now processes.old processes.new
-        line.old line.new result }
-{
-    resuming::resume(alloc, processes, None, text, line)
-}
-
-/// The same with bounds, as `yak_bounded`, which hold for the whole journal. It also fails with
-/// `JOURNALFULL` if the journal, with the entries that end its open waits, is too long for them.
-#[unsafe(no_mangle)]
-pub extern "C" fn yak_resume_bounded(
-    alloc: Global,
-    processes: &mut [Handle],
-    entries: u64,
-    bytes: u64,
-    text: &[u8],
-    line: &mut u64,
-) -> u32
-    ensures { Resumes (λ written past. past ≡ written)
-        (Some (record { entries = entries; bytes = bytes })) text.now processes.old processes.new
-        line.old line.new result }
-{
-    resuming::resume(
-        alloc,
-        processes,
-        Some(Bounds { entries, bytes }),
-        text,
-        line,
-    )
-}
-
-/// The same, with a short journal in place of this one, after which the queues reply in the same
-/// way. If a wait is answered and not collected, the system continues from the journal itself.
-#[unsafe(no_mangle)]
-pub extern "C" fn yak_resume_short(
-    alloc: Global,
-    processes: &mut [Handle],
-    text: &[u8],
-    line: &mut u64,
-) -> u32
-    ensures { Resumes Equivalent None text.now processes.old processes.new line.old line.new
-        result }
-{
-    resuming::resume_short(alloc, processes, text, line)
 }
 
 /// Empties a handle. Returns 0, or 18 if it was empty. Its process is lost: its descriptors stay

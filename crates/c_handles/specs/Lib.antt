@@ -6,5 +6,4 @@ pub mod Codes
 pub mod Endings
 pub mod Openings
 pub mod Systems
-pub mod Resumes
 pub mod Readings

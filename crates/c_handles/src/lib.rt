@@ -11,7 +11,6 @@ pub mod numbers;
 pub mod parts;
 pub mod reading;
 pub mod requests;
-pub mod resuming;
 pub mod seal;
 pub mod standing;
 pub mod system;

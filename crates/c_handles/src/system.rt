@@ -19,7 +19,7 @@ use std::alloc::Global;
 use std::sync::Arc;
 
 /// The deadline of the open wait of each process. Index p is for process p.
-pub(crate) type Deadlines = [Option<Deadline>; 33];
+pub type Deadlines = [Option<Deadline>; 33];
 
 /// Makes a system with as many processes as there are handles, and puts the processes into the
 /// handles, in order. There must be 1 to 32 handles, all empty.
@@ -102,14 +102,14 @@ pub fn free(alloc: Global, process: &mut Handle) -> u32
 }
 
 /// Whether all handles are empty.
-pub(crate) fn are_empty(processes: &[Handle]) -> bool
+pub fn are_empty(processes: &[Handle]) -> bool
     ensures { result ≡ list_all is_empty processes.now }
 {
     processes.iter().all(|process| process.is_empty())
 }
 
 /// The number of handles, if it is 1 to 32.
-pub(crate) fn count_of(processes: &[Handle]) -> Option<u32>
+pub fn count_of(processes: &[Handle]) -> Option<u32>
     ensures some { IfSome result (λ n. (n ≡ length processes.now) × (1 ≤ n) × (n ≤ 32)) }
     ensures none { result ≡ None → (length processes.now ≡ 0) ⊎ (32 < length processes.now) }
 {
@@ -133,7 +133,7 @@ fn hand_out_new(alloc: Global, mq: FastMq, made: Vec<FastProcess>, processes: &m
 }
 
 /// Puts the processes of a system into the handles, with the deadlines of their open waits.
-pub(crate) fn hand_out(
+pub fn hand_out(
     alloc: Global,
     mq: FastMq,
     made: Vec<FastProcess>,

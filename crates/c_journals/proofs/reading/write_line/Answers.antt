@@ -2,7 +2,7 @@ use Rattle.std.proofs.Common.{◌≡◌, ◌∙◌, ◌++◌, ℕ, ◌≤◌, �
 use Rattle.std.proofs.lemmas.Bool.Decides.{nat_tests}
 use Rattle.std.proofs.lemmas.List.{length-take, take_min}
 use Rattle.mq_state.specs.Buffers.{with_front}
-use Rattle.c_handles.proofs.reading.write_line.Goals as goal
+use Rattle.c_journals.proofs.reading.write_line.Goals as goal
 
 -- as much of the line as fits into the buffer is a prefix of it
 front-written : (line before front : List ℕ) (count : ℕ) →

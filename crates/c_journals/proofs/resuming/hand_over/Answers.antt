@@ -2,7 +2,7 @@ use Rattle.std.proofs.Common.{◌≡◌, ◌∙◌, ap, length, arith}
 use Rattle.std.proofs.lemmas.List.Elements.{All-same}
 use Rattle.c_handles.specs.Systems.{IsDeadlineOf}
 use Rattle.c_handles.proofs.Systems.{deadlines_fit, tickets_length, tickets_lock}
-use Rattle.c_handles.proofs.resuming.hand_over.Goals as goal
+use Rattle.c_journals.proofs.resuming.hand_over.Goals as goal
 
 pub hand_out-requires-clause-count : goal.hand_out-requires-clause-count
 hand_out-requires-clause-count c = ap length c.in-Ok.ensures.processes ∙ tickets_length c.in-Ok.mq

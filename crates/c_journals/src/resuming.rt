@@ -4,12 +4,12 @@ ghost use Rattle.std.specs.List.{list_all};
 ghost use Rattle.mq_model.specs.Waits.{wait_deadline};
 ghost use Rattle.mq_equivalence.specs.Equivalence.{Equivalent};
 ghost use Rattle.mq_state.specs.Replays.{is_too_long};
-ghost use Rattle.c_handles.specs.Resumes.{IsNoStart, IsRefused, IsTextOf, Resumes};
+ghost use Rattle.c_journals.specs.Resumes.{IsNoStart, IsRefused, IsTextOf, Resumes};
 ghost use Rattle.c_handles.specs.Systems.{Fills, is_empty};
 
-use crate::handle::Handle;
-use crate::numbers::{BAD_LINE, FOREIGN, FULL, ILLEGAL};
-use crate::system::{Deadlines, are_empty, count_of, hand_out};
+use c_handles::handle::Handle;
+use c_handles::numbers::{BAD_LINE, FOREIGN, FULL, ILLEGAL};
+use c_handles::system::{Deadlines, are_empty, count_of, hand_out};
 use journal_format::fault::JournalFault;
 use journal_format::text::read_journal;
 use mq::{Deadline, FastMq, Fault};
@@ -23,10 +23,64 @@ use mq_state::replay::Misfit;
 use mq_state::rewriting::Unwritten;
 use std::alloc::{AllocError, Global};
 
-/// Makes a system as [`new`](crate::system::new) does that continues from the journal with this
-/// text, as if its calls had been made on the system, with bounds if there are any. If the journal
-/// cannot be used because of a line, writes the number of that line.
-pub fn resume(
+/// Makes a system as `yak_new` does that continues from the journal with this text, as if its calls
+/// had been made on the system. If the journal cannot be used because of a line, writes the number
+/// of that line.
+#[unsafe(no_mangle)]
+pub extern "C" fn yak_resume(
+    alloc: Global,
+    processes: &mut [Handle],
+    text: &[u8],
+    line: &mut u64,
+) -> u32
+    ensures { Resumes (λ written past. past ≡ written) None text.now processes.old processes.new
+        line.old line.new result }
+{
+    resume(alloc, processes, None, text, line)
+}
+
+/// The same with bounds, as `yak_bounded`, which hold for the whole journal. It also fails with
+/// `JOURNALFULL` if the journal, with the entries that end its open waits, is too long for them.
+#[unsafe(no_mangle)]
+pub extern "C" fn yak_resume_bounded(
+    alloc: Global,
+    processes: &mut [Handle],
+    entries: u64,
+    bytes: u64,
+    text: &[u8],
+    line: &mut u64,
+) -> u32
+    ensures { Resumes (λ written past. past ≡ written)
+        (Some (record { entries = entries; bytes = bytes })) text.now processes.old processes.new
+        line.old line.new result }
+{
+    let bounds = Some(Bounds { entries, bytes });
+    resume(alloc, processes, bounds, text, line)
+}
+
+/// The same, with a short journal in place of this one, after which the queues reply in the same
+/// way. If a wait is answered and not collected, the system continues from the journal itself.
+#[unsafe(no_mangle)]
+pub extern "C" fn yak_resume_short(
+    alloc: Global,
+    processes: &mut [Handle],
+    text: &[u8],
+    line: &mut u64,
+) -> u32
+    ensures { Resumes Equivalent None text.now processes.old processes.new line.old line.new
+        result }
+{
+    match begun(alloc, processes, None, text, line) {
+        Ok(books) => match shortened(alloc, books) {
+            Ok(books) => hand_over(alloc, books, processes),
+            Err(_) => Fault::NoMemory.number(),
+        },
+        Err(code) => code,
+    }
+}
+
+// A system with bounds, if there are any, that continues from the journal with this text.
+fn resume(
     alloc: Global,
     processes: &mut [Handle],
     bounds: Option<Bounds>,
@@ -38,22 +92,6 @@ pub fn resume(
 {
     match begun(alloc, processes, bounds, text, line) {
         Ok(books) => hand_over(alloc, books, processes),
-        Err(code) => code,
-    }
-}
-
-/// The same without bounds, and with a short journal in place of this one, after which the queues
-/// reply in the same way. If a wait is answered and not collected, the system continues from the
-/// journal itself.
-pub fn resume_short(alloc: Global, processes: &mut [Handle], text: &[u8], line: &mut u64) -> u32
-    ensures { Resumes Equivalent None text.now processes.old processes.new line.old line.new
-        result }
-{
-    match begun(alloc, processes, None, text, line) {
-        Ok(books) => match shortened(alloc, books) {
-            Ok(books) => hand_over(alloc, books, processes),
-            Err(_) => Fault::NoMemory.number(),
-        },
         Err(code) => code,
     }
 }
@@ -185,7 +223,7 @@ fn deadlines_of(books: &Books) -> Deadlines
 }
 
 // The deadline of the open wait of a process, if it has one.
-#[tactic(auto, using(crate::proofs::Members::no_room, crate::proofs::Members::deadline_whole))]
+#[tactic(auto, using(crate::proofs::Deadlines::no_room, crate::proofs::Deadlines::deadline_whole))]
 fn deadline_of(books: &Books, process: u32) -> Option<Deadline>
     requires { books.now.stored ≡ true }
     ensures { result ≡ wait_deadline books.now.records process }

@@ -1,6 +1,6 @@
 use Rattle.std.proofs.Common.{◌≡◌, ◌<◌, ℕ, Some, slice_get, length}
 use Rattle.mq_model.specs.Waits.{wait_deadline}
-use Rattle.c_handles.proofs.resuming.deadlines_of.Given as goal
+use Rattle.c_journals.proofs.resuming.deadlines_of.Given as goal
 
 abbrev pub invariant-loop-process : goal.invariant-loop-process
 invariant-loop-process l = record {
