@@ -10,7 +10,7 @@
 # make deb MACHINE=x86_64                  writes Debian packages into dist
 # make clean                               removes what make has built, but not the proved libraries
 #
-# BINDIR, LIBDIR, LIBEXECDIR, INCLUDEDIR, MANDIR, DOCDIR, DATADIR, COMPLETIONSDIR, ZSHDIR and
+# BINDIR, LIBDIR, PRELOADDIR, LIBEXECDIR, INCLUDEDIR, MANDIR, DOCDIR, DATADIR, COMPLETIONSDIR, ZSHDIR and
 # FISHDIR are as usual. The proved files have to be built before: ./test builds all of them. With
 # PROGRAMS= no program is installed, and only checks/c_library has to be run before. MACHINE=aarch64
 # takes a cross compiler.
@@ -21,6 +21,7 @@ LDFLAGS ?=
 PREFIX ?= /usr/local
 BINDIR ?= $(PREFIX)/bin
 LIBDIR ?= $(PREFIX)/lib
+PRELOADDIR ?= $(LIBDIR)/yakyrombe
 LIBEXECDIR ?= $(PREFIX)/libexec
 MANDIR ?= $(PREFIX)/share/man
 DOCDIR ?= $(PREFIX)/share/doc/yakyrombe
@@ -53,8 +54,9 @@ EXAMPLES = $(wildcard examples/c/*.c)
 JOURNALS = $(wildcard examples/journals/*.journal)
 # The pages that mqlog makes from them.
 PAGES = $(if $(filter mqlog,$(PROGRAMS)),$(JOURNALS:.journal=.html))
-# The path from the folder of the tools to that of the libraries.
+# The paths from the folder of the tools to those of the libraries.
 NEAR = $(shell realpath -m --relative-to='$(BINDIR)' '$(LIBDIR)')
+PRELOAD_NEAR = $(shell realpath -m --relative-to='$(BINDIR)' '$(PRELOADDIR)')
 ENGINE_NEAR = $(shell realpath -m --relative-to='$(BINDIR)' '$(ENGINEDIR)')
 
 help:
@@ -78,7 +80,7 @@ $(ARCHIVES):
 install: $(foreach it,$(PROGRAMS),$(call program,$(it))) $(LIB)/$(RECORDER)
 	$(MAKE) -C c install LIB='$(LIB)'
 	$(MAKE) $(LIB)/mqbench LIB='$(LIB)'
-	$(INSTALL) -d $(DESTDIR)$(BINDIR) $(DESTDIR)$(LIBDIR) $(DESTDIR)$(MANDIR)/man1 \
+	$(INSTALL) -d $(DESTDIR)$(BINDIR) $(DESTDIR)$(PRELOADDIR) $(DESTDIR)$(MANDIR)/man1 \
 	  $(DESTDIR)$(DOCDIR)/docs $(DESTDIR)$(DOCDIR)/examples/c $(DESTDIR)$(COMPLETIONSDIR) \
 	  $(DESTDIR)$(DOCDIR)/examples/journals
 	for program in $(foreach it,$(PROGRAMS),$(call program,$(it))); do \
@@ -87,18 +89,19 @@ install: $(foreach it,$(PROGRAMS),$(call program,$(it))) $(LIB)/$(RECORDER)
 	$(INSTALL) -m 755 $(LIB)/mqbench $(DESTDIR)$(BINDIR)
 	for tool in $(TOOLS); do \
 	  sed -e 's|^libraries=.*|libraries=$$here/$(NEAR)|' -e 's|^version=.*|version=$(VERSION)|' \
-	    -e 's|^LIBRARIES = .*|LIBRARIES = f"{HERE}/$(NEAR)"|' \
+	    -e 's|^preloaded=.*|preloaded=$$here/$(PRELOAD_NEAR)|' \
+	    -e 's|^PRELOADED = .*|PRELOADED = f"{HERE}/$(PRELOAD_NEAR)"|' \
 	    -e 's|^VERSION = .*|VERSION = "$(VERSION)"|' -e '/^# `make install` writes/d' \
 	    tools/$$tool > $(DESTDIR)$(BINDIR)/yak-$$tool && \
 	  chmod 755 $(DESTDIR)$(BINDIR)/yak-$$tool || exit 1; \
 	done
-	$(CC) $(CFLAGS) $(LDFLAGS) -std=gnu11 -Ic -DYAK_VERSION='"$(VERSION)"' -DYAK_NEAR='"$(NEAR)"' \
+	$(CC) $(CFLAGS) $(LDFLAGS) -std=gnu11 -Ic -DYAK_VERSION='"$(VERSION)"' -DYAK_NEAR='"$(PRELOAD_NEAR)"' \
 	  -DYAK_ENGINE_NEAR='"$(ENGINE_NEAR)"' tools/explorer/*.c -o $(DESTDIR)$(BINDIR)/yak-explore
 	for engine in $(ENGINE); do \
 	  $(INSTALL) -d $(DESTDIR)$(ENGINEDIR) && \
 	  $(INSTALL) -m 755 $$engine $(DESTDIR)$(ENGINEDIR) || exit 1; \
 	done
-	$(INSTALL) -m 644 $(LIB)/$(RECORDER) $(DESTDIR)$(LIBDIR)
+	$(INSTALL) -m 644 $(LIB)/$(RECORDER) $(DESTDIR)$(PRELOADDIR)
 	$(INSTALL) -m 644 $(MANUAL:%=man/%) $(DESTDIR)$(MANDIR)/man1
 	$(INSTALL) -m 644 README.md CHANGELOG.md $(DESTDIR)$(DOCDIR)
 	$(INSTALL) -m 644 $(DOCS) $(DESTDIR)$(DOCDIR)/docs
@@ -131,7 +134,7 @@ uninstall:
 	rm -f $(PROGRAMS:%=$(DESTDIR)$(BINDIR)/%) $(TOOLS:%=$(DESTDIR)$(BINDIR)/yak-%) \
 	  $(DESTDIR)$(BINDIR)/mqbench \
 	  $(DESTDIR)$(BINDIR)/yak-explore $(DESTDIR)$(ENGINEDIR)/mqexplore \
-	  $(DESTDIR)$(LIBDIR)/$(RECORDER) $(MANUAL:%=$(DESTDIR)$(MANDIR)/man1/%) \
+	  $(DESTDIR)$(PRELOADDIR)/$(RECORDER) $(MANUAL:%=$(DESTDIR)$(MANDIR)/man1/%) \
 	  $(COMPLETIONS:%=$(DESTDIR)$(COMPLETIONSDIR)/%) $(COMPLETIONS:%=$(DESTDIR)$(FISHDIR)/%.fish) \
 	  $(DESTDIR)$(ZSHDIR)/_yakyrombe $(DESTDIR)$(DATADIR)/offer \
 	  $(DESTDIR)$(DOCDIR)/README.md $(DESTDIR)$(DOCDIR)/CHANGELOG.md \

@@ -31,11 +31,6 @@ def groups_of(header):
     return [Group(*it.groups()) for it in GROUP.finditer(text)]
 
 
-def in_journal(header):
-    """The functions that are in libyakyrombe-journal.a, as the first comment of the header says."""
-    return re.findall(r"yak_\w+", re.search(r"libyakyrombe-journal\.a:(.*?)\.", header, re.S)[1])
-
-
 def chain(groups, group):
     """The group, behind those that its comment refers to."""
     if not group.text.startswith("The same"):
@@ -60,20 +55,12 @@ def synopsis(declaration):
     return [line.replace("\0", " ") for line in lines]
 
 
-def library_of(is_in_journal):
-    """The line that says which library has a function, and how it is linked."""
-    words = "libyakyrombe", "\\-lyakyrombe"
-    if is_in_journal:
-        words = "libyakyrombe\\-journal", "\\-lyakyrombe\\-journal\\ \\-lyakyrombe"
-    return f'.RI ( {words[0]} ", " {words[1]} )'
-
-
-def page(name, release, groups, group, is_in_journal):
+def page(name, release, groups, group):
     """The page of a group, by the name of its first function."""
     first = re.split(r"[.:;](?: |$)", group.text)[0]
     lines = [f'.TH {name} 3 "" "Yakyrombe {release}" "Library Functions Manual"', ".SH NAME",
              ", ".join(group.names) + " \\- " + escaped(first[0].lower() + first[1:]),
-             ".SH LIBRARY", "The proved library", library_of(is_in_journal),
+             ".SH LIBRARY", "The proved library", ".RI ( libyakyrombe \", \" \\-lyakyrombe )",
              ".SH SYNOPSIS", ".nf", ".B #include <yakyrombe.h>", ".P"]
     lines += [f".B \"{line}\"" for it in group.declarations for line in synopsis(it)]
     lines += [".fi", ".SH DESCRIPTION"]
@@ -102,12 +89,11 @@ def main():
     parser.add_argument("folder", metavar="FOLDER")
     asked = parser.parse_args()
     with open(asked.header, encoding="utf-8") as file:
-        header = file.read()
-    groups, journal = groups_of(header), in_journal(header)
+        groups = groups_of(file.read())
     os.makedirs(asked.folder, exist_ok=True)
     for group in groups:
         first, *others = group.names
-        pages = {first: page(first, asked.release, groups, group, first in journal)}
+        pages = {first: page(first, asked.release, groups, group)}
         pages.update({name: f".so man3/{first}.3\n" for name in others})
         for name, text in pages.items():
             with open(f"{asked.folder}/{name}.3", "w", encoding="utf-8") as file:
