@@ -470,12 +470,17 @@ seat *machine_add_seat(void)
 {
     const unsigned at = place_of_new();
     seat *it = &the_machine.seats[at];
+    seat fresh = {.state = SEAT_PARKED, .op = {.kind = STEP_START}};
     if (at >= (reuses_seats() ? (unsigned)MACHINE_SEATS : (unsigned)YAK_SEATS)) {
         if (the_machine.seed == 0)
             machine_stop("the program starts more than 64 threads");
         return 0;
     }
-    *it = (seat){.state = SEAT_PARKED, .op = {.kind = STEP_START}, .rank = machine_new_rank()};
+    fresh.rank = machine_new_rank();
+    /* Who sleeps is known before the threads are there. */
+    fresh.asleep = it->asleep;
+    memcpy(fresh.wakes, it->wakes, sizeof fresh.wakes);
+    *it = fresh;
     the_machine.used += at == the_machine.used;
     return it;
 }
