@@ -27,8 +27,18 @@ makes_room r s =
 abbrev pub lets : Effect → Effect → Bool
 lets x y = frees x y || brings x y || makes_room x y
 
+-- one of these effects is a lock of the object of the second that had to wait for the first
+abbrev pub is_freed : Effect → Effect → List Effect → Bool
+is_freed x y effects = list_any (λ z. z.object == y.object && frees x z) effects
+
+-- an unlock, in a step with these effects, after a lock by the same step, which had to wait for the
+-- first effect
+abbrev pub comes_after : Effect → Effect → List Effect → Bool
+comes_after x y effects = (is_unlock y.kind || is_rwunlock y.kind) && is_freed x y effects
+
 abbrev pub races_with_any : Effect → List Effect → Bool
-races_with_any x effects = list_any (λ y. not (commute x y) && not (lets x y)) effects
+races_with_any x effects =
+    list_any (λ y. not (commute x y) && not (lets x y) && not (comes_after x y effects)) effects
 
 abbrev pub any_race : Deed → Deed → Bool
 any_race a b = list_any (λ x. races_with_any x b.effects.items) a.effects.items

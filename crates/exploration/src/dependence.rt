@@ -2,7 +2,7 @@
 ghost use Rattle.std.specs.Prelude.{◌≡◌, true, false};
 ghost use Rattle.std.specs.List.{Contains};
 ghost use Rattle.exploration.specs.Dependence.{are_apart, are_bound, are_independent, both_create, commute, commute_on, is_apart, passes, share_time};
-ghost use Rattle.exploration.specs.Races.{any_race, any_race_if_made, are_in_order, brings, frees, is_cause, lets, makes_room, may_race, may_race_if_made, may_race_with_any, only_lets, races_with_any};
+ghost use Rattle.exploration.specs.Races.{any_race, any_race_if_made, are_in_order, brings, comes_after, frees, is_cause, is_freed, lets, makes_room, may_race, may_race_if_made, may_race_with_any, only_lets, races_with_any};
 ghost use Rattle.exploration.specs.Locks.{Lock, are_on_lock, can_lock, can_unlock};
 ghost use Rattle.exploration.specs.declared.deed.Effect.{Effect};
 
@@ -139,11 +139,27 @@ fn lets(x: &Effect, y: &Effect) -> bool
     frees(x, y) || brings(x, y) || makes_room(x, y)
 }
 
+// Whether one of these effects is a lock, of the object of the second, that had to wait for the
+// first.
+fn is_freed(x: &Effect, y: &Effect, effects: &[Effect]) -> bool
+    ensures { result ≡ is_freed x.now y.now effects.now }
+{
+    effects.iter().any(|z| z.object == y.object && frees(x, z))
+}
+
+// Whether the second effect, one of these of a step, is an unlock after a lock by the same step that
+// had to wait for the first effect.
+fn comes_after(x: &Effect, y: &Effect, effects: &[Effect]) -> bool
+    ensures { result ≡ comes_after x.now y.now effects.now }
+{
+    (is_unlock(y.kind) || is_rwunlock(y.kind)) && is_freed(x, y, effects)
+}
+
 // Whether an effect does not commute with one of the others, which could be made before it.
 fn races_with_any(x: &Effect, effects: &[Effect]) -> bool
     ensures { result ≡ races_with_any x.now effects.now }
 {
-    effects.iter().any(|y| !commute(x, y) && !lets(x, y))
+    effects.iter().any(|y| !commute(x, y) && !lets(x, y) && !comes_after(x, y, effects))
 }
 
 // Whether two effects of the steps may come in the other order, and that may matter.

@@ -2,6 +2,7 @@
 
 use crate::deed::Deed;
 use crate::dependence::are_independent;
+use crate::index::Index;
 use crate::kind::Kind;
 use std::alloc::{AllocError, Global};
 
@@ -18,6 +19,8 @@ pub struct Event {
     pub clock: Clock,
     /// Its number among the events of its thread, counted from 1.
     pub number: u32,
+    /// The index at which its thread was last switched to.
+    pub block: usize,
 }
 
 impl Clock {
@@ -80,14 +83,21 @@ impl Clock {
     }
 }
 
-/// The clock of a thread after these events.
-pub fn clock_of(alloc: Global, events: &[Event], thread: u32) -> Result<Clock, AllocError> {
-    for event in events.iter().rev() {
-        if event.deed.choice.thread == thread {
-            return event.clock.copy(alloc);
-        }
+/// The clock of a thread after the events before index `end`.
+pub fn clock_before(
+    alloc: Global,
+    events: &[Event],
+    index: &Index,
+    thread: u32,
+    end: usize,
+) -> Result<Clock, AllocError> {
+    match index
+        .last_before(thread, end)
+        .and_then(|last| events.get(last))
+    {
+        Some(event) => event.clock.copy(alloc),
+        None => Ok(Clock::new(alloc)),
     }
-    Ok(Clock::new(alloc))
 }
 
 // The event that created a thread.
@@ -98,49 +108,72 @@ fn creation(events: &[Event], thread: u32) -> Option<&Event> {
         .find(|it| it.deed.created.contains(&thread))
 }
 
-fn last_of(events: &[Event], thread: u32) -> Option<&Event> {
-    events
-        .iter()
-        .rev()
-        .find(|it| it.deed.choice.thread == thread)
-}
-
 // The event that must come before a step: the one that let it go on, or the last one of the thread
 // that it joins.
-fn before<'e>(events: &'e [Event], deed: &Deed, joined: u32) -> Option<&'e Event> {
+fn before<'e>(events: &'e [Event], index: &Index, deed: &Deed, joined: u32) -> Option<&'e Event> {
     match deed.kind {
-        Kind::Join => last_of(events, joined),
+        Kind::Join => events.get(index.last_before(joined, events.len())?),
         _ => events.get(deed.cause?),
     }
 }
 
-/// The event of a step after these events.
+// Adds what comes before the last event of the list on which a step depends. The earlier ones are of
+// the same thread, and come before that one.
+fn join_last(
+    clock: &mut Clock,
+    events: &[Event],
+    places: &[usize],
+    deed: &Deed,
+) -> Result<(), AllocError> {
+    for place in places.iter().rev() {
+        if let Some(event) = events.get(*place) {
+            if clock.has(event) {
+                return Ok(());
+            }
+            if !are_independent(&event.deed, deed) {
+                return clock.join(&event.clock);
+            }
+        }
+    }
+    Ok(())
+}
+
+// The index at which a thread was last switched to, if it makes a step after these events.
+fn block_of(events: &[Event], thread: u32) -> usize {
+    match events.iter().rev().find(|it| !it.deed.is_local()) {
+        Some(last) if last.deed.choice.thread == thread => last.block,
+        _ => events.len(),
+    }
+}
+
+/// The event of a step after these events, which the index has.
 pub fn event_of(
     alloc: Global,
     events: &[Event],
+    index: &Index,
     deed: Deed,
     joined: u32,
 ) -> Result<Event, AllocError> {
     let thread = deed.choice.thread;
-    let mut clock = clock_of(alloc, events, thread)?;
+    let mut clock = clock_before(alloc, events, index, thread, events.len())?;
     if clock.count(thread) == 0
         && let Some(event) = creation(events, thread)
     {
         clock.join(&event.clock)?;
     }
-    if let Some(event) = before(events, &deed, joined) {
+    if let Some(event) = before(events, index, &deed, joined) {
         clock.join(&event.clock)?;
     }
-    for event in events.iter().rev() {
-        if !clock.has(event) && !are_independent(&event.deed, &deed) {
-            clock.join(&event.clock)?;
-        }
+    for places in index.dependent(alloc, &deed)? {
+        join_last(&mut clock, events, places, &deed)?;
     }
     let number = clock.tick(thread)?;
+    let block = block_of(events, thread);
     Ok(Event {
         deed,
         clock,
         number,
+        block,
     })
 }
 

@@ -136,7 +136,7 @@ fn search_within<P: Program>(
             return Ok(Searched::OutOfBudget);
         }
         let trace = program.run(alloc, &request)?;
-        let goes_on = search.learn(alloc, program.rooms(), &request.choices, &trace)?;
+        let goes_on = search.learn(alloc, program.rooms(), &trace)?;
         if goes_on && is_whole(trace.end) {
             tally.note(search.order_key())?;
         }

@@ -13,6 +13,7 @@ pub mod event;
 pub mod explore;
 pub mod fault;
 pub mod follow;
+pub mod index;
 pub mod kind;
 pub mod operation;
 pub mod plan;

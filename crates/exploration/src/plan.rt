@@ -7,6 +7,7 @@ use crate::deed::Deed;
 use crate::event::{Event, event_of, order_key};
 use crate::fault::Fault;
 use crate::follow::{Follower, Rules, deed_of};
+use crate::index::Index;
 use crate::operation::{Ability, Choice, End, Parked, Step, Trace, parked_of};
 use crate::races::Races;
 use crate::request::Sleeper;
@@ -177,6 +178,7 @@ impl Plan {
     fn add_event(
         &mut self,
         alloc: Global,
+        index: &mut Index,
         parked: &[Parked],
         deed: Deed,
     ) -> Result<(), AllocError> {
@@ -188,17 +190,24 @@ impl Plan {
             let made = deed.copy(alloc)?;
             advice.made.push(made)?;
         }
-        let event = event_of(alloc, &self.events, deed, joined)?;
+        let event = event_of(alloc, &self.events, index, deed, joined)?;
+        index.add(alloc, &event.deed, self.events.len())?;
         self.events.push(event)?;
         Ok(())
     }
 
     // Adds the threads that the races of the last event ask for to the backtrack sets.
-    fn find_races(&mut self, alloc: Global, trace: &Trace) -> Result<(), AllocError> {
+    fn find_races(
+        &mut self,
+        alloc: Global,
+        index: &Index,
+        trace: &Trace,
+    ) -> Result<(), AllocError> {
         let races = Races {
             rules: self.rules,
             is_bounded: self.bound.is_some(),
             events: &self.events,
+            index,
             steps: &trace.steps,
             left: &trace.left,
             is_whole: !matches!(trace.end, End::Slept),
@@ -227,6 +236,7 @@ impl Plan {
     {
         self.go_back(asked.saturating_sub(1));
         let mut follower = Follower::new(alloc);
+        let mut index = Index::new(alloc);
         for (place, step) in trace.steps.iter().enumerate() {
             let found = deed_of(alloc, self.rules, rooms, &mut follower, trace, place)?;
             let Some(deed) = found else {
@@ -236,14 +246,15 @@ impl Plan {
                 if !self.is_same(place, &deed) {
                     return Err(Fault::Unfit);
                 }
+                index.add(alloc, &deed, place)?;
             } else {
                 if self.advices.len() <= place
                     && !self.add_node(alloc, &trace.steps, step, place)?
                 {
                     return Ok(place + 1);
                 }
-                self.add_event(alloc, &step.parked, deed)?;
-                self.find_races(alloc, trace)?;
+                self.add_event(alloc, &mut index, &step.parked, deed)?;
+                self.find_races(alloc, &index, trace)?;
             }
         }
         Ok(trace.steps.len())
@@ -259,10 +270,11 @@ impl Plan {
         self.events.clear();
         self.advices.clear();
         let mut follower = Follower::new(alloc);
+        let mut index = Index::new(alloc);
         for (place, step) in trace.steps.iter().enumerate() {
             let found = deed_of(alloc, self.rules, rooms, &mut follower, trace, place)?;
             if let Some(deed) = found {
-                self.add_event(alloc, &step.parked, deed)?;
+                self.add_event(alloc, &mut index, &step.parked, deed)?;
             }
         }
         Ok(())

@@ -8,8 +8,9 @@
 use crate::advice::{Advice, Lead};
 use crate::deed::Deed;
 use crate::dependence::{may_race, may_race_if_made};
-use crate::event::{Clock, Event, clock_of};
+use crate::event::{Clock, Event, clock_before};
 use crate::follow::{Rules, is_local, likely_deed};
+use crate::index::Index;
 use crate::kind::Kind;
 use crate::operation::{Ability, Choice, Parked, Step, parked_of};
 use std::alloc::{AllocError, Global};
@@ -23,6 +24,8 @@ pub struct Races<'r> {
     pub is_bounded: bool,
     /// The races of the last one are searched for.
     pub events: &'r [Event],
+    /// Where they are.
+    pub index: &'r Index,
     /// All steps of the run.
     pub steps: &'r [Step],
     /// The threads that are parked at the end.
@@ -40,6 +43,9 @@ struct Overtaking {
     /// The index of the step that races, if it was made.
     made: Option<usize>,
 }
+
+// The maximum number of threads that a choice leads on.
+const MOST_LED: usize = 1024;
 
 fn is_same(a: &Parked, b: &Parked) -> bool {
     a.operation.kind == b.operation.kind && a.operation.object == b.operation.object
@@ -75,11 +81,7 @@ impl Races<'_> {
     }
 
     fn clock_before(&self, alloc: Global, end: usize, thread: u32) -> Result<Clock, AllocError> {
-        if end <= self.events.len() {
-            clock_of(alloc, &self.events[..end], thread)
-        } else {
-            clock_of(alloc, self.events, thread)
-        }
+        clock_before(alloc, self.events, self.index, thread, end)
     }
 
     // Whether a thread can go on even while others can.
@@ -88,14 +90,6 @@ impl Races<'_> {
             Ability::Cannot => false,
             Ability::Can => true,
             Ability::Late => self.rules.any_time,
-        }
-    }
-
-    // Whether an event comes before a clock.
-    fn is_in(&self, clock: &Clock, place: usize) -> bool {
-        match self.events.get(place) {
-            Some(event) => clock.has(event),
-            None => false,
         }
     }
 
@@ -112,6 +106,61 @@ impl Races<'_> {
         self.find_stopped(alloc, advices, place, &event.deed)
     }
 
+    // The events with which a step races, the last one first, apart from those that come before
+    // another of them. The step has come after what the clock has seen. If it is still to be made,
+    // it is that of an operation before which a thread is parked.
+    fn races_of(
+        &self,
+        alloc: Global,
+        mut seen: Clock,
+        deed: &Deed,
+        is_made: bool,
+    ) -> Result<Vec<usize>, AllocError> {
+        let mut lasts = Vec::new(alloc);
+        for places in self.index.dependent(alloc, deed)? {
+            if let Some(last) = self.last_race(&seen, places, deed, is_made) {
+                lasts.push(last)?;
+            }
+        }
+        lasts.sort()?;
+        let mut races = Vec::new(alloc);
+        for i in lasts.iter().rev() {
+            if let Some(other) = self.events.get(*i)
+                && !seen.has(other)
+            {
+                seen.join(&other.clock)?;
+                races.push(*i)?;
+            }
+        }
+        Ok(races)
+    }
+
+    // The last event of a list of one thread with which a step races.
+    fn last_race(
+        &self,
+        seen: &Clock,
+        places: &[usize],
+        deed: &Deed,
+        is_made: bool,
+    ) -> Option<usize> {
+        for i in places.iter().rev().copied() {
+            if let Some(other) = self.events.get(i) {
+                if seen.has(other) {
+                    return None;
+                }
+                let races = if is_made {
+                    may_race(&other.deed, i, deed)
+                } else {
+                    may_race_if_made(&other.deed, i, deed)
+                };
+                if races && !other.deed.is_local() {
+                    return Some(i);
+                }
+            }
+        }
+        None
+    }
+
     // The events with which a step races.
     fn find_made(
         &self,
@@ -121,21 +170,14 @@ impl Races<'_> {
         deed: &Deed,
     ) -> Result<(), AllocError> {
         let thread = deed.choice.thread;
-        let mut seen = self.clock_before(alloc, place, thread)?;
-        for i in (0..place).rev() {
-            if let Some(other) = self.events.get(i)
-                && !seen.has(other)
-                && !other.deed.is_local()
-                && may_race(&other.deed, i, deed)
-            {
-                seen.join(&other.clock)?;
-                let overtaking = Overtaking {
-                    thread,
-                    end: place,
-                    made: Some(place),
-                };
-                self.ask(alloc, advices, i, overtaking)?;
-            }
+        let seen = self.clock_before(alloc, place, thread)?;
+        for i in &self.races_of(alloc, seen, deed, true)? {
+            let overtaking = Overtaking {
+                thread,
+                end: place,
+                made: Some(place),
+            };
+            self.ask(alloc, advices, *i, overtaking)?;
         }
         Ok(())
     }
@@ -197,18 +239,7 @@ impl Races<'_> {
         if deed.is_local() {
             return Ok(false);
         }
-        self.may_race_with(alloc, place, deed, &then)
-    }
-
-    // Whether an operation that is still to be made may race with a step.
-    fn may_race_with(
-        &self,
-        alloc: Global,
-        place: usize,
-        deed: &Deed,
-        parked: &Parked,
-    ) -> Result<bool, AllocError> {
-        let likely = likely_deed(alloc, self.rules, parked)?;
+        let likely = likely_deed(alloc, self.rules, &then)?;
         Ok(may_race_if_made(deed, place, &likely))
     }
 
@@ -247,23 +278,17 @@ impl Races<'_> {
         only_last: bool,
     ) -> Result<(), AllocError> {
         let end = place.saturating_add(1);
-        let mut seen = self.clock_before(alloc, end, parked.thread)?;
-        for i in (0..end).rev() {
-            if let Some(other) = self.events.get(i)
-                && !seen.has(other)
-                && !other.deed.is_local()
-                && self.may_race_with(alloc, i, &other.deed, parked)?
-            {
-                seen.join(&other.clock)?;
-                let overtaking = Overtaking {
-                    thread: parked.thread,
-                    end,
-                    made: None,
-                };
-                self.ask(alloc, advices, i, overtaking)?;
-                if only_last {
-                    return Ok(());
-                }
+        let seen = self.clock_before(alloc, end, parked.thread)?;
+        let likely = likely_deed(alloc, self.rules, parked)?;
+        for i in &self.races_of(alloc, seen, &likely, false)? {
+            let overtaking = Overtaking {
+                thread: parked.thread,
+                end,
+                made: None,
+            };
+            self.ask(alloc, advices, *i, overtaking)?;
+            if only_last {
+                return Ok(());
             }
         }
         Ok(())
@@ -280,10 +305,10 @@ impl Races<'_> {
     ) -> Result<(), AllocError> {
         if self.is_bounded {
             self.ask_at(advices, i, overtaking.thread)?;
-            return self.ask_at(advices, self.first_of_block(i), overtaking.thread);
+            return self.ask_at(advices, self.block_of(i), overtaking.thread);
         }
-        let apart = self.apart(alloc, i, overtaking.end)?;
-        let firsts = self.firsts(alloc, i, &apart, overtaking)?;
+        let heads = self.heads(alloc, i, overtaking.end)?;
+        let firsts = self.firsts(alloc, i, &heads, overtaking)?;
         let (Some(advice), Some(step)) = (advices.get_mut(i), self.steps.get(i)) else {
             return Ok(());
         };
@@ -293,7 +318,7 @@ impl Races<'_> {
         let Some(first) = best(&firsts, overtaking.thread) else {
             return advice.want_all(&step.parked);
         };
-        let threads = self.lead(alloc, &apart, overtaking.thread, first)?;
+        let threads = self.lead(alloc, i, overtaking, first)?;
         advice.leads.push(Lead { first, threads })?;
         advice.want(first)
     }
@@ -310,65 +335,61 @@ impl Races<'_> {
     }
 
     // The index at which the thread of an event was last switched to.
-    fn first_of_block(&self, i: usize) -> usize {
-        let mut first = i;
-        let Some(event) = self.events.get(i) else {
-            return first;
-        };
-        for j in (0..i).rev() {
-            if let Some(other) = self.events.get(j)
-                && !other.deed.is_local()
-            {
-                if other.deed.choice.thread != event.deed.choice.thread {
-                    return first;
-                }
-                first = j;
-            }
+    fn block_of(&self, i: usize) -> usize {
+        match self.events.get(i) {
+            Some(event) => event.block,
+            None => i,
         }
-        first
     }
 
-    // The indices after i and before `end` whose vector clocks do not have the event i.
-    fn apart(&self, alloc: Global, i: usize, end: usize) -> Result<Vec<usize>, AllocError> {
-        let mut apart = Vec::new(alloc);
-        if let Some(event) = self.events.get(i) {
-            for j in i.saturating_add(1)..end {
-                if let Some(other) = self.events.get(j)
-                    && !other.clock.has(event)
-                {
-                    apart.push(j)?;
-                }
-            }
+    // The event at an index, if the event i need not come before it.
+    fn apart(&self, i: usize, place: usize) -> Option<&Event> {
+        let event = self.events.get(i)?;
+        let other = self.events.get(place)?;
+        if other.clock.has(event) {
+            None
+        } else {
+            Some(other)
         }
-        Ok(apart)
     }
 
-    // The threads that can go on at index i and whose event can come first of all these, with the
-    // one that overtakes.
+    // The index of the first event of each thread after i and before `end`, if the event i need not
+    // come before it.
+    fn heads(&self, alloc: Global, i: usize, end: usize) -> Result<Vec<usize>, AllocError> {
+        let mut heads = Vec::new(alloc);
+        for place in self.index.firsts_after(alloc, i)? {
+            if place < end && self.apart(i, place).is_some() {
+                heads.push(place)?;
+            }
+        }
+        Ok(heads)
+    }
+
+    // The threads that can go on at index i and whose event can come first of all that the event i
+    // need not come before, with the one that overtakes. No event of a thread comes before an event
+    // before which the first of that thread does not come.
     fn firsts(
         &self,
         alloc: Global,
         i: usize,
-        apart: &[usize],
+        heads: &[usize],
         overtaking: Overtaking,
     ) -> Result<Vec<u32>, AllocError> {
         let mut firsts = Vec::new(alloc);
-        let mut seen: Vec<u32> = Vec::new(alloc);
-        for j in apart {
+        let mut is_seen = false;
+        for j in heads {
             if let Some(event) = self.events.get(*j) {
                 let thread = event.deed.choice.thread;
-                if !seen.contains(&thread) {
-                    seen.push(thread)?;
-                    if self.is_first(apart, *j, &event.clock) && self.can(i, thread) {
-                        firsts.push(thread)?;
-                    }
+                is_seen = is_seen || thread == overtaking.thread;
+                if self.is_first(heads, *j, &event.clock) && self.can(i, thread) {
+                    firsts.push(thread)?;
                 }
             }
         }
         let thread = overtaking.thread;
-        if !seen.contains(&thread) && self.can(i, thread) {
+        if !is_seen && self.can(i, thread) {
             let clock = self.clock_of_overtaking(alloc, overtaking)?;
-            if self.is_first(apart, usize::MAX, &clock) {
+            if self.is_first(heads, usize::MAX, &clock) {
                 firsts.push(thread)?;
             }
         }
@@ -391,8 +412,16 @@ impl Races<'_> {
     }
 
     // Whether none of the events at those indices before `below` comes before a clock.
-    fn is_first(&self, apart: &[usize], below: usize, clock: &Clock) -> bool {
-        !apart.iter().any(|g| *g < below && self.is_in(clock, *g))
+    fn is_first(&self, heads: &[usize], below: usize, clock: &Clock) -> bool {
+        !heads.iter().any(|g| *g < below && self.is_in(clock, *g))
+    }
+
+    // Whether an event comes before a clock.
+    fn is_in(&self, clock: &Clock, place: usize) -> bool {
+        match self.events.get(place) {
+            Some(event) => clock.has(event),
+            None => false,
+        }
     }
 
     fn can(&self, i: usize, thread: u32) -> bool {
@@ -405,18 +434,22 @@ impl Races<'_> {
         }
     }
 
-    // The threads that go on after the first choice, so that the race is run in its other order.
+    // The threads that go on after the first choice, so that the race is run in its other order, or
+    // those of them that come first.
     fn lead(
         &self,
         alloc: Global,
-        apart: &[usize],
-        thread: u32,
+        i: usize,
+        overtaking: Overtaking,
         first: u32,
     ) -> Result<Vec<u32>, AllocError> {
         let mut threads = Vec::new(alloc);
         let mut is_left_out = false;
-        for j in apart {
-            if let Some(event) = self.events.get(*j)
+        for j in i.saturating_add(1)..overtaking.end {
+            if MOST_LED <= threads.len() {
+                return Ok(threads);
+            }
+            if let Some(event) = self.apart(i, j)
                 && !event.deed.is_local()
             {
                 let other = event.deed.choice.thread;
@@ -427,8 +460,8 @@ impl Races<'_> {
                 }
             }
         }
-        if is_left_out || thread != first {
-            threads.push(thread)?;
+        if is_left_out || overtaking.thread != first {
+            threads.push(overtaking.thread)?;
         }
         Ok(threads)
     }

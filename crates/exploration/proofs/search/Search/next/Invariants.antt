@@ -1,5 +1,5 @@
-use Rattle.std.proofs.Common.{◌≡◌, ◌≤◌, Bool, List, All, vec_len}
-use Rattle.exploration.specs.Shown.{IsOpen, runs_left}
+use Rattle.std.proofs.Common.{◌≡◌, ◌≤◌, Bool, List, length, vec_len}
+use Rattle.exploration.specs.Shown.{AreOpen, runs_left}
 use Rattle.exploration.specs.declared.operation.Choice.{Choice}
 use Rattle.exploration.proofs.search.Search.next.Given as goal
 
@@ -7,11 +7,13 @@ use Rattle.exploration.proofs.search.Search.next.Given as goal
 abbrev pub invariant-loop-node : goal.invariant-loop-node
 invariant-loop-node l = record {
   limits : l.self.limits ≡ l.initial.self.limits;
+  path : l.self.path.items ≡ l.initial.self.path.items;
+  fewer : length l.self.nodes.items ≤ length l.initial.self.nodes.items;
   open_nodes : (could : List Choice → Choice → Bool) →
-      All (IsOpen could) l.initial.self.nodes.items →
-      All (IsOpen could) l.self.nodes.items;
-  left : runs_left l.initial.self.limits.choices l.initial.self.limits.steps l.self.nodes.items
-      ≤ runs_left l.initial.self.limits.choices l.initial.self.limits.steps
+      AreOpen could l.initial.self.path.items 0 l.initial.self.nodes.items →
+      AreOpen could l.self.path.items 0 l.self.nodes.items;
+  left : runs_left l.initial.self.limits.choices l.initial.self.limits.steps 0 l.self.nodes.items
+      ≤ runs_left l.initial.self.limits.choices l.initial.self.limits.steps 0
       l.initial.self.nodes.items;
 }
 
