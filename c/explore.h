@@ -45,9 +45,9 @@ enum {
 };
 
 /* The kinds of steps: the word of the protocol with the engine, and the call that a report names,
- * without and with a deadline. For the engine a look at memory is one at the attributes of a queue,
- * and a change is one of them: two looks commute, and nothing else on one object does. A yield and
- * an allocation are sleeps, on which nothing depends. */
+ * without and with a deadline. For the engine a look at memory is one at the attributes of a queue:
+ * two looks commute, and nothing else on one object does. A yield and an allocation are sleeps, on
+ * which nothing depends. */
 #define YAK_KINDS(X)                                                              \
     X(NONE, "none", "nothing", "nothing")                                         \
     X(START, "start", "its start", "its start")                                   \
@@ -84,9 +84,9 @@ enum {
     X(FUTEXWAIT, "futexwait", "FUTEX_WAIT", "FUTEX_WAIT")                         \
     X(FUTEXWAKE, "futexwake", "FUTEX_WAKE", "FUTEX_WAKE")                         \
     X(LOAD, "getattr", "an atomic load", "an atomic load")                        \
-    X(STORE, "setattr", "an atomic store", "an atomic store")                     \
+    X(STORE, "write", "an atomic store", "an atomic store")                       \
     X(READ, "getattr", "a read", "a read")                                        \
-    X(WRITE, "setattr", "a write", "a write")                                     \
+    X(WRITE, "write", "a write", "a write")                                       \
     X(HANDLE, "setattr", "a call on", "a call on")                                \
     X(ALLOCATE, "sleep", "an allocation", "an allocation")                        \
     X(SEMVALUE, "getattr", "sem_getvalue", "sem_getvalue")                        \

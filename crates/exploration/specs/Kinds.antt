@@ -40,6 +40,7 @@ kind_text kind.Barrier = codes "barrier"
 kind_text kind.Once = codes "once"
 kind_text kind.FutexWait = codes "futexwait"
 kind_text kind.FutexWake = codes "futexwake"
+kind_text kind.Write = codes "write"
 
 abbrev pub kinds : List Kind
 kinds =
@@ -48,7 +49,7 @@ kinds =
     kind.Create ∷ kind.TryLock ∷ kind.SemTry ∷ kind.Sleep ∷ kind.Yield ∷ kind.Exit ∷
     kind.Open ∷ kind.Close ∷ kind.Unlink ∷ kind.GetAttr ∷ kind.SetAttr ∷ kind.Notify ∷
     kind.Collect ∷ kind.Clock ∷ kind.ReadLock ∷ kind.WriteLock ∷ kind.RwUnlock ∷ kind.Barrier ∷
-    kind.Once ∷ kind.FutexWait ∷ kind.FutexWake ∷ []
+    kind.Once ∷ kind.FutexWait ∷ kind.FutexWake ∷ kind.Write ∷ []
 
 -- the kind with this word
 unfoldable pub kind_written : Word → Option Kind

@@ -38,9 +38,10 @@ pub enum Kind {
     Once,
     FutexWait,
     FutexWake,
+    Write,
 }
 
-const KINDS: [Kind; 33] = [
+const KINDS: [Kind; 34] = [
     Kind::Lock,
     Kind::Unlock,
     Kind::Send,
@@ -74,6 +75,7 @@ const KINDS: [Kind; 33] = [
     Kind::Once,
     Kind::FutexWait,
     Kind::FutexWake,
+    Kind::Write,
 ];
 
 impl Kind {
@@ -118,6 +120,7 @@ impl Kind {
             Kind::Once => b"once",
             Kind::FutexWait => b"futexwait",
             Kind::FutexWake => b"futexwake",
+            Kind::Write => b"write",
         }
     }
 }
