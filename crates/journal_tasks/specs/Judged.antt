@@ -11,11 +11,11 @@ use Rattle.history_judge.specs.declared.well_formed.IllFormed.{IllFormed}
 use Rattle.history_judge.specs.declared.line.Called.{Called}
 use Rattle.history_judge.specs.declared.judgement.Judgement.{Judgement}
 
--- the maximum number of steps for this number of calls: the given one, or two million and ten for
+-- the maximum number of steps for this number of calls: the given one, or five million and ten for
 -- each call, if a u64 has it
 abbrev pub budget_for : Option ℕ → ℕ → ℕ
 budget_for (Some steps) calls = steps
-budget_for None calls = min (2000000 + 10 * calls) (2 ^ 64 - 1)
+budget_for None calls = min (5000000 + 10 * calls) (2 ^ 64 - 1)
 
 -- The bytes are the text of a well-formed history. Its calls are of processes from 1 to 32 and have
 -- numbers that fit. This is the result of checking it within this budget.

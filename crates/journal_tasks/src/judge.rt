@@ -23,7 +23,7 @@ use text_io::sources::ByteSource;
 pub struct Question {
     /// Whether the journal that explains the history is written, too.
     pub journal: bool,
-    /// The maximum number of steps of the search; without it, two million, and ten for each call.
+    /// The maximum number of steps of the search; without it, five million, and ten for each call.
     pub budget: Option<u64>,
 }
 
@@ -39,7 +39,7 @@ pub fn budget_for(given: Option<u64>, calls: usize) -> u64
 {
     match given {
         Some(steps) => steps,
-        None => (calls as u64).saturating_mul(10).saturating_add(2_000_000),
+        None => (calls as u64).saturating_mul(10).saturating_add(5_000_000),
     }
 }
 

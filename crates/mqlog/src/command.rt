@@ -194,7 +194,7 @@ fn judge<'a>(alloc: Global) -> Result<Command<'a>, AllocError> {
         alloc,
         "budget",
         &["N"],
-        "Takes at most N steps, in place of 2000000 and 10 for each call",
+        "Takes at most N steps, in place of 5000000 and 10 for each call",
     ))?
     .arg(seconds(alloc))
 }
