@@ -17,7 +17,7 @@ use Rattle.mq_model.specs.Record.{Record, Past}
 use Rattle.mq_model.specs.declared.entries.Call.{Call}
 use Rattle.mq_model.specs.declared.entries.Call.TheVariants.{MqReceive, MqTimedReceive}
 use Rattle.mq_model.specs.declared.entries.Reply.{Reply}
-use Rattle.mq.specs.Calls.{author, Calls}
+use Rattle.mq.specs.Calls.{author, made, Calls}
 use Rattle.mq.specs.Kinds.{IsCall}
 use Rattle.mq.proofs.Growing.{grows-on}
 use Rattle.headline.specs.Headline.{AtMostOneInside, Turn, AreTurns, own_records, IsHeadline}
@@ -78,10 +78,12 @@ is-headline first t turns are =
       each_once = calls.grows.mine;
     }
 
--- a call of any kind is a turn
+-- a call of any kind is a turn that adds its record
 pub is-turn : {R : Type 0} (says : Past → Reply → Option R) (old new : Ticket Record) (call : Call)
     (given before after : List ℕ) (result : R) →
-    IsCall says old new call given before after result → (own : Past) × Calls old new own
-is-turn says old new (MqReceive d room) given before after result is = (_, is.calls)
-is-turn says old new (MqTimedReceive d room until now) given before after result is = (_, is.calls)
-is-turn says old new call given before after result is = (_, is.calls)
+    IsCall says old new call given before after result →
+    (reply : Reply) × (bytes : List ℕ) × Calls old new (made old.number call bytes reply)
+is-turn says old new (MqReceive d room) given before after result is = (is.reply, [], is.calls)
+is-turn says old new (MqTimedReceive d room until now) given before after result is =
+    (is.reply, [], is.calls)
+is-turn says old new call given before after result is = (is.reply, given, is.calls)
